@@ -1,0 +1,28 @@
+-- Boundary matrices: document 01, "Boundary matrices".
+use mathlib.Core.Bool.{cond}
+use mathlib.Core.List.{List, []}
+use Prim.Native.Nat.{ℕ, zero, suc}
+use lib.ListN.{length, getD}
+use lib.IntN.{ℤ, pos, negℤ}
+use Rattle.matrices.specs.Sum.{sum}
+use Rattle.matrices.specs.Matrix.{Matrix}
+use Rattle.complexes.specs.Cell.{Cell, without, same}
+use Rattle.complexes.specs.Complex.{Sections, section, cell}
+
+-- +1 for even i and -1 for odd i
+unfoldable pub sign : ℕ → ℤ
+sign zero = pos 1
+sign (suc i) = negℤ (sign i)
+
+-- the entry of the cell f in the column of the cell c: the face of c without vertex number i gets sign i, every other cell 0
+unfoldable pub coefficient : Cell → Cell → ℤ
+coefficient f c = sum (length c) (λ i. cond (same (without i c) f) (sign i) (pos 0))
+
+-- the cells of dimension p - 1, which are the rows of the matrix of p: none for dimension 0
+unfoldable pub rowCells : Sections → ℕ → List Cell
+rowCells K zero = []
+rowCells K (suc p) = section K p
+
+-- the boundary matrix of dimension p: n_(p-1) rows and n_p columns in sheet order
+unfoldable pub boundary : Sections → ℕ → Matrix
+boundary K p i j = coefficient (getD (rowCells K p) i []) (cell K p j)

@@ -1,0 +1,11 @@
+-- Simplicial complexes as lists of cells, and their boundary matrices. `Cell`, `Complex` and `Boundary` have the definitions.
+pub mod Cell
+pub mod CellLaws
+pub mod OrderLaws
+pub mod FaceLaws
+pub mod Complex
+pub mod Faces
+pub mod Subsets
+pub mod Boundary
+pub mod CoefficientLaws
+pub mod BoundaryLaws

@@ -1,0 +1,6 @@
+-- Lists made from a function of the place.
+pub mod Tabulate
+pub mod TabulateLaws
+pub mod Splice
+pub mod SpliceLaws
+pub mod Same

@@ -1,0 +1,10 @@
+-- Smith normal form as a certificate, its rank and the number of its ones.
+pub mod Certificate
+pub mod CertificateLaws
+pub mod Diagonal
+pub mod Rank
+pub mod Bezout
+pub mod Annihilator
+pub mod Divisors
+pub mod Rectangle
+pub mod UniqueFactors
