@@ -1,0 +1,8 @@
+-- The reduction of document 01 as a definition: tables, the state with its companions, the pivot rule, and the steps a to e.
+-- `Scan` and `PivotLaws`: what the pivot rule chooses.
+pub mod Table
+pub mod State
+pub mod Pivot
+pub mod Step
+pub mod Scan
+pub mod PivotLaws

@@ -1,0 +1,77 @@
+-- What a reduction works on: a matrix and its companions, and an operation with the check of the entry limit. Document 01, "The reduction".
+use mathlib.Core.Bool.{Bool, cond, _&&_}
+use Prim.Native.Nat.{ℕ}
+use Rattle.matrices.specs.Operation.{Operation, onRows, onColumns, inverse}
+use Rattle.reduction_steps.specs.Table.{Table, entry, table, tableWithin}
+
+-- The rows and columns of the matrix, and the length of a line of each companion. A companion that is absent has lines of length 0.
+pub record Sizes : Type 0 where
+  pub rows : ℕ
+  pub columns : ℕ
+  pub rowFollower : ℕ
+  pub rowInverse : ℕ
+  pub columnFollower : ℕ
+  pub columnInverse : ℕ
+
+-- The matrix, by rows. Its companions: one that undergoes the row operations, by rows; one whose columns undergo their inverses, by columns;
+-- one that undergoes the column operations, by columns; one whose rows undergo their inverses, by rows.
+pub record State : Type 0 where
+  pub matrix : Table
+  pub rowFollower : Table
+  pub rowInverse : Table
+  pub columnFollower : Table
+  pub columnInverse : Table
+
+-- a companion's lines, so many and so long, after an operation on them
+unfoldable pub follow : ℕ → ℕ → Operation → Table → Table
+follow lines long op T = table lines long (onRows op (entry T))
+
+-- an operation on the rows of the matrix
+unfoldable pub rowOperation : Sizes → Operation → State → State
+rowOperation z op s =
+    record {
+      matrix = table (z .rows) (z .columns) (onRows op (entry (s .matrix)));
+      rowFollower = follow (z .rows) (z .rowFollower) op (s .rowFollower);
+      rowInverse = follow (z .rows) (z .rowInverse) (inverse op) (s .rowInverse);
+      columnFollower = s .columnFollower;
+      columnInverse = s .columnInverse;
+    }
+
+-- an operation on the columns of the matrix
+unfoldable pub columnOperation : Sizes → Operation → State → State
+columnOperation z op s =
+    record {
+      matrix = table (z .rows) (z .columns) (onColumns op (entry (s .matrix)));
+      rowFollower = s .rowFollower;
+      rowInverse = s .rowInverse;
+      columnFollower = follow (z .columns) (z .columnFollower) op (s .columnFollower);
+      columnInverse = follow (z .columns) (z .columnInverse) (inverse op) (s .columnInverse);
+    }
+
+-- every entry of the matrix and of its companions lies within the limit
+unfoldable pub within : ℕ → State → Bool
+within limit s =
+    tableWithin limit (s .matrix)
+    && (tableWithin limit (s .rowFollower)
+    && (tableWithin limit (s .rowInverse) && (tableWithin limit (s .columnFollower) && tableWithin limit (s .columnInverse))))
+
+-- what an operation answers
+pub data Outcome : Type 0 where
+  tooWide : Outcome
+  made : State → Outcome
+
+-- after each operation every entry lies within the limit
+unfoldable pub checked : ℕ → State → Outcome
+checked limit s = cond (within limit s) (made s) tooWide
+
+-- one operation, then the next work on what it made
+unfoldable pub andThen : Outcome → (State → Outcome) → Outcome
+andThen tooWide next = tooWide
+andThen (made s) next = next s
+
+-- the state that is read, then one operation
+unfoldable pub onRow : ℕ → Sizes → Operation → State → Outcome
+onRow limit z op s = checked limit (rowOperation z op s)
+
+unfoldable pub onColumn : ℕ → Sizes → Operation → State → Outcome
+onColumn limit z op s = checked limit (columnOperation z op s)

@@ -1,0 +1,128 @@
+-- What the report call and the coordinate call answer, and what they leave in every slice lent to them: document 01, "The report and the
+-- coordinates". Each is a function of what went in.
+use mathlib.Core.Bool.{Bool, true, false, not, cond, _||_}
+use mathlib.Core.List.{List, [], _∷_, _++_}
+use Prim.Native.Nat.{ℕ, zero, suc, _+_, _*_, max}
+use lib.Dec.{eqb, ltb}
+use lib.ListN.{length, getD, drop, replicate}
+use lib.IntN.{ℤ, pos, natAbs}
+use Rattle.matrices.specs.Vector.{apply}
+use Rattle.complexes.specs.Complex.{Sections, count}
+use Rattle.complexes.specs.Boundary.{rowCells, boundary}
+use Rattle.sheet_format.specs.Layout.{top}
+use Rattle.sheet_format.specs.Check.{sectionsOf, some, refuse, refusal}
+use Rattle.reduction_steps.specs.State.{State}
+use Rattle.reduction_steps.specs.Pivot.{release1}
+use Rattle.reports.specs.Reductions.{Reductions, tooWide, reduced, reductions}
+use Rattle.reports.specs.Report.{freeRank, torsionCount, reportList, coordinateList}
+
+-- ---- the limits
+
+-- for a count, in the library and in the program and the host calls
+abbrev pub libraryLimit : ℕ
+libraryLimit = 256
+
+abbrev pub hostLimit : ℕ
+hostLimit = 48
+
+-- for the absolute value of an entry, W, and of a given coefficient
+abbrev pub entryLimit : ℕ
+entryLimit = 1048575
+
+abbrev pub coefficientLimit : ℕ
+coefficientLimit = 32767
+
+-- ---- the slots that check 9 asks for
+
+abbrev pub reportSlots : Sections → ℕ → ℕ
+reportSlots K p = 2 + count K p + count K p * count K p
+
+abbrev pub coordinateSlots : Sections → ℕ → ℕ
+coordinateSlots K p = count K p
+
+abbrev pub workSlots : Sections → ℕ → ℕ
+workSlots K p = count K p * (2 * count K p + max (length (rowCells K p)) (count K (suc p)))
+
+-- ---- the checks 10 to 12 of a chain
+
+-- 10: the chain's length is not n_p
+abbrev pub chainLengthDiffers : Sections → ℕ → List ℤ → Bool
+chainLengthDiffers K p z = not (eqb (length z) (count K p))
+
+-- 11: a coefficient lies outside the limit
+unfoldable pub coefficientExceeds : List ℤ → Bool
+coefficientExceeds z = some (length z) (λ i. ltb coefficientLimit (natAbs (getD z i (pos 0))))
+
+-- 12: the chain has a nonzero boundary
+unfoldable pub boundaryNotZero : Sections → ℕ → List ℤ → Bool
+boundaryNotZero K p z =
+    some (length (rowCells K p)) (λ i. not (eqb (natAbs (apply (count K p) (boundary K p) (λ j. getD z j (pos 0)) i)) 0))
+
+-- ---- the refusals before the reduction, in document 01's order
+
+-- the first number unless it is 0, else the second
+abbrev pub orElse : ℕ → ℕ → ℕ
+orElse zero later = later
+orElse (suc n) later = suc n
+
+-- 1 to 9, for a sheet b at the count limit, a dimension p and the lengths of the output and work slices; `slots` are those that the output must have
+unfoldable pub refusalBefore : ℕ → List ℕ → ℕ → (Sections → ℕ → ℕ) → ℕ → ℕ → ℕ
+refusalBefore limit b p slots output work =
+    orElse (refusal limit b)
+    (refuse 8 (ltb top p)
+    (refuse 9 (ltb output (slots (sectionsOf b) p) || ltb work (workSlots (sectionsOf b) p)) 0))
+
+-- 10 to 12, for a chain z
+unfoldable pub chainRefusal : List ℕ → ℕ → List ℤ → ℕ
+chainRefusal b p z =
+    refuse 10 (chainLengthDiffers (sectionsOf b) p z)
+    (refuse 11 (coefficientExceeds z)
+    (refuse 12 (boundaryNotZero (sectionsOf b) p z) 0))
+
+-- ---- what a call answers and leaves
+
+-- done, with the report's counts b and t, or refused with a number
+pub data Answer : Type 0 where
+  done : ℕ → ℕ → Answer
+  refused : ℕ → Answer
+
+-- the answer, and the output slice and the work slice as the call leaves them
+pub record Called : Type 0 where
+  pub answer : Answer
+  pub output : List ℤ
+  pub work : List ℤ
+
+-- the slice with the numbers written from its start on, untouched past them
+abbrev pub written : List ℤ → List ℤ → List ℤ
+written numbers slice = numbers ++ drop (length numbers) slice
+
+-- the slice reads 0 throughout
+abbrev pub cleared : List ℤ → List ℤ
+cleared slice = replicate (length slice) (pos 0)
+
+-- refused with the number, unless it is 0: every slice is left alone
+abbrev pub orRefused : ℕ → List ℤ → List ℤ → Called → Called
+orRefused zero output work later = later
+orRefused (suc n) output work later = record { answer = refused (suc n); output = output; work = work }
+
+-- After the two reductions: 13 where they went too wide, else done with the numbers written. The work slice reads 0 throughout.
+unfoldable pub finished : Reductions → (ℕ → ℕ → State → List ℤ) → List ℤ → List ℤ → Called
+finished tooWide numbers output work = record { answer = refused 13; output = output; work = cleared work }
+finished (reduced s r x) numbers output work =
+    record { answer = done (freeRank s r) (torsionCount r x); output = written (numbers s r x) output; work = cleared work }
+
+-- the two reductions of dimension p of the sheet b, by the pivot rule of release 1
+unfoldable pub reductionsOf : List ℕ → ℕ → Reductions
+reductionsOf b p = reductions release1 entryLimit (sectionsOf b) p
+
+-- the report call at a count limit, on a sheet, a dimension, a report slice and a work slice
+unfoldable pub reportCall : ℕ → List ℕ → ℕ → List ℤ → List ℤ → Called
+reportCall limit b p report work =
+    orRefused (refusalBefore limit b p reportSlots (length report) (length work)) report work
+    (finished (reductionsOf b p) (λ s r x. reportList (count (sectionsOf b) p) s r x) report work)
+
+-- the coordinate call at a count limit, on a sheet, a dimension, a chain, a coordinate slice and a work slice
+unfoldable pub coordinateCall : ℕ → List ℕ → ℕ → List ℤ → List ℤ → List ℤ → Called
+coordinateCall limit b p z coordinates work =
+    orRefused (orElse (refusalBefore limit b p coordinateSlots (length coordinates) (length work)) (chainRefusal b p z)) coordinates work
+    (finished (reductionsOf b p) (λ s r x. coordinateList (count (sectionsOf b) p) s x z) coordinates work)

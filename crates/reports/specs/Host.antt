@@ -1,0 +1,83 @@
+-- The host calls: document 01, "The report and the coordinates". They carry numbers as bytes, low byte first, have their own work arrays, and
+-- answer 0 for done.
+use mathlib.Core.Bool.{Bool, cond}
+use mathlib.Core.List.{List, [], _∷_, _++_}
+use Prim.Native.Nat.{ℕ, zero, suc, _+_, _-_, _*_, _/_, _%_, _^_}
+use lib.Dec.{eqb, ltb}
+use lib.ListN.{length, getD, drop, replicate}
+use lib.IntN.{ℤ, pos, negsuc}
+use Rattle.lists.specs.Tabulate.{tabulate}
+use Rattle.complexes.specs.Complex.{count}
+use Rattle.sheet_format.specs.Check.{sectionsOf}
+use Rattle.reduction_steps.specs.State.{State}
+use Rattle.reports.specs.Reductions.{Reductions, tooWide, reduced}
+use Rattle.reports.specs.Report.{reportList, coordinateList}
+use Rattle.reports.specs.Call.{hostLimit, orElse, refusalBefore, chainRefusal, reportSlots, coordinateSlots, workSlots, reductionsOf}
+
+-- ---- numbers as bytes
+
+-- the `size` lowest bytes of n, low byte first
+unfoldable pub lowBytes : ℕ → ℕ → List ℕ
+lowBytes zero n = []
+lowBytes (suc size) n = (n % 256) ∷ lowBytes size (n / 256)
+
+-- a signed 64-bit number: a negative one less 2 ^ 64
+unfoldable pub numberBytes : ℤ → List ℕ
+numberBytes (pos n) = lowBytes 8 n
+numberBytes (negsuc n) = lowBytes 8 (2 ^ 64 - suc n)
+
+unfoldable pub numbersBytes : List ℤ → List ℕ
+numbersBytes [] = []
+numbersBytes (x ∷ l) = numberBytes x ++ numbersBytes l
+
+-- the signed 32-bit number whose four bytes stand at byte i
+unfoldable pub coefficientAt : List ℕ → ℕ → ℤ
+coefficientAt b i = signed (getD b i 0 + 256 * (getD b (i + 1) 0 + 256 * (getD b (i + 2) 0 + 256 * getD b (i + 3) 0)))
+  where
+    signed : ℕ → ℤ
+    signed n = cond (ltb n (2 ^ 31)) (pos n) (negsuc (2 ^ 32 - suc n))
+
+-- A chain of 4 × n bytes; a chain of other than 4 × n bytes stands for one of another length than n.
+unfoldable pub otherLength : ℕ → List ℤ
+otherLength zero = pos 0 ∷ []
+otherLength (suc n) = []
+
+unfoldable pub chainFrom : ℕ → List ℕ → List ℤ
+chainFrom n chain = cond (eqb (length chain) (4 * n)) (tabulate n (λ i. coefficientAt chain (4 * i))) (otherLength n)
+
+-- ---- the calls
+
+-- the number answered and the output as the call leaves it
+pub record HostCalled : Type 0 where
+  pub number : ℕ
+  pub output : List ℕ
+
+-- an incomplete number at the end of a lent output gives no slot
+abbrev pub slotsIn : List ℕ → ℕ
+slotsIn output = length output / 8
+
+-- refused with the number, unless it is 0: the output is left alone
+abbrev pub orRefusedWith : ℕ → List ℕ → HostCalled → HostCalled
+orRefusedWith zero output later = later
+orRefusedWith (suc n) output later = record { number = suc n; output = output }
+
+-- done: the numbers' bytes from the output's start on, untouched past them; or 13
+unfoldable pub finishedWith : Reductions → (ℕ → ℕ → State → List ℤ) → List ℕ → HostCalled
+finishedWith tooWide numbers output = record { number = 13; output = output }
+finishedWith (reduced s r x) numbers output =
+    record { number = 0; output = numbersBytes (numbers s r x) ++ drop (8 * length (numbers s r x)) output }
+
+-- fildwuk_report
+unfoldable pub hostReport : List ℕ → ℕ → List ℕ → HostCalled
+hostReport b p output =
+    orRefusedWith (refusalBefore hostLimit b p reportSlots (slotsIn output) (workSlots (sectionsOf b) p)) output
+    (finishedWith (reductionsOf b p) (λ s r x. reportList (count (sectionsOf b) p) s r x) output)
+
+-- fildwuk_coordinates
+unfoldable pub hostCoordinates : List ℕ → ℕ → List ℕ → List ℕ → HostCalled
+hostCoordinates b p chain output =
+    orRefusedWith
+    (orElse (refusalBefore hostLimit b p coordinateSlots (slotsIn output) (workSlots (sectionsOf b) p))
+    (chainRefusal b p (chainFrom (count (sectionsOf b) p) chain)))
+    output
+    (finishedWith (reductionsOf b p) (λ s r x. coordinateList (count (sectionsOf b) p) s x (chainFrom (count (sectionsOf b) p) chain)) output)

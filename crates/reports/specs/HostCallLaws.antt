@@ -1,0 +1,205 @@
+-- The host calls beside the library's. With `reportRoom`, `coordinateRoom` and `workRoom` slots a host call has room for every sheet that it accepts,
+-- so it answers what the library's call answers: report-refused, report-done, coordinates-refused, coordinates-done.
+use mathlib.Core.Path.{_≡_, refl, sym, _∙_, ap}
+use mathlib.Core.List.{List, _++_}
+use Prim.Native.Nat.{ℕ, zero, suc, _+_, _*_, _≤_, _<_, min, max}
+use native.Mathlib.Nat.{mul-le-mul, max-le}
+use native.Mathlib.Decide.{decLe, decLt}
+use native.Mathlib.Omega.{arith}
+use borrow.Author.Tests.{lt-ltb, le-ltb}
+use lib.Dec.{ltb}
+use lib.ListN.{length, take, drop}
+use lib.Seq.{take-at}
+use lib.IntN.{ℤ}
+use Rattle.complexes.specs.Complex.{Sections, count}
+use Rattle.complexes.specs.Boundary.{rowCells}
+use Rattle.sheet_format.specs.Layout.{top}
+use Rattle.sheet_format.specs.Check.{sectionsOf, refusal}
+use Rattle.sheet_format.specs.CheckLaws.{refusal-zero, countExceeds-false}
+use Rattle.sheet_format.specs.SheetLaws.{count-sectionsOf, countAt-out}
+use Rattle.reduction_steps.specs.State.{State}
+use Rattle.reports.specs.Reductions.{Reductions}
+use Rattle.reports.specs.Report.{reportList, coordinateList}
+use Rattle.reports.specs.Call.{done, refused, hostLimit, orElse, refusalBefore, chainRefusal, reportSlots, coordinateSlots, workSlots, reductionsOf, reportCall, coordinateCall}
+use Rattle.reports.specs.CallLaws.{call, Counted, CallRefused, earlier, wide, call-done, call-refused, call-output}
+use Rattle.reports.specs.Host.{HostCalled, numbersBytes, chainFrom, slotsIn, orRefusedWith, finishedWith, hostReport, hostCoordinates}
+
+-- ---- a host call: the refusals before the reduction, then what the reductions come to
+
+abbrev pub hostCall : ℕ → Reductions → (ℕ → ℕ → State → List ℤ) → List ℕ → HostCalled
+hostCall before R numbers output = orRefusedWith before output (finishedWith R numbers output)
+
+-- the number k, and the output is untouched
+pub record HostRefused (called : HostCalled) (k : ℕ) (output : List ℕ) : Type 0 where
+  pub number-is : called .number ≡ k
+  pub output-is : called .output ≡ output
+
+-- done: the bytes of the first `many` of the numbers, and untouched past them
+pub record HostDone (called : HostCalled) (many : ℕ) (numbers : List ℤ) (output : List ℕ) : Type 0 where
+  pub number-is : called .number ≡ 0
+  pub output-is : called .output ≡ numbersBytes (take many numbers) ++ drop (8 * many) output
+
+module _ (before : ℕ) (R : Reductions) (numbers : ℕ → ℕ → State → List ℤ) (slots work : List ℤ) (output : List ℕ) where
+  host-refused : (k : ℕ) → call before R numbers slots work .answer ≡ refused k → HostRefused (hostCall before R numbers output) k output
+  unfolding finishedWith
+  host-refused k e = go before R (call-refused before R numbers slots work k e)
+    where
+      go : (before : ℕ) (R : Reductions) → CallRefused before R k → HostRefused (hostCall before R numbers output) k output
+      go zero R (earlier e d) = absurd (d (sym e))
+      go (suc n) R (earlier e d) = record { number-is = e; output-is = refl }
+      go zero R (wide z e t) = rw e (record { number-is = sym t; output-is = refl })
+      go (suc n) R (wide z e t) = absurd (omega arith)
+
+  host-done : {f t : ℕ} (many : ℕ) → before ≡ 0 → (c : Counted R f t) → length (numbers (c .rows) (c .rank) (c .state)) ≡ many
+      → HostDone (hostCall before R numbers output) many (call before R numbers slots work .output) output
+  unfolding finishedWith
+  host-done many z c size = record { number-is = rw (z, c .reductions); output-is = bytes }
+    where
+      list : List ℤ
+      list = numbers (c .rows) (c .rank) (c .state)
+
+      same : take many (call before R numbers slots work .output) ≡ list
+      same =
+          ap (take many) (call-output before R numbers slots work z (c .rows) (c .rank) (c .state) (c .reductions))
+          ∙ take-at list (drop (length list) slots) many size
+
+      bytes : hostCall before R numbers output .output ≡ numbersBytes (take many (call before R numbers slots work .output)) ++ drop (8 * many) output
+      bytes = rw (same, ← size, z, c .reductions)
+
+-- ---- the room of a host call
+
+abbrev pub reportRoom : ℕ
+reportRoom = 2 + hostLimit + hostLimit * hostLimit
+
+abbrev pub coordinateRoom : ℕ
+coordinateRoom = hostLimit
+
+abbrev pub workRoom : ℕ
+workRoom = hostLimit * (3 * hostLimit)
+
+-- a sheet that is accepted needs no more
+module _ (b : List ℕ) (accepted : refusal hostLimit b ≡ 0) where
+  pub counts-within : (p : ℕ) → count (sectionsOf b) p ≤ hostLimit
+  counts-within p = go (decLe p top)
+    where
+      go : Dec (p ≤ top) → count (sectionsOf b) p ≤ hostLimit
+      go (yes h) = omega (arith, count-sectionsOf b p, countExceeds-false hostLimit b .0 (refusal-zero hostLimit b .0 accepted .counts) p h)
+      go (no h) = omega (arith, count-sectionsOf b p, countAt-out b p (omega arith))
+
+  rows-within : (p : ℕ) → length (rowCells (sectionsOf b) p) ≤ hostLimit
+  unfolding rowCells
+  rows-within zero = omega arith
+  rows-within (suc p) = counts-within p
+
+  module _ (p : ℕ) where
+    report-room : reportSlots (sectionsOf b) p ≤ reportRoom
+    report-room = omega (arith, counts-within p, mul-le-mul (counts-within p) (counts-within p))
+
+    work-room : workSlots (sectionsOf b) p ≤ workRoom
+    work-room = mul-le-mul (counts-within p) beside
+      where
+        beside : 2 * count (sectionsOf b) p + max (length (rowCells (sectionsOf b) p)) (count (sectionsOf b) (suc p)) ≤ 3 * hostLimit
+        beside = omega (arith, counts-within p, max-le (rows-within p) (counts-within (suc p)))
+
+-- ---- the refusals before the reduction
+
+ltb-min : (o room need : ℕ) → need ≤ room → ltb (min o room) need ≡ ltb o need
+ltb-min o room need h = go (decLt o need)
+  where
+    go : Dec (o < need) → ltb (min o room) need ≡ ltb o need
+    go (yes l) = lt-ltb (min o room) need (omega arith) ∙ sym (lt-ltb o need l)
+    go (no l) = le-ltb (min o room) need (omega arith) ∙ sym (le-ltb o need (omega arith))
+
+module _ (b : List ℕ) (p : ℕ) (slots : Sections → ℕ → ℕ) (room o output work : ℕ) (size : output ≡ min o room) (space : work ≡ workRoom) where
+  -- whatever follows the check of the sheet
+  checked : (k : ℕ) → refusal hostLimit b ≡ k → (refusal hostLimit b ≡ 0 → slots (sectionsOf b) p ≤ room)
+      → refusalBefore hostLimit b p slots output work ≡ refusalBefore hostLimit b p slots o (workSlots (sectionsOf b) p)
+  unfolding refusalBefore
+  checked (suc k) e fits = rw e
+  checked zero e fits =
+      rw (size, ltb-min o room (slots (sectionsOf b) p) (fits e), le-ltb work needed enough, le-ltb needed needed (omega arith))
+    where
+      needed : ℕ
+      needed = workSlots (sectionsOf b) p
+
+      enough : needed ≤ work
+      enough = omega (arith, work-room b e p)
+
+  same-refusal : (refusal hostLimit b ≡ 0 → slots (sectionsOf b) p ≤ room)
+      → refusalBefore hostLimit b p slots output work ≡ refusalBefore hostLimit b p slots o (workSlots (sectionsOf b) p)
+  same-refusal = checked (refusal hostLimit b) refl
+
+-- ---- the report
+
+module _ (b : List ℕ) (p : ℕ) (output : List ℕ) (slots work : List ℤ) (size : length slots ≡ min (slotsIn output) reportRoom) (space : length work ≡ workRoom) where
+  reportNumbers : ℕ → ℕ → State → List ℤ
+  reportNumbers s r x = reportList (count (sectionsOf b) p) s r x
+
+  reportBefore : ℕ
+  reportBefore = refusalBefore hostLimit b p reportSlots (length slots) (length work)
+
+  report-same : hostReport b p output ≡ hostCall reportBefore (reductionsOf b p) reportNumbers output
+  unfolding hostReport reportBefore reportNumbers
+  report-same =
+      ap (λ (n : ℕ). hostCall n (reductionsOf b p) reportNumbers output)
+      (sym (same-refusal b p reportSlots reportRoom (slotsIn output) (length slots) (length work) size space (λ e. report-room b e p)))
+
+  pub report-refused : (k : ℕ) → reportCall hostLimit b p slots work .answer ≡ refused k → HostRefused (hostReport b p output) k output
+  unfolding reportCall reportBefore reportNumbers
+  report-refused k e = rw report-same (host-refused reportBefore (reductionsOf b p) reportNumbers slots work output k e)
+
+  -- where the report has `many` numbers
+  pub report-done : {f t : ℕ} (many : ℕ) → reportCall hostLimit b p slots work .answer ≡ done f t → (c : Counted (reductionsOf b p) f t)
+      → length (reportList (count (sectionsOf b) p) (c .rows) (c .rank) (c .state)) ≡ many
+      → HostDone (hostReport b p output) many (reportCall hostLimit b p slots work .output) output
+  unfolding reportCall reportBefore reportNumbers
+  report-done {f} {t} many e c long =
+      let d = call-done reportBefore (reductionsOf b p) reportNumbers slots work f t e in
+      rw report-same (host-done reportBefore (reductionsOf b p) reportNumbers slots work output many (d .passes) c long)
+
+-- ---- the coordinates
+
+module _ (b : List ℕ) (p : ℕ) (chain output : List ℕ) (z slots work : List ℤ)
+    (size : length slots ≡ min (slotsIn output) coordinateRoom) (space : length work ≡ workRoom)
+    (read : count (sectionsOf b) p ≤ hostLimit → z ≡ chainFrom (count (sectionsOf b) p) chain) where
+  coordinateNumbers : List ℤ → ℕ → ℕ → State → List ℤ
+  coordinateNumbers y s r x = coordinateList (count (sectionsOf b) p) s x y
+
+  sheetBefore : ℕ
+  sheetBefore = refusalBefore hostLimit b p coordinateSlots (length slots) (length work)
+
+  coordinateBefore : List ℤ → ℕ
+  coordinateBefore y = orElse sheetBefore (chainRefusal b p y)
+
+  answered : List ℤ → HostCalled
+  answered y = hostCall (coordinateBefore y) (reductionsOf b p) (coordinateNumbers y) output
+
+  -- only a sheet that is accepted has its chain read
+  same-chain : (k : ℕ) → refusal hostLimit b ≡ k → answered (chainFrom (count (sectionsOf b) p) chain) ≡ answered z
+  unfolding answered coordinateBefore sheetBefore refusalBefore
+  same-chain zero e = ap answered (sym (read (counts-within b e p)))
+  same-chain (suc k) e = rw e
+
+  coordinates-same : hostCoordinates b p chain output ≡ answered z
+  unfolding hostCoordinates answered coordinateBefore sheetBefore coordinateNumbers
+  coordinates-same =
+      ap (λ (n : ℕ). hostCall (orElse n (chainRefusal b p y)) (reductionsOf b p) (coordinateNumbers y) output)
+      (sym (same-refusal b p coordinateSlots coordinateRoom (slotsIn output) (length slots) (length work) size space (λ e. counts-within b e p)))
+      ∙ same-chain (refusal hostLimit b) refl
+    where
+      y : List ℤ
+      y = chainFrom (count (sectionsOf b) p) chain
+
+  pub coordinates-refused : (k : ℕ) → coordinateCall hostLimit b p z slots work .answer ≡ refused k → HostRefused (hostCoordinates b p chain output) k output
+  unfolding coordinateCall answered coordinateBefore sheetBefore coordinateNumbers
+  coordinates-refused k e =
+      rw coordinates-same (host-refused (coordinateBefore z) (reductionsOf b p) (coordinateNumbers z) slots work output k e)
+
+  -- where there are `many` coordinates
+  pub coordinates-done : {f t : ℕ} (many : ℕ) → coordinateCall hostLimit b p z slots work .answer ≡ done f t → (c : Counted (reductionsOf b p) f t)
+      → length (coordinateList (count (sectionsOf b) p) (c .rows) (c .state) z) ≡ many
+      → HostDone (hostCoordinates b p chain output) many (coordinateCall hostLimit b p z slots work .output) output
+  unfolding coordinateCall answered coordinateBefore sheetBefore coordinateNumbers
+  coordinates-done {f} {t} many e c long =
+      let d = call-done (coordinateBefore z) (reductionsOf b p) (coordinateNumbers z) slots work f t e in
+      rw coordinates-same (host-done (coordinateBefore z) (reductionsOf b p) (coordinateNumbers z) slots work output many (d .passes) c long)

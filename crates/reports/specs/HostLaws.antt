@@ -1,0 +1,110 @@
+-- Numbers as bytes: length-numberBytes, length-numbersBytes, numbersBytes-append. The numbers of 64 bits can be read back from the bytes:
+-- numberOf-numberBytes, numberAt-numbersBytes; so numberBytes-injective and numbersBytes-injective.
+use mathlib.Core.Path.{_≡_, refl, sym, _∙_, ap}
+use mathlib.Core.Bool.{cond}
+use mathlib.Core.List.{List, [], _∷_, _++_, append-assoc, append-nil}
+use Prim.Native.Nat.{ℕ, zero, suc, _+_, _-_, _*_, _/_, _^_, _<_}
+use native.Mathlib.Nat.{pow-succ'}
+use native.Mathlib.Omega.{arith}
+use borrow.Author.Tests.{lt-ltb, le-ltb}
+use lib.Dec.{ltb}
+use lib.ListN.{length, getD, take, drop, length-append}
+use lib.Seq.{take-at, drop-append-add, ext-getD}
+use lib.IntN.{ℤ, pos, negsuc}
+use lib.Signed.{mag}
+use Rattle.reports.specs.Host.{lowBytes, numberBytes, numbersBytes}
+
+-- ---- lengths
+
+pub length-lowBytes : (size n : ℕ) → length (lowBytes size n) ≡ size
+unfolding lowBytes
+length-lowBytes zero n = refl
+length-lowBytes (suc size) n = ap suc (length-lowBytes size (n / 256))
+
+pub length-numberBytes : (x : ℤ) → length (numberBytes x) ≡ 8
+unfolding numberBytes
+length-numberBytes (pos n) = length-lowBytes 8 n
+length-numberBytes (negsuc n) = length-lowBytes 8 (2 ^ 64 - suc n)
+
+pub length-numbersBytes : (l : List ℤ) → length (numbersBytes l) ≡ 8 * length l
+unfolding numbersBytes
+length-numbersBytes [] = refl
+length-numbersBytes (x ∷ l) =
+    omega (arith, length-append (numberBytes x) (numbersBytes l), length-numberBytes x, length-numbersBytes l)
+
+pub numbersBytes-append : (l m : List ℤ) → numbersBytes (l ++ m) ≡ numbersBytes l ++ numbersBytes m
+unfolding numbersBytes
+numbersBytes-append [] m = refl
+numbersBytes-append (x ∷ l) m =
+    ap (λ (t : List ℕ). numberBytes x ++ t) (numbersBytes-append l m) ∙ sym (append-assoc (numberBytes x) (numbersBytes l) (numbersBytes m))
+
+-- one number more
+pub numbersBytes-snoc : (l : List ℤ) (x : ℤ) → numbersBytes (l ++ (x ∷ [])) ≡ numbersBytes l ++ numberBytes x
+unfolding numbersBytes
+numbersBytes-snoc l x =
+    numbersBytes-append l (x ∷ []) ∙ ap (λ (t : List ℕ). numbersBytes l ++ t) (append-nil (numberBytes x))
+
+-- ---- reading back
+
+-- the number whose bytes these are, low byte first
+unfoldable pub unsignedOf : List ℕ → ℕ
+unsignedOf [] = 0
+unsignedOf (b ∷ l) = b + 256 * unsignedOf l
+
+pub unsignedOf-lowBytes : (size n : ℕ) → n < 256 ^ size → unsignedOf (lowBytes size n) ≡ n
+unfolding lowBytes unsignedOf
+unsignedOf-lowBytes zero n h = omega arith
+unsignedOf-lowBytes (suc size) n h =
+    omega (arith, unsignedOf-lowBytes size (n / 256) (omega (arith, pow-succ' 256 size)))
+
+-- the signed 64-bit number whose eight bytes these are
+unfoldable pub numberOf : List ℕ → ℤ
+numberOf b = cond (ltb (unsignedOf b) (2 ^ 63)) (pos (unsignedOf b)) (negsuc (2 ^ 64 - suc (unsignedOf b)))
+
+-- a signed 64-bit number
+pub record Word (x : ℤ) : Type 0 where
+  pub within : mag x < 2 ^ 63
+
+pub numberOf-numberBytes : (x : ℤ) → Word x → numberOf (numberBytes x) ≡ x
+unfolding numberBytes numberOf
+numberOf-numberBytes (pos n) h =
+    rw (unsignedOf-lowBytes 8 n (omega (arith, h .within)), lt-ltb n (2 ^ 63) (h .within))
+numberOf-numberBytes (negsuc n) h =
+    rw (unsignedOf-lowBytes 8 (2 ^ 64 - suc n) (omega (arith, h .within)), le-ltb (2 ^ 64 - suc n) (2 ^ 63) (omega (arith, h .within)))
+    (ap negsuc (omega (arith, h .within)))
+
+pub numberBytes-injective : (x y : ℤ) → Word x → Word y → numberBytes x ≡ numberBytes y → x ≡ y
+numberBytes-injective x y h k e = sym (numberOf-numberBytes x h) ∙ ap numberOf e ∙ numberOf-numberBytes y k
+
+-- number i of the bytes b
+unfoldable pub numberAt : List ℕ → ℕ → ℤ
+numberAt b i = numberOf (take 8 (drop (8 * i) b))
+
+-- whatever follows them, the bytes of the numbers give number i
+pub numberAt-numbersBytes : (l : List ℤ) (rest : List ℕ) (i : ℕ) → i < length l → Word (getD l i (pos 0))
+    → numberAt (numbersBytes l ++ rest) i ≡ getD l i (pos 0)
+unfolding numberAt numbersBytes
+numberAt-numbersBytes [] rest i h w = absurd (omega arith)
+numberAt-numbersBytes (x ∷ l) rest zero h w =
+    ap (λ (t : List ℕ). numberOf (take 8 t)) (append-assoc (numberBytes x) (numbersBytes l) rest)
+    ∙ ap numberOf (take-at (numberBytes x) (numbersBytes l ++ rest) 8 (length-numberBytes x))
+    ∙ numberOf-numberBytes x w
+numberAt-numbersBytes (x ∷ l) rest (suc i) h w =
+    ap (λ (t : List ℕ). numberOf (take 8 (drop (8 * suc i) t))) (append-assoc (numberBytes x) (numbersBytes l) rest)
+    ∙ ap (λ (t : ℕ). numberOf (take 8 (drop t (numberBytes x ++ (numbersBytes l ++ rest))))) past
+    ∙ ap (λ (t : List ℕ). numberOf (take 8 t)) (drop-append-add (numberBytes x) (numbersBytes l ++ rest) (8 * i))
+    ∙ numberAt-numbersBytes l rest i (omega arith) w
+  where
+    past : 8 * suc i ≡ length (numberBytes x) + 8 * i
+    past = omega (arith, length-numberBytes x)
+
+-- as many numbers of 64 bits with the same bytes are the same
+pub numbersBytes-injective : (l m : List ℤ) → length l ≡ length m → ((i : ℕ) → i < length l → Word (getD l i (pos 0)))
+    → ((i : ℕ) → i < length m → Word (getD m i (pos 0))) → numbersBytes l ≡ numbersBytes m → l ≡ m
+numbersBytes-injective l m e h k same = ext-getD (pos 0) l m e at
+  where
+    at : (i : ℕ) → i < length l → getD l i (pos 0) ≡ getD m i (pos 0)
+    at i a =
+        sym (numberAt-numbersBytes l [] i a (h i a))
+        ∙ ap (λ (t : List ℕ). numberAt (t ++ []) i) same
+        ∙ numberAt-numbersBytes m [] i (omega arith) (k i (omega arith))

@@ -1,0 +1,16 @@
+-- The report and the coordinates of a dimension as definitions: document 01, "The reduction" and "The report and the coordinates".
+-- The files named `Laws` say what the definitions come to: the answers of a call, and the lengths and places of the numbers.
+pub mod Reductions
+pub mod Report
+pub mod Call
+pub mod Text
+pub mod Host
+pub mod ReductionsLaws
+pub mod ReportLaws
+pub mod WrittenLaws
+pub mod RefusalLaws
+pub mod CallLaws
+pub mod HostLaws
+pub mod HostCallLaws
+pub mod DigitsLaws
+pub mod TextLaws

@@ -1,0 +1,49 @@
+-- The report and the coordinates that the two reductions give: document 01, "The report and the coordinates".
+use mathlib.Core.Bool.{Bool, cond}
+use mathlib.Core.List.{List, [], _∷_, _++_, map}
+use Prim.Native.Nat.{ℕ, zero, suc, _-_}
+use lib.Dec.{eqb}
+use lib.ListN.{length, getD}
+use lib.IntN.{ℤ, pos, natAbs, _*ℤ_}
+use Rattle.integers.specs.Floor.{modulo}
+use Rattle.lists.specs.Tabulate.{tabulate}
+use Rattle.matrices.specs.Vector.{apply}
+use Rattle.reduction_steps.specs.Table.{Table, entry}
+use Rattle.reduction_steps.specs.State.{State}
+
+-- the diagonal: 1, an order above 1, or 0 where there is no pivot
+abbrev pub kind : State → ℕ → ℤ
+kind x i = entry (x .matrix) i i
+
+-- the places below n whose kind is not 1, in rising order
+unfoldable pub kept : (ℕ → ℤ) → ℕ → List ℕ
+kept e zero = []
+kept e (suc n) = kept e n ++ cond (eqb (natAbs (e n)) 1) [] (n ∷ [])
+
+-- n coefficients of each of these columns of G, one column after another
+unfoldable pub columnsOf : Table → ℕ → List ℕ → List ℤ
+columnsOf G n [] = []
+columnsOf G n (i ∷ l) = tabulate n (λ j. entry G i j) ++ columnsOf G n l
+
+-- Below, n is the number of cells, s the number of rows of Q, r the rank of the second reduction and x the state that it leaves.
+
+-- the free rank b: the rows of Q without a pivot
+abbrev pub freeRank : ℕ → ℕ → ℕ
+freeRank s r = s - r
+
+-- the number t of orders
+unfoldable pub torsionCount : ℕ → State → ℕ
+torsionCount r x = length (kept (kind x) r)
+
+-- b, t, the t orders in rising place, then the columns of G for the orders and after them the free ones
+unfoldable pub reportList : ℕ → ℕ → ℕ → State → List ℤ
+reportList n s r x =
+    pos (freeRank s r) ∷ pos (torsionCount r x) ∷ (map (kind x) (kept (kind x) r) ++ columnsOf (x .rowInverse) n (kept (kind x) s))
+
+-- row i of Q times the chain z, modulo its order into 0 to order - 1; a free row, of order 0, is kept
+unfoldable pub coordinateAt : ℕ → State → List ℤ → ℕ → ℤ
+coordinateAt n x z i = modulo (apply n (entry (x .rowFollower)) (λ j. getD z j (pos 0)) i) (kind x i)
+
+-- the coordinates of z, in the report's order
+unfoldable pub coordinateList : ℕ → ℕ → State → List ℤ → List ℤ
+coordinateList n s x z = map (coordinateAt n x z) (kept (kind x) s)

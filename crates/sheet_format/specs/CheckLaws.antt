@@ -1,0 +1,207 @@
+-- Laws of the checks: what `some` decides, when `refusal` is 0.
+--     some-true, some-false    a test passes for some number below n, or fails for each
+--     tooShort-false, ..       what it means that a check tells no fault
+--     refusal-zero             a sheet is accepted exactly when none of the seven checks tells one
+use mathlib.Core.Path.{_≡_, refl, ap, _∙_, ap₂}
+use mathlib.Core.Logic.{_↔_, _⊎_, inl, inr}
+use mathlib.Core.Bool.{Bool, true, false, not, _||_, true≢false, false≢true}
+use mathlib.Core.List.{List, [], _∷_}
+use Prim.Native.Nat.{ℕ, zero, suc, pred, _≤_, _<_, suc-le-suc}
+use native.Mathlib.Nat.{le-of-suc-le-suc, not-suc-le-zero, lt-suc-self, suc-ne-zero}
+use native.Mathlib.Decide.{decLt}
+use native.Mathlib.Omega.{arith}
+use lib.Dec.{eqb, ltb}
+use lib.ListN.{length, getD}
+use borrow.Author.Tests.{ltb-false, le-ltb, eqb-true, eq-eqb, not-false}
+use Rattle.complexes.specs.Cell.{Cell, without, rises, precedes, listed, Listed}
+use Rattle.complexes.specs.Complex.{Sections, section, count, cell}
+use Rattle.complexes.specs.CellLaws.{listed-true, Listed-listed}
+use Rattle.sheet_format.specs.Layout.{top, headerLength}
+use Rattle.sheet_format.specs.Check.{countAt, offsetAt, startAt, sectionsOf, some, refuse, refusal}
+use Rattle.sheet_format.specs.Check.{tooShort, countExceeds, offsetDiffers, lengthDiffers, verticesFall, cellsFall, faceMissing}
+
+-- ---- some
+
+-- a number below n for which the test passes
+pub record Found (n : ℕ) (f : ℕ → Bool) : Type 0 where
+  pub place : ℕ
+  pub below : place < n
+  pub passes : f place ≡ true
+
+or-cases : (a b : Bool) → a || b ≡ true → (a ≡ true) ⊎ (b ≡ true)
+or-cases true b e = inl refl
+or-cases false b e = inr e
+
+or-right : (a b : Bool) → b ≡ true → a || b ≡ true
+or-right true b e = refl
+or-right false b e = e
+
+or-neither : (a b : Bool) → a || b ≡ false → (a ≡ false) × (b ≡ false)
+or-neither true b e = absurd (true≢false e)
+or-neither false b e = (refl, e)
+
+-- a number below n + 1 is below n or is n
+below-suc : (n i : ℕ) → i < suc n → (i < n) ⊎ (i ≡ n)
+below-suc n i h = pick (decLt i n)
+  where
+    pick : Dec (i < n) → (i < n) ⊎ (i ≡ n)
+    pick (yes l) = inl l
+    pick (no l) = inr (omega arith)
+
+found-suc : (n : ℕ) (f : ℕ → Bool) → (some n f ≡ true → Found n f) → (some n f ≡ true) ⊎ (f n ≡ true) → Found (suc n) f
+found-suc n f w (inl p) = let k = w p in record { place = k .place; below = omega (arith, k .below); passes = k .passes }
+found-suc n f w (inr p) = record { place = n; below = lt-suc-self n; passes = p }
+
+found : (n : ℕ) (f : ℕ → Bool) → some n f ≡ true → Found n f
+unfolding some
+found zero f e = absurd (false≢true e)
+found (suc n) f e = found-suc n f (found n f) (or-cases (some n f) (f n) e)
+
+pub some-at : (n : ℕ) (f : ℕ → Bool) (i : ℕ) → i < n → f i ≡ true → some n f ≡ true
+unfolding some
+some-at zero f i h e = absurd (not-suc-le-zero h)
+some-at (suc n) f i h e = pick (below-suc n i h) (some-at n f i)
+  where
+    pick : (i < n) ⊎ (i ≡ n) → (i < n → f i ≡ true → some n f ≡ true) → some n f || f n ≡ true
+    pick (inl l) w = ap (λ (a : Bool). a || f n) (w l e)
+    pick (inr l) w = or-right (some n f) (f n) (rw l at e)
+
+pub some-true : (n : ℕ) (f : ℕ → Bool) → some n f ≡ true ↔ Found n f
+some-true n f = (found n f, λ w. some-at n f (w .place) (w .below) (w .passes))
+
+none : (n : ℕ) (f : ℕ → Bool) → some n f ≡ false → (i : ℕ) → i < n → f i ≡ false
+unfolding some
+none zero f e i h = absurd (not-suc-le-zero h)
+none (suc n) f e i h = pick (or-neither (some n f) (f n) e) (below-suc n i h) (λ e₁. none n f e₁ i)
+  where
+    pick : (some n f ≡ false) × (f n ≡ false) → (i < n) ⊎ (i ≡ n) → (some n f ≡ false → i < n → f i ≡ false) → f i ≡ false
+    pick k (inl l) w = w (k .0) l
+    pick k (inr l) w = rw l (k .1)
+
+some-none : (n : ℕ) (f : ℕ → Bool) → ((i : ℕ) → i < n → f i ≡ false) → some n f ≡ false
+unfolding some
+some-none zero f w = refl
+some-none (suc n) f w = ap (λ (a : Bool). a || f n) (some-none n f (λ i h. w i (omega arith))) ∙ w n (lt-suc-self n)
+
+pub some-false : (n : ℕ) (f : ℕ → Bool) → some n f ≡ false ↔ ((i : ℕ) → i < n → f i ≡ false)
+some-false n f = (none n f, some-none n f)
+
+pub some-ext : (n : ℕ) (f g : ℕ → Bool) → ((i : ℕ) → i < n → f i ≡ g i) → some n f ≡ some n g
+unfolding some
+some-ext zero f g w = refl
+some-ext (suc n) f g w = ap₂ _||_ (some-ext n f g (λ i h. w i (omega arith))) (w n (lt-suc-self n))
+
+-- ---- the checks, one by one
+
+pub tooShort-false : (b : List ℕ) → tooShort b ≡ false ↔ headerLength ≤ length b
+tooShort-false b = (ltb-false (length b) headerLength, le-ltb (length b) headerLength)
+
+pub countExceeds-false : (limit : ℕ) (b : List ℕ) → countExceeds limit b ≡ false ↔ ((p : ℕ) → p ≤ top → countAt b p ≤ limit)
+countExceeds-false limit b =
+    let each = some-false (suc top) (λ p. ltb limit (countAt b p)) in (
+      λ e p h. ltb-false limit (countAt b p) (each .0 e p (suc-le-suc h)),
+      λ k. each .1 (λ p h. le-ltb limit (countAt b p) (k p (le-of-suc-le-suc h))),
+    )
+
+eqb-not-false : (m n : ℕ) → not (eqb m n) ≡ false ↔ m ≡ n
+eqb-not-false m n = (λ e. eqb-true m n (not-false (eqb m n) e), λ e. ap not (eq-eqb m n e))
+
+pub offsetDiffers-false : (b : List ℕ) → offsetDiffers b ≡ false ↔ ((p : ℕ) → p ≤ top → offsetAt b p ≡ startAt b p)
+offsetDiffers-false b =
+    let each = some-false (suc top) (λ p. not (eqb (offsetAt b p) (startAt b p))) in (
+      λ e p h. eqb-not-false (offsetAt b p) (startAt b p) .0 (each .0 e p (suc-le-suc h)),
+      λ k. each .1 (λ p h. eqb-not-false (offsetAt b p) (startAt b p) .1 (k p (le-of-suc-le-suc h))),
+    )
+
+pub lengthDiffers-false : (b : List ℕ) → lengthDiffers b ≡ false ↔ length b ≡ startAt b (suc top)
+lengthDiffers-false b = eqb-not-false (length b) (startAt b (suc top))
+
+pub verticesFall-false : (K : Sections)
+    → verticesFall K ≡ false ↔ ((p i : ℕ) → p ≤ top → i < count K p → rises (cell K p i) ≡ true)
+unfolding verticesFall
+verticesFall-false K = (
+  λ e p i h l. not-false (rises (cell K p i)) (inner p .0 (outer .0 e p (suc-le-suc h)) i l),
+  λ k. outer .1 (λ p h. inner p .1 (λ i l. ap not (k p i (le-of-suc-le-suc h) l))),
+)
+  where
+    inner : (p : ℕ) → some (count K p) (λ i. not (rises (cell K p i))) ≡ false ↔ ((i : ℕ) → i < count K p → not (rises (cell K p i)) ≡ false)
+    inner p = some-false (count K p) (λ i. not (rises (cell K p i)))
+
+    outer : verticesFall K ≡ false ↔ ((p : ℕ) → p < suc top → some (count K p) (λ i. not (rises (cell K p i))) ≡ false)
+    outer = some-false (suc top) (λ p. some (count K p) (λ i. not (rises (cell K p i))))
+
+pub cellsFall-false : (K : Sections)
+    → cellsFall K ≡ false ↔ ((p i : ℕ) → p ≤ top → suc i < count K p → precedes (cell K p i) (cell K p (suc i)) ≡ true)
+unfolding cellsFall
+cellsFall-false K = (
+  λ e p i h l. not-false (precedes (cell K p i) (cell K p (suc i))) (inner p .0 (outer .0 e p (suc-le-suc h)) i (omega arith)),
+  λ k. outer .1 (λ p h. inner p .1 (λ i l. ap not (k p i (le-of-suc-le-suc h) (omega arith)))),
+)
+  where
+    inner : (p : ℕ) → some (pred (count K p)) (λ i. not (precedes (cell K p i) (cell K p (suc i)))) ≡ false
+        ↔ ((i : ℕ) → i < pred (count K p) → not (precedes (cell K p i) (cell K p (suc i))) ≡ false)
+    inner p = some-false (pred (count K p)) (λ i. not (precedes (cell K p i) (cell K p (suc i))))
+
+    outer : cellsFall K ≡ false
+        ↔ ((p : ℕ) → p < suc top → some (pred (count K p)) (λ i. not (precedes (cell K p i) (cell K p (suc i)))) ≡ false)
+    outer = some-false (suc top) (λ p. some (pred (count K p)) (λ i. not (precedes (cell K p i) (cell K p (suc i)))))
+
+pub faceMissing-false : (K : Sections)
+    → faceMissing K ≡ false
+    ↔ ((p i j : ℕ) → p < top → i < count K (suc p) → j < suc (suc p) → Listed (without j (cell K (suc p) i)) (section K p))
+unfolding faceMissing
+faceMissing-false K = (
+  λ e p i j h l m. listed-true (face p i j) (section K p)
+      (not-false (listed (face p i j) (section K p)) (faces p i .0 (cells p .0 (dims .0 e p h) i l) j m)),
+  λ k. dims .1 (λ p h. cells p .1 (λ i l. faces p i .1 (λ j m. ap not (Listed-listed (k p i j h l m))))),
+)
+  where
+    face : ℕ → ℕ → ℕ → Cell
+    face p i j = without j (cell K (suc p) i)
+
+    missing : ℕ → ℕ → ℕ → Bool
+    missing p i j = not (listed (face p i j) (section K p))
+
+    faces : (p i : ℕ) → some (suc (suc p)) (missing p i) ≡ false ↔ ((j : ℕ) → j < suc (suc p) → missing p i j ≡ false)
+    faces p i = some-false (suc (suc p)) (missing p i)
+
+    cells : (p : ℕ) → some (count K (suc p)) (λ i. some (suc (suc p)) (missing p i)) ≡ false
+        ↔ ((i : ℕ) → i < count K (suc p) → some (suc (suc p)) (missing p i) ≡ false)
+    cells p = some-false (count K (suc p)) (λ i. some (suc (suc p)) (missing p i))
+
+    dims : faceMissing K ≡ false ↔ ((p : ℕ) → p < top → some (count K (suc p)) (λ i. some (suc (suc p)) (missing p i)) ≡ false)
+    dims = some-false top (λ p. some (count K (suc p)) (λ i. some (suc (suc p)) (missing p i)))
+
+-- ---- refuse
+
+pub refuse-zero : (number : ℕ) (fault : Bool) (later : ℕ) → refuse (suc number) fault later ≡ 0 ↔ (fault ≡ false) × (later ≡ 0)
+refuse-zero number true later = (λ e. absurd (suc-ne-zero number e), λ k. absurd (true≢false (k .0)))
+refuse-zero number false later = (λ e. (refl, e), λ k. k .1)
+
+-- none of the seven checks tells a fault
+pub record Passes (limit : ℕ) (b : List ℕ) : Type 0 where
+  pub long : tooShort b ≡ false
+  pub counts : countExceeds limit b ≡ false
+  pub offsets : offsetDiffers b ≡ false
+  pub ends : lengthDiffers b ≡ false
+  pub vertices : verticesFall (sectionsOf b) ≡ false
+  pub cells : cellsFall (sectionsOf b) ≡ false
+  pub faces : faceMissing (sectionsOf b) ≡ false
+
+pub refusal-zero : (limit : ℕ) (b : List ℕ) → refusal limit b ≡ 0 ↔ Passes limit b
+unfolding refusal
+refusal-zero limit b = (to, from)
+  where
+    to : refusal limit b ≡ 0 → Passes limit b
+    to e =
+        let k₁ = refuse-zero 0 (tooShort b) _ .0 e in
+        let k₂ = refuse-zero 1 (countExceeds limit b) _ .0 (k₁ .1) in
+        let k₃ = refuse-zero 2 (offsetDiffers b) _ .0 (k₂ .1) in
+        let k₄ = refuse-zero 3 (lengthDiffers b) _ .0 (k₃ .1) in
+        let k₅ = refuse-zero 4 (verticesFall (sectionsOf b)) _ .0 (k₄ .1) in
+        let k₆ = refuse-zero 5 (cellsFall (sectionsOf b)) _ .0 (k₅ .1) in
+        let k₇ = refuse-zero 6 (faceMissing (sectionsOf b)) _ .0 (k₆ .1) in
+        record { long = k₁ .0; counts = k₂ .0; offsets = k₃ .0; ends = k₄ .0; vertices = k₅ .0; cells = k₆ .0; faces = k₇ .0 }
+
+    from : Passes limit b → refusal limit b ≡ 0
+    from k = rw (k .long, k .counts, k .offsets, k .ends, k .vertices, k .cells, k .faces)

@@ -1,0 +1,86 @@
+-- A sheet longer than the longest that can be accepted is settled by its first bytes.
+--     longest          no accepted sheet is longer at a count limit (accepted-length): 976 bytes at 48
+--     refusal-long     a longer sheet is refused with 2, 3 or 4
+--     refusal-take     the refusal of a sheet is that of its first n bytes, for every n above `longest`
+use mathlib.Core.Path.{_≡_, refl, sym, ap, _∙_, ap₂}
+use mathlib.Core.Bool.{Bool, true, false, not}
+use mathlib.Core.List.{List}
+use Prim.Native.Nat.{ℕ, suc, _+_, _*_, _≤_, _<_}
+use native.Mathlib.Nat.{le-of-suc-le-suc}
+use native.Mathlib.Decide.{decLe}
+use native.Mathlib.Omega.{arith}
+use lib.Dec.{eqb, ltb}
+use lib.ListN.{length, take}
+use lib.Seq.{length-take-le, take-all, getD-take}
+use borrow.Author.Tests.{le-ltb, ne-eqb}
+use Rattle.sheet_format.specs.Layout.{top, headerLength}
+use Rattle.sheet_format.specs.Check.{fieldAt, countAt, offsetAt, startAt, countExceeds, offsetDiffers, lengthDiffers, refuse, refusal}
+use Rattle.sheet_format.specs.CheckLaws.{some-ext, countExceeds-false, lengthDiffers-false, refusal-zero}
+use Rattle.sheet_format.specs.SheetLaws.{countAt-in, countAt-out, start-ext, start-le, triangle}
+
+abbrev pub longest : ℕ → ℕ
+longest limit = headerLength + 2 * (limit * triangle (suc top))
+
+-- ---- a longer sheet
+
+fourth : (x y z : Bool) (later : ℕ) → (x ≡ false → z ≡ true) → refuse 2 x (refuse 3 y (refuse 4 z later)) ≡ refuse 2 x (refuse 3 y 4)
+fourth true y z later h = refl
+fourth false y z later h = ap (λ (t : Bool). refuse 3 y (refuse 4 t later)) (h refl)
+
+start-longest : (limit : ℕ) (b : List ℕ) → countExceeds limit b ≡ false → startAt b (suc top) ≤ longest limit
+start-longest limit b e = start-le (countAt b) limit (suc top) (λ p l. countExceeds-false limit b .0 e p (le-of-suc-le-suc l))
+
+pub accepted-length : (limit : ℕ) (b : List ℕ) → refusal limit b ≡ 0 → length b ≤ longest limit
+accepted-length limit b e =
+    let passes = refusal-zero limit b .0 e in
+    omega (arith, start-longest limit b (passes .counts), lengthDiffers-false b .0 (passes .ends))
+
+length-long : (limit : ℕ) (b : List ℕ) → longest limit < length b → countExceeds limit b ≡ false → lengthDiffers b ≡ true
+length-long limit b h e =
+    ap not (ne-eqb (length b) (startAt b (suc top)) (λ q. omega (arith, start-longest limit b e)))
+
+pub refusal-long : (limit : ℕ) (b : List ℕ) → longest limit < length b
+    → refusal limit b ≡ refuse 2 (countExceeds limit b) (refuse 3 (offsetDiffers b) 4)
+unfolding refusal
+refusal-long limit b h =
+    rw (le-ltb (length b) headerLength (omega arith))
+    (fourth (countExceeds limit b) (offsetDiffers b) (lengthDiffers b) _ (length-long limit b h))
+
+-- ---- the first bytes
+
+module _ (n : ℕ) (b : List ℕ) (long : headerLength ≤ n) where
+  fieldAt-take : (i : ℕ) → suc i < n → fieldAt (take n b) i ≡ fieldAt b i
+  fieldAt-take i h = ap₂ (λ x y. x + 256 * y) (getD-take n b i 0 (omega arith)) (getD-take n b (suc i) 0 h)
+
+  countAt-take : (p : ℕ) → countAt (take n b) p ≡ countAt b p
+  countAt-take p = pick (decLe p top)
+    where
+      pick : Dec (p ≤ top) → countAt (take n b) p ≡ countAt b p
+      pick (yes l) = countAt-in (take n b) p l ∙ fieldAt-take (4 * p) (omega arith) ∙ sym (countAt-in b p l)
+      pick (no l) = countAt-out (take n b) p (omega arith) ∙ sym (countAt-out b p (omega arith))
+
+  offsetAt-take : (p : ℕ) → p ≤ top → offsetAt (take n b) p ≡ offsetAt b p
+  unfolding offsetAt
+  offsetAt-take p l = fieldAt-take (4 * p + 2) (omega arith)
+
+  startAt-take : (p : ℕ) → startAt (take n b) p ≡ startAt b p
+  startAt-take p = start-ext (countAt (take n b)) (countAt b) p (λ q _. countAt-take q)
+
+  countExceeds-take : (limit : ℕ) → countExceeds limit (take n b) ≡ countExceeds limit b
+  countExceeds-take limit =
+      some-ext (suc top) (λ p. ltb limit (countAt (take n b) p)) (λ p. ltb limit (countAt b p)) (λ p _. ap (ltb limit) (countAt-take p))
+
+  offsetDiffers-take : offsetDiffers (take n b) ≡ offsetDiffers b
+  offsetDiffers-take =
+      some-ext (suc top) (λ p. not (eqb (offsetAt (take n b) p) (startAt (take n b) p))) (λ p. not (eqb (offsetAt b p) (startAt b p)))
+      (λ p l. ap₂ (λ x y. not (eqb x y)) (offsetAt-take p (le-of-suc-le-suc l)) (startAt-take p))
+
+pub refusal-take : (limit : ℕ) (b : List ℕ) (n : ℕ) → longest limit < n → refusal limit (take n b) ≡ refusal limit b
+refusal-take limit b n h = pick (decLe (length b) n)
+  where
+    pick : Dec (length b ≤ n) → refusal limit (take n b) ≡ refusal limit b
+    pick (yes l) = ap (refusal limit) (take-all n b l)
+    pick (no l) =
+        refusal-long limit (take n b) (omega (arith, length-take-le n b (omega arith)))
+        ∙ ap₂ (λ x y. refuse 2 x (refuse 3 y 4)) (countExceeds-take n b (omega arith) limit) (offsetDiffers-take n b (omega arith))
+        ∙ sym (refusal-long limit b (omega arith))

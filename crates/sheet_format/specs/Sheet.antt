@@ -1,0 +1,17 @@
+-- What demand 2 says of a sheet: it holds a simplicial complex laid out as in document 01, "The sheet".
+use mathlib.Core.Path.{_≡_}
+use mathlib.Core.List.{List}
+use Prim.Native.Nat.{ℕ, _<_}
+use lib.ListN.{getD}
+use Rattle.complexes.specs.Complex.{Sections, Complex}
+use Rattle.sheet_format.specs.Layout.{top, layout}
+
+-- every number of b is a byte
+pub record Bytes (b : List ℕ) : Type 0 where
+  pub small : (i : ℕ) → getD b i 0 < 256
+
+-- b is the sheet of a complex with at most `limit` cells in each dimension
+pub record IsSheet (limit : ℕ) (b : List ℕ) : Type 0 where
+  pub cells : Sections
+  pub complex : Complex top limit cells
+  pub bytes : layout cells ≡ b
