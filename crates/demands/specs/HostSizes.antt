@@ -1,0 +1,124 @@
+-- The calls at the host limit. Once done they give no more numbers than the slots that check 9 asks for (report-sized, coordinates-sized).
+-- Where a host call has its room, an accepted sheet is refused only as too wide (accepted-passes, accepted-refused).
+use mathlib.Core.Path.{_≡_}
+use mathlib.Core.List.{List}
+use Prim.Native.Nat.{ℕ, zero, suc, _+_, _*_, _≤_, max}
+use native.Mathlib.Nat.{mul-le-mul, mul-le-mul-right, max-le}
+use native.Mathlib.Omega.{arith}
+use lib.ListN.{length}
+use lib.IntN.{ℤ}
+use Rattle.complexes.specs.Complex.{count}
+use Rattle.complexes.specs.Boundary.{rowCells}
+use Rattle.sheet_format.specs.Layout.{top}
+use Rattle.sheet_format.specs.Check.{sectionsOf, refusal}
+use Rattle.sheet_format.specs.Sheet.{Bytes}
+use Rattle.reports.specs.Report.{kind, torsionCount, reportList, coordinateList}
+use Rattle.reports.specs.ReportLaws.{length-kept-le}
+use Rattle.reports.specs.Reductions.{tooWide}
+use Rattle.reports.specs.Call.{done, refused, hostLimit, reportSlots, coordinateSlots, workSlots, refusalBefore, reductionsOf, reportCall, coordinateCall}
+use Rattle.reports.specs.RefusalLaws.{Passed, refusalBefore-zero}
+use Rattle.reports.specs.CallLaws.{Counted, CallRefused, earlier, wide, call-refused}
+use Rattle.reports.specs.HostCallLaws.{reportRoom, workRoom, counts-within}
+use Rattle.demands.specs.Written.{cells}
+use Rattle.demands.specs.Numbers.{report-length, coordinates-length}
+use Rattle.demands.specs.Calls.{Answered}
+use Rattle.demands.specs.BothCalls.{reportBefore, reportNumbers, report-answered, sheetBefore, coordinatesBefore, coordinates-passed, coordinates-answered}
+
+-- the numbers of a report, with f free generators and t orders
+abbrev pub reportNumbersOf : List ℕ → ℕ → ℕ → ℕ → ℕ
+reportNumbersOf b p f t = 2 + t + (t + f) * cells b p
+
+-- dimension p of the sheet b, which is accepted, gives f free generators and t orders
+pub record Sized (b : List ℕ) (p f t : ℕ) : Type 0 where
+  pub counted : Counted (reductionsOf b p) f t
+  pub cells-within : cells b p ≤ hostLimit
+  pub total-within : t + f ≤ cells b p
+  pub report-size : length (reportList (cells b p) (counted .rows) (counted .rank) (counted .state)) ≡ reportNumbersOf b p f t
+  pub coordinates-size : (z : List ℤ) → length (coordinateList (cells b p) (counted .rows) (counted .state) z) ≡ t + f
+
+sized : (b : List ℕ) (p before f t : ℕ) → refusal hostLimit b ≡ 0 → Answered b p before f t → Sized b p f t
+unfolding torsionCount
+sized b p before f t accepted d =
+    let c = d .counted in record {
+      counted = c;
+      cells-within = counts-within b accepted p;
+      total-within = omega (arith, c .free, c .torsion, length-kept-le (kind (c .state)) (c .rank), d .right .rank-bound, d .right .rows-bound);
+      report-size = cc (report-length (d .right), c .torsion, c .free);
+      coordinates-size = λ z. cc (coordinates-length (d .right) z, c .torsion, c .free);
+    }
+
+-- the report's numbers fit where all that check 9 asks for do
+pub numbers-fit : {b : List ℕ} {p f t : ℕ} → Sized b p f t → reportNumbersOf b p f t ≤ reportSlots (sectionsOf b) p
+numbers-fit {b} {p} s = omega (arith, s .total-within, mul-le-mul-right (cells b p) (s .total-within))
+
+-- a report call that is done, with this report slice
+pub record ReportSized (b : List ℕ) (p : ℕ) (report : List ℤ) (f t : ℕ) : Type 0 where
+  pub is-sized : Sized b p f t
+  pub fits : reportNumbersOf b p f t ≤ length report
+
+-- a coordinate call that is done, with this coordinate slice
+pub record CoordinatesSized (b : List ℕ) (p : ℕ) (coordinates : List ℤ) (f t : ℕ) : Type 0 where
+  pub is-sized : Sized b p f t
+  pub fits : t + f ≤ length coordinates
+
+module _ (b : List ℕ) (bytes : Bytes b) (p : ℕ) where
+  pub report-sized : (report work : List ℤ) (f t : ℕ) → reportCall hostLimit b p report work .answer ≡ done f t → ReportSized b p report f t
+  report-sized report work f t e = record { is-sized = s; fits = omega (arith, numbers-fit s, h .output-slots) }
+    where
+      d : Answered b p (reportBefore hostLimit b p report work) f t
+      d = report-answered hostLimit b p report work bytes f t e
+
+      h : Passed hostLimit b p reportSlots (length report) (length work)
+      h = refusalBefore-zero hostLimit b p reportSlots (length report) (length work) .0 (d .passes)
+
+      s : Sized b p f t
+      s = sized b p (reportBefore hostLimit b p report work) f t (h .accepted) d
+
+  pub coordinates-sized : (z coordinates work : List ℤ) (f t : ℕ) → coordinateCall hostLimit b p z coordinates work .answer ≡ done f t → CoordinatesSized b p coordinates f t
+  coordinates-sized z coordinates work f t e = record { is-sized = s; fits = omega (arith, s .total-within, h .output-slots) }
+    where
+      d : Answered b p (coordinatesBefore hostLimit b p z coordinates work) f t
+      d = coordinates-answered hostLimit b p z coordinates work bytes f t e
+
+      h : Passed hostLimit b p coordinateSlots (length coordinates) (length work)
+      h = refusalBefore-zero hostLimit b p coordinateSlots (length coordinates) (length work) .0 (coordinates-passed hostLimit b p z coordinates work .0 (d .passes) .0)
+
+      s : Sized b p f t
+      s = sized b p (coordinatesBefore hostLimit b p z coordinates work) f t (h .accepted) d
+
+-- ---- an accepted sheet, where a host call has its room
+
+-- dimension p goes too wide, and k is the number for that
+pub record WentWide (b : List ℕ) (p k : ℕ) : Type 0 where
+  pub is-wide : reductionsOf b p ≡ tooWide
+  pub number-is : k ≡ 13
+
+module _ (b : List ℕ) (accepted : refusal hostLimit b ≡ 0) where
+  rows-within : (p : ℕ) → length (rowCells (sectionsOf b) p) ≤ hostLimit
+  unfolding rowCells
+  rows-within zero = omega arith
+  rows-within (suc p) = counts-within b accepted p
+
+  work-within : (p : ℕ) → workSlots (sectionsOf b) p ≤ workRoom
+  work-within p = mul-le-mul (counts-within b accepted p) beside
+    where
+      beside : 2 * count (sectionsOf b) p + max (length (rowCells (sectionsOf b) p)) (count (sectionsOf b) (suc p)) ≤ 3 * hostLimit
+      beside = omega (arith, counts-within b accepted p, max-le (rows-within p) (counts-within b accepted (suc p)))
+
+  module _ (p : ℕ) (dimension : p ≤ top) (report work : List ℤ) (size : length report ≡ reportRoom) (space : length work ≡ workRoom) where
+    pub accepted-passes : refusalBefore hostLimit b p reportSlots (length report) (length work) ≡ 0
+    accepted-passes =
+        refusalBefore-zero hostLimit b p reportSlots (length report) (length work) .1 (record {
+          accepted = accepted;
+          dimension = dimension;
+          output-slots = omega (arith, size, counts-within b accepted p, mul-le-mul (counts-within b accepted p) (counts-within b accepted p));
+          work-slots = omega (arith, space, work-within p);
+        })
+
+    pub accepted-refused : (k : ℕ) → reportCall hostLimit b p report work .answer ≡ refused k → WentWide b p k
+    unfolding reportCall
+    accepted-refused k e = go (call-refused (reportBefore hostLimit b p report work) (reductionsOf b p) (reportNumbers hostLimit b p report work) report work k e)
+      where
+        go : CallRefused (reportBefore hostLimit b p report work) (reductionsOf b p) k → WentWide b p k
+        go (earlier e d) = absurd (d (omega (arith, e, accepted-passes)))
+        go (wide z e t) = record { is-wide = e; number-is = t }

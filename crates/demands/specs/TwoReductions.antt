@@ -1,0 +1,149 @@
+-- The two reductions of a dimension of a complex, both done, leave what `homology_groups` asks for: reductions-right.
+use mathlib.Core.Path.{_≡_, sym, _∙_, subst}
+use Prim.Native.Nat.{ℕ, suc, _+_, _-_, _≤_}
+use native.Mathlib.Nat.{le-trans, min-le-left, min-le-right}
+use native.Mathlib.Omega.{arith}
+use native.Mathlib.Decide.{ℕ-discrete}
+use lib.ListN.{length, drop}
+use Rattle.matrices.specs.Matrix.{Matrix, Eq, mul, identity, transpose}
+use Rattle.matrices.specs.Product.{Eq-refl, Eq-trans, Eq-transpose, identity-other, mul-ext, mul-identity-left, mul-identity-right}
+use Rattle.smith.specs.CertificateLaws.{smith-ext}
+use Rattle.smith.specs.Rank.{IsRank}
+use Rattle.homology_groups.specs.Reduced.{Reduced, kernelBasis, kernelRows}
+use Rattle.complexes.specs.Complex.{Sections, count, Complex}
+use Rattle.complexes.specs.Boundary.{rowCells, boundary}
+use Rattle.complexes.specs.BoundaryLaws.{boundary-boundary}
+use Rattle.reduction_steps.specs.Table.{Table, entry, table}
+use Rattle.reduction_steps.specs.State.{State, within}
+use Rattle.reduction_steps.specs.Pivot.{Rule, IsRule}
+use Rattle.reduction_steps.specs.Step.{done, reduce}
+use Rattle.reduction_laws.specs.Tables.{Eq-table}
+use Rattle.reduction_laws.specs.SmithForm as machine
+use Rattle.reduction_laws.specs.SmithForm.{reduce-smith}
+use Rattle.reports.specs.Reductions.{firstSizes, firstStart, secondSizes, secondStart, product, reduced, reductions}
+use Rattle.reports.specs.ReductionsLaws.{BothDone, reductions-done}
+use Rattle.reports.specs.Report.{kind}
+use Rattle.demands.specs.Starts.{first-shaped, first-within, second-shaped, second-within, entry-drop}
+
+-- s rows of Q, rank r and the state x are right for dimension p of K
+pub record Right (K : Sections) (p s r : ℕ) (x : State) : Type 0 where
+  pub reduced : Reduced (length (rowCells K p)) (count K p) (count K (suc p)) (boundary K p) (boundary K (suc p)) s (kind x) (transpose (entry (x .rowInverse))) (entry (x .rowFollower))
+  pub rank : IsRank (kind x) r
+  pub rank-bound : r ≤ s
+  pub rows-bound : s ≤ count K p
+
+-- ---- identities as companions
+
+identity-transpose : (i j : ℕ) → identity i j ≡ identity j i
+identity-transpose i j = go (ℕ-discrete i j)
+  where
+    go : Dec (i ≡ j) → identity i j ≡ identity j i
+    go (yes e) = cc
+    go (no d) = identity-other i j d ∙ sym (identity-other j i (λ e. d (sym e)))
+
+module _ {m n : ℕ} {A X : Matrix} where
+  times-identity : Eq m n X (mul n A (entry (table n n identity))) → Eq m n X A
+  times-identity e =
+      Eq-trans e (Eq-trans (mul-ext (Eq-refl m n A) (Eq-table n n identity)) (record { at = λ i j a b. mul-identity-right n A i j b }))
+
+  identity-times : Eq m n X (mul m (transpose (entry (table m m identity))) A) → Eq m n X A
+  identity-times e =
+      Eq-trans e (Eq-trans (mul-ext transposed (Eq-refl m n A)) (record { at = λ i j a b. mul-identity-left m A i j a }))
+    where
+      transposed : Eq m m (transpose (entry (table m m identity))) identity
+      transposed = Eq-trans (Eq-transpose (Eq-table m m identity)) (record { at = λ i j a b. identity-transpose j i })
+
+-- ---- lines from r₁ on
+
+module _ {n : ℕ} (r : ℕ) (T : Table) {C : Matrix} where
+  rows-from : Eq n n (entry T) C → Eq (n - r) n (entry (drop r T)) (kernelRows r C)
+  unfolding kernelRows
+  rows-from e = record { at = λ i j a b. entry-drop r T i j ∙ e .at (r + i) j (omega arith) b }
+
+  columns-from : Eq n n (transpose (entry T)) C → Eq n (n - r) (transpose (entry (drop r T))) (kernelBasis r C)
+  unfolding kernelBasis
+  columns-from e = record { at = λ i j a b. entry-drop r T j i ∙ e .at i (r + j) a (omega arith) }
+
+-- ---- both reductions
+
+module _ {top most : ℕ} {K : Sections} (complex : Complex top most K) (rule : Rule) (is : IsRule rule) (limit p : ℕ) (one : 1 ≤ limit) where
+  abbrev m : ℕ
+  m = length (rowCells K p)
+
+  abbrev n : ℕ
+  n = count K p
+
+  abbrev l : ℕ
+  l = count K (suc p)
+
+  module _ (r₁ : ℕ) (x₁ : State) (S₁ : machine.Reduced limit (firstSizes K p) (firstStart K p) r₁ x₁)
+      (r : ℕ) (x : State) (S₂ : machine.Reduced limit (secondSizes K p r₁) (secondStart K p r₁ x₁) r x) where
+    first-bound : r₁ ≤ n
+    first-bound = le-trans (S₁ .bound) (min-le-right m n)
+
+    second-bound : r ≤ n - r₁
+    second-bound = le-trans (S₂ .bound) (min-le-left (n - r₁) l)
+
+    -- Q and G after the first reduction
+    Q-is : Eq (n - r₁) n (entry (drop r₁ (x₁ .columnInverse))) (kernelRows r₁ (S₁ .Ci))
+    unfolding firstStart
+    Q-is = rows-from r₁ (x₁ .columnInverse) (times-identity (S₁ .columnInverse))
+
+    G-is : Eq n (n - r₁) (transpose (entry (drop r₁ (x₁ .columnFollower)))) (kernelBasis r₁ (S₁ .C))
+    unfolding firstStart
+    G-is = columns-from r₁ (x₁ .columnFollower) (identity-times (S₁ .columnFollower))
+
+    product-is : Eq (n - r₁) l (entry (product K p r₁ x₁)) (mul n (kernelRows r₁ (S₁ .Ci)) (boundary K (suc p)))
+    unfolding product
+    product-is =
+        Eq-trans (Eq-table (n - r₁) l (mul n (entry (drop r₁ (x₁ .columnInverse))) (boundary K (suc p)))) (mul-ext Q-is (Eq-refl n l (boundary K (suc p))))
+
+    both-right : Right K p (n - r₁) r x
+    unfolding firstStart secondStart
+    both-right = record {
+      reduced = record {
+        complex = boundary-boundary complex p;
+        rank = r₁;
+        size = omega (arith, first-bound);
+        d = machine.diagonalOf x₁;
+        U = S₁ .U;
+        Ui = S₁ .Ui;
+        C = S₁ .C;
+        Ci = S₁ .Ci;
+        first = smith-ext (Eq-table m n (boundary K p)) (S₁ .smith);
+        isRank = S₁ .rank;
+        P = S₂ .U;
+        Pi = S₂ .Ui;
+        W = S₂ .C;
+        Wi = S₂ .Ci;
+        second = smith-ext product-is (S₂ .smith);
+        isGenerators = Eq-trans (S₂ .rowInverse) (mul-ext G-is (Eq-refl (n - r₁) (n - r₁) (S₂ .Ui)));
+        isCoordinates = Eq-trans (S₂ .rowFollower) (mul-ext (Eq-refl (n - r₁) (n - r₁) (S₂ .U)) Q-is);
+      };
+      rank = S₂ .rank;
+      rank-bound = second-bound;
+      rows-bound = omega arith;
+    }
+
+  pub first-reduced : (r₁ : ℕ) (x₁ : State) → reduce limit (firstSizes K p) rule (firstStart K p) ≡ done r₁ x₁ → machine.Reduced limit (firstSizes K p) (firstStart K p) r₁ x₁
+  first-reduced = reduce-smith limit (firstSizes K p) rule is (firstStart K p) (first-shaped K p) (first-within complex limit p one)
+
+  pub reductions-right : (s r : ℕ) (x : State) → reductions rule limit K p ≡ reduced s r x → Right K p s r x
+  reductions-right s r x e = subst (λ (t : ℕ). Right K p t r x) (sym (B .rows)) (both-right r₁ x₁ S₁ r x S₂)
+    where
+      B : BothDone rule limit K p s r x
+      B = reductions-done rule limit K p s r x e
+
+      r₁ : ℕ
+      r₁ = B .firstRank
+
+      x₁ : State
+      x₁ = B .firstState
+
+      S₁ : machine.Reduced limit (firstSizes K p) (firstStart K p) r₁ x₁
+      S₁ = first-reduced r₁ x₁ (B .first)
+
+      S₂ : machine.Reduced limit (secondSizes K p r₁) (secondStart K p r₁ x₁) r x
+      S₂ =
+          reduce-smith limit (secondSizes K p r₁) rule is (secondStart K p r₁ x₁)
+          (second-shaped K p r₁ x₁ (S₁ .shaped)) (second-within K p r₁ x₁ limit (S₁ .within) (B .narrow)) r x (B .second)

@@ -1,0 +1,20 @@
+-- Laws of the reduction: it ends, and it leaves a Smith normal form with right companions.
+pub mod Tables
+pub mod Run
+pub mod Steps
+pub mod StageLaws
+pub mod Shape
+pub mod Scans
+pub mod Moves
+pub mod Pass
+pub mod Done
+pub mod Led
+pub mod Tracked
+pub mod Leading
+pub mod Letters
+pub mod Stage
+pub mod Views
+pub mod Reached
+pub mod Descent
+pub mod Ends
+pub mod SmithForm

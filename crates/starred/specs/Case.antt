@@ -1,0 +1,61 @@
+-- A case: a call at the library's limit, and what it is to answer and to leave in the slices lent to it.
+use mathlib.Core.Bool.{Bool}
+use mathlib.Core.List.{List}
+use mathlib.Core.Path.{_≡_}
+use Prim.Native.Nat.{ℕ}
+use lib.Dec.{T}
+use lib.IntN.{ℤ, pos, negℤ}
+use lib.ListN.{replicate}
+use Rattle.reports.specs.Call.{libraryLimit, Called, refused, reportCall, coordinateCall}
+use Rattle.starred.specs.Same.{sameCalled, sameCalled-eq}
+
+-- what is asked for: the report, or the coordinates of a chain
+pub data Request : Type 0 where
+  report : Request
+  coordinatesOf : List ℤ → Request
+
+-- `output` is the slice lent for the report or the coordinates; it and `work` stand as they are lent
+pub record Call : Type 0 where
+  pub sheet : List ℕ
+  pub dimension : ℕ
+  pub request : Request
+  pub output : List ℤ
+  pub work : List ℤ
+
+pub record Case : Type 0 where
+  pub call : Call
+  pub expected : Called
+
+-- what a request gives
+unfoldable pub answered : List ℕ → ℕ → Request → List ℤ → List ℤ → Called
+answered sheet p report output work = reportCall libraryLimit sheet p output work
+answered sheet p (coordinatesOf z) output work = coordinateCall libraryLimit sheet p z output work
+
+-- what a call gives
+abbrev pub outcome : Call → Called
+outcome c = answered (c .sheet) (c .dimension) (c .request) (c .output) (c .work)
+
+unfoldable pub good : Case → Bool
+good c = sameCalled (outcome (c .call)) (c .expected)
+
+-- a good case has the outcome expected
+pub good-eq : (c : Case) → T (good c) → outcome (c .call) ≡ c .expected
+unfolding good
+good-eq c t = sameCalled-eq (outcome (c .call)) (c .expected) t
+
+-- ---- short forms for the table
+
+abbrev pub minus : ℕ → ℤ
+minus n = negℤ (pos n)
+
+-- n slots as they are lent: a slot that is left untouched shows
+abbrev pub nines : ℕ → List ℤ
+nines n = replicate n (pos 9)
+
+-- n slots that read 0
+abbrev pub zeros : ℕ → List ℤ
+zeros n = replicate n (pos 0)
+
+-- the call is refused with the number, and its slices are left as they were
+abbrev pub refuses : ℕ → Call → Case
+refuses number c = record { call = c; expected = record { answer = refused number; output = c .output; work = c .work } }
