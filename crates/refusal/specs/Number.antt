@@ -1,0 +1,19 @@
+-- The number that document 01 gives to each refusal.
+use Prim.Native.Nat.{ℕ}
+use Rattle.refusal.specs.declared.Refusal.{Refusal}
+use Rattle.refusal.specs.declared.Refusal.the-variants.{SheetTooShort, CountExceedsLimit, OffsetDiffers, LengthDiffers, VerticesDoNotRise, CellsDoNotRise, FaceMissing, DimensionExceedsTop, SliceTooShort, ChainLengthDiffers, CoefficientExceedsLimit, BoundaryNotZero, TooWide}
+
+abbrev pub numberOf : Refusal → ℕ
+numberOf SheetTooShort = 1
+numberOf CountExceedsLimit = 2
+numberOf OffsetDiffers = 3
+numberOf LengthDiffers = 4
+numberOf VerticesDoNotRise = 5
+numberOf CellsDoNotRise = 6
+numberOf FaceMissing = 7
+numberOf DimensionExceedsTop = 8
+numberOf SliceTooShort = 9
+numberOf ChainLengthDiffers = 10
+numberOf CoefficientExceedsLimit = 11
+numberOf BoundaryNotZero = 12
+numberOf TooWide = 13

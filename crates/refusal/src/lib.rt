@@ -1,0 +1,42 @@
+// The refusals of document 01, in its order of trial.
+ghost use mathlib.Core.Path.{_≡_};
+ghost use Rattle.refusal.specs.Number.{numberOf};
+
+pub enum Refusal {
+    SheetTooShort,
+    CountExceedsLimit,
+    OffsetDiffers,
+    LengthDiffers,
+    VerticesDoNotRise,
+    CellsDoNotRise,
+    FaceMissing,
+    DimensionExceedsTop,
+    SliceTooShort,
+    ChainLengthDiffers,
+    CoefficientExceedsLimit,
+    BoundaryNotZero,
+    TooWide,
+}
+
+impl Refusal {
+    // The number that document 01 gives it.
+    pub fn number(self) -> u32
+        ensures { λ r. ⌜ r ≡ numberOf self ⌝ }
+    {
+        match self {
+            Refusal::SheetTooShort => 1,
+            Refusal::CountExceedsLimit => 2,
+            Refusal::OffsetDiffers => 3,
+            Refusal::LengthDiffers => 4,
+            Refusal::VerticesDoNotRise => 5,
+            Refusal::CellsDoNotRise => 6,
+            Refusal::FaceMissing => 7,
+            Refusal::DimensionExceedsTop => 8,
+            Refusal::SliceTooShort => 9,
+            Refusal::ChainLengthDiffers => 10,
+            Refusal::CoefficientExceedsLimit => 11,
+            Refusal::BoundaryNotZero => 12,
+            Refusal::TooWide => 13,
+        }
+    }
+}

@@ -1,0 +1,158 @@
+-- `Sheet::read` meets its contract: at each `return` the checks that passed and the one that told a fault lead through `refusal` to its number.
+use borrow.Author.Needs.{needs}
+use borrow.Author.Tests.{lt-ltb, le-ltb, eq-eqb, ne-eqb}
+use mathlib.Core.Path.{_≡_, sym, ap, _∙_}
+use mathlib.Core.Bool.{false, not}
+use mathlib.Core.List.{List}
+use Prim.Native.Nat.{ℕ}
+use lib.ListN.{length}
+use denote.Ref.{now}
+use Rattle.sheet_format.specs.Check.{startAt, sectionsOf, tooShort, countExceeds, offsetDiffers, lengthDiffers, verticesFall, cellsFall, refusal}
+use Rattle.sheet.proofs.reader.Sheet.read.Statement.{statement}
+use Rattle.sheet.proofs.reader.Sheet.read.Tie as tie
+
+-- the sheet, and the checks that passed on the way to the next
+abbrev Bytes : tie.Start → List ℕ
+Bytes c = now (c .args .s)
+
+abbrev start₁ : tie.Else1 → tie.Start
+start₁ c = c .before .before
+
+abbrev start₂ : tie.Else2 → tie.Start
+start₂ c = start₁ (c .before .before)
+
+abbrev start₃ : tie.Else3 → tie.Start
+start₃ c = start₂ (c .before .before)
+
+abbrev start₄ : tie.Else4 → tie.Start
+start₄ c = start₃ (c .before .before)
+
+abbrev start₅ : tie.Else5 → tie.Start
+start₅ c = start₄ (c .before .before)
+
+abbrev start₆ : tie.Else6 → tie.Start
+start₆ c = start₅ (c .before .before)
+
+long : (c : tie.Else1) → tooShort (Bytes (start₁ c)) ≡ false
+long c = le-ltb (length (Bytes (start₁ c))) 16 (c .if1 .left)
+
+counts : (c : tie.Else2) → countExceeds (start₂ c .args .self .limit) (Bytes (start₂ c)) ≡ false
+counts c = sym (c .before .count-exceeds .ensures) ∙ c .if2 .left
+
+offsets : (c : tie.Else3) → offsetDiffers (Bytes (start₃ c)) ≡ false
+offsets c = sym (c .before .offset-differs .ensures) ∙ c .if3 .left
+
+ends : (c : tie.Else4) → lengthDiffers (Bytes (start₄ c)) ≡ false
+ends c = ap not (eq-eqb (length (Bytes (start₄ c))) (startAt (Bytes (start₄ c)) 4) (c .if4 .left ∙ c .before .start .ensures .is))
+
+vertices : (c : tie.Else5) → verticesFall (sectionsOf (Bytes (start₅ c))) ≡ false
+vertices c = sym (c .before .vertices-fall .ensures) ∙ c .if5 .left
+
+cells : (c : tie.Else6) → cellsFall (sectionsOf (Bytes (start₆ c))) ≡ false
+cells c = sym (c .before .cells-fall .ensures) ∙ c .if6 .left
+
+returns : tie.Need-returns
+unfolding refusal
+returns c = rw (lt-ltb (length (Bytes (c .before .before))) 16 (c .if1 .taken))
+
+count-exceeds-requires : tie.Need-count-exceeds-requires
+count-exceeds-requires c κs = search needs
+
+returns-2 : tie.Need-returns-2
+unfolding refusal
+returns-2 c = rw (long (c .before .before), ← c .before .count-exceeds .ensures, c .if2 .taken)
+
+offset-differs-requires : tie.Need-offset-differs-requires
+offset-differs-requires c κs = search needs
+
+returns-3 : tie.Need-returns-3
+unfolding refusal
+returns-3 c =
+    let c₂ = c .before .before in
+    let c₁ = c₂ .before .before in
+    rw (long c₁, counts c₂, ← c .before .offset-differs .ensures, c .if3 .taken)
+
+add-start : tie.Need-add-start
+add-start c = search needs
+
+start-requires : tie.Need-start-requires
+start-requires c κs = search needs
+
+returns-4 : tie.Need-returns-4
+unfolding refusal
+returns-4 c =
+    let c₃ = c .before .before in
+    let c₂ = c₃ .before .before in
+    let c₁ = c₂ .before .before in
+    let b = Bytes (start₃ c₃) in
+    rw (long c₁, counts c₂, offsets c₃, ne-eqb (length b) (startAt b 4) (λ e. c .if4 .taken (e ∙ sym (c .before .start .ensures .is))))
+
+vertices-fall-requires : tie.Need-vertices-fall-requires
+vertices-fall-requires c κs = search needs
+
+returns-5 : tie.Need-returns-5
+unfolding refusal
+returns-5 c =
+    let c₄ = c .before .before in
+    let c₃ = c₄ .before .before in
+    let c₂ = c₃ .before .before in
+    let c₁ = c₂ .before .before in
+    rw (long c₁, counts c₂, offsets c₃, ends c₄, ← c .before .vertices-fall .ensures, c .if5 .taken)
+
+cells-fall-requires : tie.Need-cells-fall-requires
+cells-fall-requires c κs = search needs
+
+returns-6 : tie.Need-returns-6
+unfolding refusal
+returns-6 c =
+    let c₅ = c .before .before in
+    let c₄ = c₅ .before .before in
+    let c₃ = c₄ .before .before in
+    let c₂ = c₃ .before .before in
+    let c₁ = c₂ .before .before in
+    rw (long c₁, counts c₂, offsets c₃, ends c₄, vertices c₅, ← c .before .cells-fall .ensures, c .if6 .taken)
+
+face-missing-requires : tie.Need-face-missing-requires
+face-missing-requires c κs = cells c
+
+returns-7 : tie.Need-returns-7
+unfolding refusal
+returns-7 c =
+    let c₆ = c .before .before in
+    let c₅ = c₆ .before .before in
+    let c₄ = c₅ .before .before in
+    let c₃ = c₄ .before .before in
+    let c₂ = c₃ .before .before in
+    let c₁ = c₂ .before .before in
+    rw (long c₁, counts c₂, offsets c₃, ends c₄, vertices c₅, cells c₆, ← c .before .face-missing .ensures, c .if7 .taken)
+
+returns-8 : tie.Need-returns-8
+unfolding refusal
+returns-8 c =
+    let c₆ = c .before .before in
+    let c₅ = c₆ .before .before in
+    let c₄ = c₅ .before .before in
+    let c₃ = c₄ .before .before in
+    let c₂ = c₃ .before .before in
+    let c₁ = c₂ .before .before in
+    rw (long c₁, counts c₂, offsets c₃, ends c₄, vertices c₅, cells c₆, ← c .before .face-missing .ensures, c .if7 .left)
+
+pub read-spec : {M : Type 1} → statement M
+read-spec =
+    tie.close
+    (tie.spec
+    returns
+    count-exceeds-requires
+    returns-2
+    offset-differs-requires
+    returns-3
+    add-start
+    start-requires
+    returns-4
+    vertices-fall-requires
+    returns-5
+    cells-fall-requires
+    returns-6
+    face-missing-requires
+    returns-7
+    returns-8)

@@ -1,0 +1,75 @@
+// The checks 1 to 7 in document 01's order.
+ghost use mathlib.Core.Path.{_≡_};
+ghost use Rattle.sheet_format.specs.Check.{refusal};
+ghost use Rattle.sheet.specs.Number.{readingNumber};
+use crate::check::cells_fall;
+use crate::check::count_exceeds;
+use crate::check::face_missing;
+use crate::check::offset_differs;
+use crate::check::vertices_fall;
+use crate::field::HEADER_LENGTH;
+use crate::field::TOP;
+use crate::field::start;
+use refusal::Refusal;
+
+// A sheet is read at a limit for its counts.
+pub struct Sheet {
+    pub limit: usize,
+}
+
+pub enum Reading {
+    Accepted,
+    Refused(Refusal),
+}
+
+impl Sheet {
+    pub const LIBRARY_LIMIT: usize = 256;
+
+    pub const HOST_LIMIT: usize = 48;
+
+    // The sheet of the library's calls.
+    pub fn library() -> Sheet
+        ensures { λ r. do ⌜ r .limit ≡ (← ⟦Self::LIBRARY_LIMIT⟧ .entry) ⌝ }
+    {
+        Sheet {
+            limit: Self::LIBRARY_LIMIT,
+        }
+    }
+
+    // The sheet of the program and the host calls.
+    pub fn host() -> Sheet
+        ensures { λ r. do ⌜ r .limit ≡ (← ⟦Self::HOST_LIMIT⟧ .entry) ⌝ }
+    {
+        Sheet {
+            limit: Self::HOST_LIMIT,
+        }
+    }
+
+    // Accepted, or the first refusal that applies.
+    pub fn read(self, s: &[u8]) -> Reading
+        ensures { λ r. ⌜ readingNumber r ≡ refusal (self .limit) (now (s .entry)) ⌝ }
+    {
+        if s.len() < HEADER_LENGTH {
+            return Reading::Refused(Refusal::SheetTooShort);
+        }
+        if count_exceeds(s, self.limit) {
+            return Reading::Refused(Refusal::CountExceedsLimit);
+        }
+        if offset_differs(s) {
+            return Reading::Refused(Refusal::OffsetDiffers);
+        }
+        if s.len() != start(s, TOP + 1) {
+            return Reading::Refused(Refusal::LengthDiffers);
+        }
+        if vertices_fall(s) {
+            return Reading::Refused(Refusal::VerticesDoNotRise);
+        }
+        if cells_fall(s) {
+            return Reading::Refused(Refusal::CellsDoNotRise);
+        }
+        if face_missing(s) {
+            return Reading::Refused(Refusal::FaceMissing);
+        }
+        Reading::Accepted
+    }
+}
