@@ -1,0 +1,6 @@
+-- What the proofs of the crate share.
+pub mod Words
+pub mod Store
+pub mod Spans
+pub mod Holding
+pub mod Operations

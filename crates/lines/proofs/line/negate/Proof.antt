@@ -1,0 +1,121 @@
+-- `line::negate` meets its contract. The invariant: the places passed hold the negated entries. The measure is what is left of the line.
+-- Assumes nothing.
+use mathlib.Core.Path.{_≡_, subst}
+use mathlib.Core.List.{List}
+use Prim.Native.Nat.{ℕ, _+_, _-_, _<_, _≤_}
+use native.Mathlib.Omega.{arith}
+use native.Mathlib.Nat as NatL
+use lib.ListN.{length, set}
+use mir.Syntax.{w32}
+use Rattle.integers.specs.Ring.{zero-add}
+use Rattle.integers.specs.Order.{natAbs-neg}
+use mir.Val.{SFits}
+use lib.IntN.{ℤ, pos, negℤ, natAbs, _-ℤ_}
+use Rattle.lines.specs.Slice.{limit, at, LineSet}
+use Rattle.lines.proofs.Store.{lineSet-none, lineSet-more, lineSet-next}
+use Rattle.lines.proofs.Words.{read, entry-fits, read-entry}
+use Rattle.lines.proofs.line.negate.Statement.{statement}
+use Rattle.lines.proofs.line.negate.Tie as tie
+
+abbrev negated : List ℤ → ℕ → ℕ → ℤ
+negated w start t = negℤ (at w (start + t))
+
+record Invariant (w₀ : List ℤ) (start width t : ℕ) (w : List ℤ) : Type 0 where
+  below : t ≤ width
+  inside : start + width ≤ length w₀
+  so-far : LineSet w₀ start t (negated w₀ start) w
+
+module _ {w₀ : List ℤ} {start width t : ℕ} {w : List ℤ} (inv : Invariant w₀ start width t w) where
+  -- what the machine computes
+  opposite-is : t < width → pos 0 -ℤ read w32 (at w (start + t)) ≡ negated w₀ start t
+  opposite-is more =
+      rw (read-entry (at w (start + t)) (inv .so-far .small .bound (start + t)), lineSet-next w₀ w start t (negated w₀ start) (omega arith) (inv .so-far))
+      (zero-add (negated w₀ start t))
+
+  opposite-small : t < width → natAbs (negated w₀ start t) ≤ limit
+  opposite-small more =
+      rw (natAbs-neg (at w₀ (start + t)), ← lineSet-next w₀ w start t (negated w₀ start) (omega arith) (inv .so-far)) (inv .so-far .small .bound (start + t))
+
+  fits : t < width → SFits w32 (pos 0 -ℤ read w32 (at w (start + t)))
+  fits more = rw (opposite-is more) (entry-fits (negated w₀ start t) (opposite-small more))
+
+  -- a turn of the loop
+  again : t < width → Invariant w₀ start width (t + 1) (set w (start + t) (read w32 (pos 0 -ℤ read w32 (at w (start + t)))))
+  again more = record {
+    below = omega arith;
+    inside = inv .inside;
+    so-far = rw (opposite-is more, read-entry (negated w₀ start t) (opposite-small more))
+        (lineSet-more w₀ w start t (negated w₀ start) (omega arith) (inv .so-far) (opposite-small more));
+  }
+
+  ended : width ≤ t → LineSet w₀ start width (negated w₀ start) w
+  ended done = subst (λ (n : ℕ). LineSet w₀ start n (negated w₀ start) w) (NatL.le-antisymm (inv .below) done) (inv .so-far)
+
+abbrev Inv-loop : tie.InvT-loop
+Inv-loop w₀ start width t₀ w t = Invariant w₀ start width t w
+
+abbrev μ-loop : tie.MeasureT-loop
+μ-loop w₀ start width t₀ w t = width - t
+
+loop-holds : tie.Need-loop-holds Inv-loop μ-loop
+loop-holds c = record {
+  below = omega arith;
+  inside = c .pre .0;
+  so-far = lineSet-none (c .args .w .now) (c .args .at) (negated (c .args .w .now) (c .args .at)) (c .pre .1);
+}
+
+add-w : tie.Need-add-w Inv-loop μ-loop
+add-w c = omega arith
+
+mul-w : tie.Need-mul-w Inv-loop μ-loop
+mul-w c = omega arith
+
+slice-copy-out-w : tie.Need-slice-copy-out-w Inv-loop μ-loop
+slice-copy-out-w c = omega arith
+
+sub-w : tie.Need-sub-w Inv-loop μ-loop
+sub-w c = fits (c .before .before .loop .inv) (c .before .loop-test .taken)
+
+add-t11 : tie.Need-add-t11 Inv-loop μ-loop
+add-t11 c = omega arith
+
+mul-t12 : tie.Need-mul-t12 Inv-loop μ-loop
+mul-t12 c = omega arith
+
+slice-set-from-w : tie.Need-slice-set-from-w Inv-loop μ-loop
+slice-set-from-w c = omega arith
+
+add-t : tie.Need-add-t Inv-loop μ-loop
+add-t c = omega arith
+
+loop-less : tie.Need-loop-less Inv-loop μ-loop
+loop-less c = omega arith
+
+loop-again : tie.Need-loop-again Inv-loop μ-loop
+loop-again c = again (c .before .before .loop .inv) (c .before .loop-test .taken)
+
+same-length : tie.Need-same-length Inv-loop μ-loop
+same-length c = c .before .loop .inv .so-far .same-length
+
+returns : tie.Need-returns Inv-loop μ-loop
+returns c = ended (c .before .loop .inv) (c .loop-test .left)
+
+pub negate-spec : {M : Type 1} → statement M
+negate-spec =
+    tie.close
+    (tie.spec
+    Inv-loop
+    μ-loop
+    loop-holds
+    add-w
+    mul-w
+    slice-copy-out-w
+    sub-w
+    add-t11
+    mul-t12
+    slice-set-from-w
+    add-t
+    loop-less
+    loop-again
+    same-length
+    returns)

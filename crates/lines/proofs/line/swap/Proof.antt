@@ -1,0 +1,130 @@
+-- `line::swap` meets its contract. The invariant: the places passed have been exchanged. The measure is what is left of the lines.
+-- Assumes nothing.
+use mathlib.Core.Path.{_≡_, subst}
+use mathlib.Core.Logic.{_⊎_}
+use mathlib.Core.List.{List}
+use Prim.Native.Nat.{ℕ, _+_, _-_, _<_, _≤_}
+use native.Mathlib.Omega.{arith}
+use native.Mathlib.Nat as NatL
+use lib.ListN.{length, set, length-set}
+use mir.Syntax.{w32}
+use lib.IntN.{ℤ}
+use Rattle.lines.specs.Slice.{at, Apart, LinesSwapped}
+use Rattle.lines.proofs.Store.{swapped-none, swapped-more}
+use Rattle.lines.proofs.Words.{read, read-entry}
+use Rattle.lines.proofs.line.swap.Statement.{statement}
+use Rattle.lines.proofs.line.swap.Tie as tie
+
+record Invariant (w₀ : List ℤ) (first second width t : ℕ) (w : List ℤ) : Type 0 where
+  below : t ≤ width
+  first-inside : first + width ≤ length w₀
+  second-inside : second + width ≤ length w₀
+  apart : (first ≡ second) ⊎ Apart first second width
+  swapped : LinesSwapped w₀ first second t w
+
+module _ {w₀ : List ℤ} {first second width t : ℕ} {w : List ℤ} (inv : Invariant w₀ first second width t w) where
+  -- a turn of the loop
+  again : t < width → Invariant w₀ first second width (t + 1) (set (set w (first + t) (read w32 (at w (second + t)))) (second + t) (read w32 (at w (first + t))))
+  again more = record {
+    below = omega arith;
+    first-inside = inv .first-inside;
+    second-inside = inv .second-inside;
+    apart = inv .apart;
+    swapped = rw (read-entry (at w (first + t)) (inv .swapped .small .bound (first + t)), read-entry (at w (second + t)) (inv .swapped .small .bound (second + t)))
+        (swapped-more w₀ w first second width t more (inv .first-inside) (inv .second-inside) (inv .apart) (inv .swapped));
+  }
+
+  ended : width ≤ t → LinesSwapped w₀ first second width w
+  ended done = subst (λ (n : ℕ). LinesSwapped w₀ first second n w) (NatL.le-antisymm (inv .below) done) (inv .swapped)
+
+abbrev Inv-loop : tie.InvT-loop
+Inv-loop w₀ first second width t₀ w t = Invariant w₀ first second width t w
+
+abbrev μ-loop : tie.MeasureT-loop
+μ-loop w₀ first second width t₀ w t = width - t
+
+loop-holds : tie.Need-loop-holds Inv-loop μ-loop
+loop-holds c = record {
+  below = omega arith;
+  first-inside = c .pre .0 .0;
+  second-inside = c .pre .0 .1;
+  apart = c .pre .1 .0;
+  swapped = swapped-none (c .args .w .now) (c .args .first) (c .args .second) (c .pre .1 .1);
+}
+
+add-x : tie.Need-add-x Inv-loop μ-loop
+add-x c = omega arith
+
+mul-x : tie.Need-mul-x Inv-loop μ-loop
+mul-x c = omega arith
+
+slice-copy-out-x : tie.Need-slice-copy-out-x Inv-loop μ-loop
+slice-copy-out-x c = omega arith
+
+add-w : tie.Need-add-w Inv-loop μ-loop
+add-w c = omega arith
+
+mul-w : tie.Need-mul-w Inv-loop μ-loop
+mul-w c = omega arith
+
+slice-copy-out-w : tie.Need-slice-copy-out-w Inv-loop μ-loop
+slice-copy-out-w c = omega arith
+
+add-t13 : tie.Need-add-t13 Inv-loop μ-loop
+add-t13 c = omega arith
+
+mul-t14 : tie.Need-mul-t14 Inv-loop μ-loop
+mul-t14 c = omega arith
+
+slice-set-from-w : tie.Need-slice-set-from-w Inv-loop μ-loop
+slice-set-from-w c = omega arith
+
+add-x-2 : tie.Need-add-x-2 Inv-loop μ-loop
+add-x-2 c = omega arith
+
+mul-x-2 : tie.Need-mul-x-2 Inv-loop μ-loop
+mul-x-2 c = omega arith
+
+slice-set-from-x : tie.Need-slice-set-from-x Inv-loop μ-loop
+slice-set-from-x c = simp length-set (omega arith)
+
+add-t : tie.Need-add-t Inv-loop μ-loop
+add-t c = omega arith
+
+loop-less : tie.Need-loop-less Inv-loop μ-loop
+loop-less c = omega arith
+
+loop-again : tie.Need-loop-again Inv-loop μ-loop
+loop-again c =
+    let inv = c .before .before .before .loop .inv in again inv (c .before .before .loop-test .taken)
+
+same-length : tie.Need-same-length Inv-loop μ-loop
+same-length c = c .before .loop .inv .swapped .same-length
+
+returns : tie.Need-returns Inv-loop μ-loop
+returns c = ended (c .before .loop .inv) (c .loop-test .left)
+
+pub swap-spec : {M : Type 1} → statement M
+swap-spec =
+    tie.close
+    (tie.spec
+    Inv-loop
+    μ-loop
+    loop-holds
+    add-x
+    mul-x
+    slice-copy-out-x
+    add-w
+    mul-w
+    slice-copy-out-w
+    add-t13
+    mul-t14
+    slice-set-from-w
+    add-x-2
+    mul-x-2
+    slice-set-from-x
+    add-t
+    loop-less
+    loop-again
+    same-length
+    returns)

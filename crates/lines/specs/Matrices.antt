@@ -1,0 +1,51 @@
+-- A matrix in a slice, and what an operation on it leaves.
+use mathlib.Core.Path.{_≡_}
+use mathlib.Core.Logic.{_⊎_}
+use mathlib.Core.List.{List}
+use Prim.Native.Nat.{ℕ, _+_, _*_, _<_, _≤_}
+use lib.ListN.{length}
+use lib.IntN.{ℤ, natAbs}
+use Rattle.matrices.specs.Matrix.{Eq}
+use Rattle.matrices.specs.Matrix as theory
+use Rattle.lines.specs.Slice.{limit, at, lineAt, Small}
+use Rattle.lines.specs.declared.matrix.Matrix.{Matrix}
+use Rattle.lines.specs.declared.line.Written.{Written}
+use Rattle.lines.specs.declared.line.Written.the-variants.{Done, TooWide}
+
+-- one past the last place of the matrix
+abbrev pub end : Matrix → ℕ
+end M = M .at + M .lines * M .width
+
+-- the matrix lies within a slice of length n
+pub record Held (n : ℕ) (M : Matrix) : Type 0 where
+  pub ends : end M ≤ n
+
+-- its entries
+abbrev pub contents : Matrix → List ℤ → theory.Matrix
+contents M w i j = at w (lineAt (M .at) (M .width) i + j)
+
+-- a place that is not the matrix's
+abbrev pub Off : Matrix → ℕ → Type 0
+Off M i = (i < M .at) ⊎ (end M ≤ i)
+
+-- w′ holds A where the matrix stands, and is w elsewhere
+pub record Holds (M : Matrix) (w : List ℤ) (A : theory.Matrix) (w′ : List ℤ) : Type 0 where
+  pub same-length : length w′ ≡ length w
+  pub on : Eq (M .lines) (M .width) (contents M w′) A
+  pub off : (i : ℕ) → Off M i → at w′ i ≡ at w i
+  pub small : Small w′
+
+-- some entry of A lies beyond the limit; what the slice holds now lies within it
+pub record Exceeds (M : Matrix) (w : List ℤ) (A : theory.Matrix) (w′ : List ℤ) : Type 0 where
+  pub same-length : length w′ ≡ length w
+  pub line : ℕ
+  pub place : ℕ
+  pub line-below : line < M .lines
+  pub place-below : place < M .width
+  pub beyond : limit < natAbs (A line place)
+  pub small : Small w′
+
+-- what an operation that makes A of the matrix answers and leaves
+abbrev pub Became : Matrix → List ℤ → theory.Matrix → Written → List ℤ → Type 0
+Became M w A Done w′ = Holds M w A w′
+Became M w A TooWide w′ = Exceeds M w A w′

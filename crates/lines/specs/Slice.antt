@@ -1,0 +1,89 @@
+-- Lines of a slice, and what an operation on them leaves. A slice is the list of its entries.
+use mathlib.Core.Path.{_≡_}
+use mathlib.Core.Logic.{_⊎_, _≢_}
+use mathlib.Core.Bool.{Bool, true, false}
+use mathlib.Core.List.{List}
+use Prim.Native.Nat.{ℕ, _+_, _*_, _<_, _≤_}
+use lib.ListN.{length, getD}
+use lib.IntN.{ℤ, pos, negℤ, natAbs, _-ℤ_, _*ℤ_}
+use Rattle.lines.specs.declared.line.Written.{Written}
+use Rattle.lines.specs.declared.line.Written.the-variants.{Done, TooWide}
+
+-- the greatest absolute value of an entry: document 01's W
+abbrev pub limit : ℕ
+limit = 1048575
+
+-- the entry at place i, 0 past the end
+abbrev pub at : List ℤ → ℕ → ℤ
+at w i = getD w i (pos 0)
+
+-- where line i of a matrix stands
+abbrev pub lineAt : ℕ → ℕ → ℕ → ℕ
+lineAt start width i = start + i * width
+
+-- every entry lies within the limit
+pub record Small (w : List ℤ) : Type 0 where
+  pub bound : (i : ℕ) → natAbs (at w i) ≤ limit
+
+-- two lines share no place
+abbrev pub Apart : ℕ → ℕ → ℕ → Type 0
+Apart a b width = (a + width ≤ b) ⊎ (b + width ≤ a)
+
+-- place i is not on the line at a
+abbrev pub Off : ℕ → ℕ → ℕ → Type 0
+Off a width i = (i < a) ⊎ (a + width ≤ i)
+
+-- w′ is w but for the line at `target`, which now holds `line`; all its entries lie within the limit
+pub record LineSet (w : List ℤ) (target width : ℕ) (line : ℕ → ℤ) (w′ : List ℤ) : Type 0 where
+  pub same-length : length w′ ≡ length w
+  pub on : (t : ℕ) → t < width → at w′ (target + t) ≡ line t
+  pub off : (i : ℕ) → Off target width i → at w′ i ≡ at w i
+  pub small : Small w′
+
+-- some entry of the line would lie beyond the limit; what was written so far lies within it
+pub record Beyond (w : List ℤ) (width : ℕ) (line : ℕ → ℤ) (w′ : List ℤ) : Type 0 where
+  pub same-length : length w′ ≡ length w
+  pub place : ℕ
+  pub below : place < width
+  pub beyond : limit < natAbs (line place)
+  pub small : Small w′
+
+-- the line at `target` less q times the line at `source`
+abbrev pub difference : List ℤ → ℕ → ℕ → ℤ → ℕ → ℤ
+difference w target source q t = at w (target + t) -ℤ q *ℤ at w (source + t)
+
+-- q times the line at `source` is taken from the line at `target`
+abbrev pub Subtracted : List ℤ → ℕ → ℕ → ℕ → ℤ → Written → List ℤ → Type 0
+Subtracted w target source width q Done w′ = LineSet w target width (difference w target source q) w′
+Subtracted w target source width q TooWide w′ = Beyond w width (difference w target source q) w′
+
+-- the two lines have changed places
+pub record LinesSwapped (w : List ℤ) (first second width : ℕ) (w′ : List ℤ) : Type 0 where
+  pub same-length : length w′ ≡ length w
+  pub on-first : (t : ℕ) → t < width → at w′ (first + t) ≡ at w (second + t)
+  pub on-second : (t : ℕ) → t < width → at w′ (second + t) ≡ at w (first + t)
+  pub off : (i : ℕ) → Off first width i → Off second width i → at w′ i ≡ at w i
+  pub small : Small w′
+
+abbrev pub Swapped : List ℤ → ℕ → ℕ → ℕ → Written → List ℤ → Type 0
+Swapped w first second width Done w′ = LinesSwapped w first second width w′
+Swapped w first second width TooWide w′ = ⊥
+
+abbrev pub Negated : List ℤ → ℕ → ℕ → Written → List ℤ → Type 0
+Negated w target width Done w′ = LineSet w target width (λ t. negℤ (at w (target + t))) w′
+Negated w target width TooWide w′ = ⊥
+
+-- the `count` entries at `start`, `start + step`, .. are all 0
+pub record AllZero (w : List ℤ) (start step count : ℕ) : Type 0 where
+  pub zero : (t : ℕ) → t < count → at w (lineAt start step t) ≡ pos 0
+
+-- one of them is not
+pub record SomeNonzero (w : List ℤ) (start step count : ℕ) : Type 0 where
+  pub place : ℕ
+  pub below : place < count
+  pub nonzero : at w (lineAt start step place) ≢ pos 0
+
+-- what a test for zeros answers
+pub record ZeroTest (w : List ℤ) (start step count : ℕ) (r : Bool) : Type 0 where
+  pub on-true : r ≡ true → AllZero w start step count
+  pub on-false : r ≡ false → SomeNonzero w start step count

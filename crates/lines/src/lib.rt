@@ -1,0 +1,3 @@
+// Matrices in a lent slice of signed 32-bit numbers, and operations on their lines.
+pub mod line;
+pub mod matrix;

@@ -1,0 +1,100 @@
+// Operations on lines: `width` consecutive entries of a slice from a place on. Each answers whether every entry that it writes lies within the
+// limit; where one does not, the work ends there.
+ghost use mathlib.Core.Path.{_≡_};
+ghost use mathlib.Core.Logic.{_⊎_};
+ghost use Prim.Native.Nat.{ℕ, _+_, _*_, _<_, _≤_};
+ghost use lib.ListN.{length, getD, replicate};
+ghost use lib.IntN.{pos, natAbs};
+ghost use Rattle.lines.specs.Slice.{limit, Small, Apart, Subtracted, Swapped, Negated, ZeroTest};
+use crate::matrix::Matrix;
+
+// What an operation answers.
+pub enum Written {
+    Done,
+    TooWide,
+}
+
+// Takes q times the line at `source` from the line at `target`.
+pub fn subtract(w: &mut [i32], target: usize, source: usize, width: usize, q: i64) -> Written
+    requires { ⌜ (target + width ≤ length (now w)) × (source + width ≤ length (now w)) ⌝ }
+    requires { ⌜ Apart target source width ⌝ }
+    requires { ⌜ Small (now w) ⌝ }
+    requires { ⌜ natAbs q ≤ limit ⌝ }
+    ensures { λ r. ⌜ Subtracted (now (w .entry)) target source width q r (now (w .exit)) ⌝ }
+{
+    if q == 0 {
+        return Written::Done;
+    }
+    let mut t: usize = 0;
+    while t < width {
+        let x = w[target + t] as i64;
+        let y = w[source + t] as i64;
+        let v = x - q * y;
+        if v < -Matrix::ENTRY_LIMIT {
+            return Written::TooWide;
+        }
+        if Matrix::ENTRY_LIMIT < v {
+            return Written::TooWide;
+        }
+        w[target + t] = v as i32;
+        t = t + 1;
+    }
+    Written::Done
+}
+
+// Exchanges the lines at `first` and `second`, which are one line or apart.
+pub fn swap(w: &mut [i32], first: usize, second: usize, width: usize) -> Written
+    requires { ⌜ (first + width ≤ length (now w)) × (second + width ≤ length (now w)) ⌝ }
+    requires { ⌜ (first ≡ second) ⊎ Apart first second width ⌝ }
+    requires { ⌜ Small (now w) ⌝ }
+    ensures { λ r. ⌜ Swapped (now (w .entry)) first second width r (now (w .exit)) ⌝ }
+{
+    let mut t: usize = 0;
+    while t < width {
+        let x = w[first + t];
+        w[first + t] = w[second + t];
+        w[second + t] = x;
+        t = t + 1;
+    }
+    Written::Done
+}
+
+// Negates the line at `at`.
+pub fn negate(w: &mut [i32], at: usize, width: usize) -> Written
+    requires { ⌜ at + width ≤ length (now w) ⌝ }
+    requires { ⌜ Small (now w) ⌝ }
+    ensures { λ r. ⌜ Negated (now (w .entry)) at width r (now (w .exit)) ⌝ }
+{
+    let mut t: usize = 0;
+    while t < width {
+        w[at + t] = -w[at + t];
+        t = t + 1;
+    }
+    Written::Done
+}
+
+// Sets every entry of the slice to 0.
+pub fn clear(w: &mut [i32])
+    ensures { λ r. ⌜ now (w .exit) ≡ replicate (length (now (w .entry))) (pos 0) ⌝ }
+{
+    let mut t: usize = 0;
+    while t < w.len() {
+        w[t] = 0;
+        t = t + 1;
+    }
+}
+
+// Whether the `count` entries at, at + step, .. are all 0.
+pub fn is_zero(w: &[i32], at: usize, step: usize, count: usize) -> bool
+    requires { ⌜ ((t : ℕ) → t < count → at + t * step < length (now w)) ⌝ }
+    ensures { λ r. ⌜ ZeroTest (now (w .entry)) at step count r ⌝ }
+{
+    let mut t: usize = 0;
+    while t < count {
+        if w[at + t * step] != 0 {
+            return false;
+        }
+        t = t + 1;
+    }
+    true
+}

@@ -1,0 +1,319 @@
+-- Where the functions of a stage go, with what holds there (`Onward`): to-rows, rows-to-choice, rows-to-columns, columns-to-choice, row-clear,
+-- columns-again. How a stage ends: onward-ends where it goes on, exhausted, cleared, and pass-stops and add-stops where it goes too wide.
+use mathlib.Core.Path.{_≡_, refl, sym, ap, _∙_, subst}
+use mathlib.Core.Bool.{Bool, true, false}
+use mathlib.Core.List.{List}
+use Prim.Native.Nat.{ℕ, suc, _+_, _-_, _≤_, _<_}
+use native.Mathlib.Nat as Nat
+use native.Mathlib.Decide.{ℕ-discrete}
+use native.Mathlib.Omega.{arith}
+use lib.IntN.{ℤ, pos, negsuc, natAbs}
+use lib.ListN.{length, replicate}
+use Rattle.integers.specs.Divides.{_∣ℤ_}
+use Rattle.integers.specs.Floor.{dvd-iff-modulo}
+use Rattle.matrices.specs.Matrix.{Matrix}
+use Rattle.matrices.specs.Operation.{subtract}
+use Rattle.reduction_steps.specs.State.{Outcome, tooWide, made, onRow}
+use Rattle.reduction_steps.specs.Pivot.{Choice, none, place, release1, Least}
+use Rattle.reduction_steps.specs.PivotLaws.{release1-is-rule, release1-cong}
+use Rattle.reduction_steps.specs.Step.{Letter, Machine, at, wide, columnKeeps, rowKeeps, firstIndivisible, Row, noRow, row}
+use Rattle.reduction_laws.specs.Run.{reaches-next, reaches-trans}
+use Rattle.reduction_laws.specs.Shape.{Shaped}
+use Rattle.reduction_laws.specs.Steps.{step-a-none, step-a-wide, step-a-made, step-c-wide, step-c-made, step-d-wide, step-d-made, step-e-none, step-e-wide, step-e-made}
+use Rattle.reduction_laws.specs.Scans.{FirstRow, firstIndivisible-row}
+use Rattle.reduction_laws.specs.Letters.{ReadyC, ReadyE, AfterA, after-a, AfterC, after-c, after-c-keeps, after-c-clear, AfterD, after-d, after-d-keeps, after-d-clear, AfterE, after-e}
+use Rattle.lines.specs.Slice.{limit, Small}
+use Rattle.lines.specs.Matrices.{contents}
+use Rattle.refusal.specs.declared.Refusal.{Refusal}
+use Rattle.refusal.specs.declared.Refusal.the-variants as refusal
+use Rattle.work.specs.Layout.{Laid, sizesOf, stateOf}
+use Rattle.work.specs.declared.operations.Work.{Work}
+use Rattle.reducer.specs.declared.pass.Pass.{Pass}
+use Rattle.reducer.specs.declared.pass.Pass.the-variants as pass
+use Rattle.reducer.specs.declared.stage.Stage.{Stage}
+use Rattle.reducer.specs.declared.stage.Stage.the-variants as stage
+use Rattle.reducer.specs.Answer.{matrixOf, RowsDone, Begun, Placed, ColumnClear, bringOf, rowPassOf, columnPassOf, Passed, PassMade, PassRefused, Goes, StageCleared, StageExhausted, StageRefused, StageEnds}
+use Rattle.reducer.proofs.States.{entry-state, shaped-state, rowsDone-moves}
+use Rattle.reducer.proofs.Tests.{columnKeeps-cong, rowKeeps-cong, firstIndivisible-cong}
+use Rattle.reducer.proofs.Measures.{choiceMeasure, rowMeasure, columnMeasure, chosen-falls, column-below-row, column-after-add, choice-below-column, choice-below-row}
+
+-- a measure of the matrix that a slice holds
+abbrev pub measured : (ℕ → ℕ → ℕ → Matrix → ℕ) → Work → ℕ → List ℤ → ℕ
+measured μ W k w = μ (W .matrix .lines) (W .matrix .width) k (matrixOf W w)
+
+-- From the machine x the work has come to letter l with the slice w′, of which P holds, and the measure μ there lies below the bound.
+pub record Onward (P : Work → ℕ → List ℤ → Type 0) (μ : ℕ → ℕ → ℕ → Matrix → ℕ) (l : Letter) (W : Work) (k : ℕ) (x : Machine) (n bound : ℕ) (w′ : List ℤ) : Type 0 where
+  pub holds : P W k w′
+  pub falls : measured μ W k w′ < bound
+  pub goes : Goes W x (at l k (stateOf W w′))
+  pub same-length : length w′ ≡ n
+
+-- from the choice to the row pass
+abbrev pub ToRows : Work → ℕ → List ℤ → List ℤ → Type 0
+ToRows W k w w′ = Onward Placed rowMeasure Letter.c W k (at Letter.a k (stateOf W w)) (length w) (measured choiceMeasure W k w) w′
+
+-- from the row pass back to the choice, or to the column pass
+abbrev pub RowsToChoice : Work → ℕ → List ℤ → List ℤ → Type 0
+RowsToChoice W k w w′ = Onward Begun choiceMeasure Letter.a W k (at Letter.c k (stateOf W w)) (length w) (measured rowMeasure W k w) w′
+
+abbrev pub RowsToColumns : Work → ℕ → List ℤ → List ℤ → Type 0
+RowsToColumns W k w w′ = Onward ColumnClear columnMeasure Letter.d W k (at Letter.c k (stateOf W w)) (length w) (measured rowMeasure W k w) w′
+
+-- from the column pass back to the choice, or to the column pass after step e
+abbrev pub ColumnsToChoice : Work → ℕ → List ℤ → List ℤ → Type 0
+ColumnsToChoice W k w w′ = Onward Begun choiceMeasure Letter.a W k (at Letter.d k (stateOf W w)) (length w) (measured columnMeasure W k w) w′
+
+abbrev pub ColumnsAgain : Work → ℕ → List ℤ → List ℤ → Type 0
+ColumnsAgain W k w w′ = Onward ColumnClear columnMeasure Letter.d W k (at Letter.d k (stateOf W w)) (length w) (measured columnMeasure W k w) w′
+
+-- a stage that goes on from y ends as one from x that comes to y
+pub stage-after :
+    (W : Work) (k : ℕ) (x y : Machine) (n : ℕ) (w : List ℤ) (r : Stage) (w′ : List ℤ) → Goes W x y → length w ≡ n → StageEnds W k y (length w) r w′
+    → StageEnds W k x n r w′
+stage-after W k x y n w stage.Cleared w′ g l e = record { goes = reaches-trans limit (sizesOf W) release1 g (e .goes); begun = e .begun; same-length = e .same-length ∙ l }
+stage-after W k x y n w stage.Exhausted w′ g l e = record {
+  goes = reaches-trans limit (sizesOf W) release1 g (e .goes);
+  kept = record { same-length = e .kept .same-length ∙ l; small = e .kept .small };
+}
+stage-after W k x y n w (stage.Refused z) w′ g l e = record {
+  goes = reaches-trans limit (sizesOf W) release1 g (e .goes);
+  cleared = record { number = e .cleared .number; zeros = e .cleared .zeros ∙ ap (λ (n : ℕ). replicate n (pos 0)) l };
+}
+
+pub onward-ends :
+    {P : Work → ℕ → List ℤ → Type 0} {μ : ℕ → ℕ → ℕ → Matrix → ℕ} {l : Letter} {W : Work} {k : ℕ} {x : Machine} {n bound : ℕ} {w : List ℤ}
+    → Onward P μ l W k x n bound w → (r : Stage) (w′ : List ℤ) → StageEnds W k (at l k (stateOf W w)) (length w) r w′ → StageEnds W k x n r w′
+onward-ends {P} {μ} {l} {W} {k} {x} {n} {bound} {w} o r w′ e = stage-after W k x (at l k (stateOf W w)) n w r w′ (o .goes) (o .same-length) e
+
+-- the layout after an operation or a pass
+pub laid-kept : {W : Work} {n : ℕ} (w′ : List ℤ) → Laid n W → length w′ ≡ n → Laid (length w′) W
+laid-kept {W} w′ h l = subst (λ (n : ℕ). Laid n W) (sym l) h
+
+-- a measure below one that is t
+pub below : {m n t : ℕ} → n ≡ t → m < n → m < t
+below {m} e l = subst (λ (n : ℕ). m < n) e l
+
+-- what a pass answered
+pub passed-made : {W : Work} {o : Outcome} {n : ℕ} {r : Pass} {w′ : List ℤ} → r ≡ pass.Made → Passed W o n r w′ → PassMade W o n w′
+passed-made {W} {o} {n} {r} {w′} e h = subst (λ (x : Pass). Passed W o n x w′) e h
+
+-- a pass that went too wide ends the stage
+pub pass-stops :
+    (W : Work) (x : Machine) {o : Outcome} {n : ℕ} (r : Pass) {y : Refusal} (w′ : List ℤ) → (o ≡ tooWide → Goes W x wide) → r ≡ pass.Refused y → Passed W o n r w′
+    → StageRefused W x n refusal.TooWide w′
+pass-stops W x {o} {n} r {y} w′ f e h =
+    let p : PassRefused o n y w′ = subst (λ (x : Pass). Passed W o n x w′) e h in
+    record { goes = f (p .outcome); cleared = record { number = refl; zeros = p .cleared .zeros } }
+
+-- ---- letter a
+
+module _ (W : Work) (k : ℕ) (w : List ℤ) where
+  -- the rule's choice, read from the slice
+  choice-state : release1 (W .matrix .lines) (W .matrix .width) k (contents (W .matrix) w) ≡ release1 (W .matrix .lines) (W .matrix .width) k (matrixOf W w)
+  choice-state = release1-cong (W .matrix .lines) (W .matrix .width) k (contents (W .matrix) w) (matrixOf W w) (λ i j _ a _ b. sym (entry-state W w i j a b))
+
+  -- the choice that the code makes
+  abbrev pub Chosen : Choice → Type 0
+  Chosen c = c ≡ release1 (W .matrix .lines) (W .matrix .width) k (contents (W .matrix) w)
+
+  pub exhausted : Begun W k w → Chosen none → StageExhausted W k (at Letter.a k (stateOf W w)) (length w) w
+  exhausted h e = record {
+    goes = reaches-next limit (sizesOf W) release1 (step-a-none limit (sizesOf W) release1 k (stateOf W w) (sym choice-state ∙ sym e));
+    kept = record { same-length = refl; small = h .small };
+  }
+
+  module _ (i j : ℕ) (e : Chosen (place i j)) where
+    pub chosen-least : Least (W .matrix .lines) (W .matrix .width) k (matrixOf W w) i j
+    chosen-least = release1-is-rule .chosen (W .matrix .lines) (W .matrix .width) k (matrixOf W w) i j (sym choice-state ∙ sym e)
+
+    pub bring-goes : bringOf W k i j w ≡ tooWide → Goes W (at Letter.a k (stateOf W w)) wide
+    bring-goes o = reaches-next limit (sizesOf W) release1 (step-a-wide limit (sizesOf W) release1 k (stateOf W w) i j (sym choice-state ∙ sym e) o)
+
+    pub to-rows :
+        {w′ : List ℤ} → Begun W k w → PassMade W (bringOf W k i j w) (length w) w′
+        → ToRows W k w w′
+    to-rows {w′} h p = record {
+      holds = record { laid = laid-kept w′ (h .laid) (p .kept .same-length); small = p .kept .small; ready = after .ready; rows-done = rowsDone-moves (after .moves) shaped (h .rows-done) };
+      falls = chosen-falls (W .matrix .lines) (W .matrix .width) k (matrixOf W w) i j (matrixOf W w′) (sym choice-state ∙ sym e) (after .size);
+      goes = reaches-next limit (sizesOf W) release1 (step-a-made limit (sizesOf W) release1 k (stateOf W w) i j (stateOf W w′) (sym choice-state ∙ sym e) (p .outcome));
+      same-length = p .kept .same-length;
+    }
+      where
+        shaped : Shaped (sizesOf W) (stateOf W w)
+        shaped = shaped-state w (h .laid)
+
+        after : AfterA limit (sizesOf W) k (stateOf W w) (stateOf W w′) (natAbs (matrixOf W w i j))
+        after = after-a limit (sizesOf W) k i j (stateOf W w) (stateOf W w′) shaped chosen-least (p .outcome)
+
+-- ---- letter c
+
+module _ {W : Work} {k : ℕ} {w : List ℤ} (h : Placed W k w) where
+  pub rows-go : rowPassOf W k w ≡ tooWide → Goes W (at Letter.c k (stateOf W w)) wide
+  rows-go o = reaches-next limit (sizesOf W) release1 (step-c-wide limit (sizesOf W) release1 k (stateOf W w) o)
+
+  module _ {w′ : List ℤ} (p : PassMade W (rowPassOf W k w) (length w) w′) where
+    after-rows : AfterC limit (sizesOf W) k (stateOf W w) (stateOf W w′)
+    after-rows = after-c limit (sizesOf W) k (stateOf W w) (stateOf W w′) (h .ready) (p .outcome)
+
+    rows-laid : Laid (length w′) W
+    rows-laid = laid-kept w′ (h .laid) (p .kept .same-length)
+
+    rows-still-done : RowsDone W k w′
+    rows-still-done = rowsDone-moves (after-rows .moves) (h .ready .shaped) (h .rows-done)
+
+    -- the test, read from the slice
+    column-test : (b : Bool) → b ≡ columnKeeps (contents (W .matrix) w′) k (W .matrix .lines - suc k) (suc k) → columnKeeps (matrixOf W w′) k (W .matrix .lines - suc k) (suc k) ≡ b
+    column-test b e =
+        columnKeeps-cong (matrixOf W w′) (contents (W .matrix) w′) k (W .matrix .lines - suc k) (suc k)
+        (λ i _ l. entry-state W w′ i k (omega (arith, h .ready .row)) (h .ready .column))
+        ∙ sym e
+
+    rows-goes : (b : Bool) → b ≡ columnKeeps (contents (W .matrix) w′) k (W .matrix .lines - suc k) (suc k) → Goes W (at Letter.c k (stateOf W w)) (at (elim b [ true ↦ Letter.a | false ↦ Letter.d ]) k (stateOf W w′))
+    rows-goes true e = reaches-next limit (sizesOf W) release1 (step-c-made limit (sizesOf W) release1 k (stateOf W w) (stateOf W w′) true (p .outcome) (column-test true e))
+    rows-goes false e = reaches-next limit (sizesOf W) release1 (step-c-made limit (sizesOf W) release1 k (stateOf W w) (stateOf W w′) false (p .outcome) (column-test false e))
+
+    pub rows-to-choice :
+        true ≡ columnKeeps (contents (W .matrix) w′) k (W .matrix .lines - suc k) (suc k)
+        → RowsToChoice W k w w′
+    rows-to-choice e = record {
+      holds = record { laid = rows-laid; small = p .kept .small; row-bound = Nat.le-of-lt (h .ready .row); column-bound = Nat.le-of-lt (h .ready .column); rows-done = rows-still-done };
+      falls = choice-below-row (W .matrix .lines) (W .matrix .width) k (matrixOf W w) (matrixOf W w′)
+          (after-c-keeps limit (sizesOf W) k (stateOf W w) (stateOf W w′) (h .ready) after-rows (column-test true e));
+      goes = rows-goes true e;
+      same-length = p .kept .same-length;
+    }
+
+    pub rows-to-columns :
+        false ≡ columnKeeps (contents (W .matrix) w′) k (W .matrix .lines - suc k) (suc k)
+        → RowsToColumns W k w w′
+    rows-to-columns e = record {
+      holds = record { laid = rows-laid; small = p .kept .small; ready = after-c-clear limit (sizesOf W) k (stateOf W w) (stateOf W w′) after-rows (column-test false e); rows-done = rows-still-done };
+      falls = column-below-row (W .matrix .lines) (W .matrix .width) k (matrixOf W w′) (matrixOf W w) (after-rows .pivot);
+      goes = rows-goes false e;
+      same-length = p .kept .same-length;
+    }
+
+-- ---- letter d
+
+-- after a column pass that has cleared row k: letter e
+pub record RowClear (W : Work) (k : ℕ) (w w′ : List ℤ) : Type 0 where
+  pub laid : Laid (length w′) W
+  pub small : Small w′
+  pub ready : ReadyE (sizesOf W) k (stateOf W w′)
+  pub rows-done : RowsDone W k w′
+  pub goes : Goes W (at Letter.d k (stateOf W w)) (at Letter.e k (stateOf W w′))
+  pub pivot : matrixOf W w′ k k ≡ matrixOf W w k k
+  pub divided : (j : ℕ) → k < j → j < W .matrix .width → matrixOf W w k k ∣ℤ matrixOf W w k j
+  pub same-length : length w′ ≡ length w
+
+module _ {W : Work} {k : ℕ} {w : List ℤ} (h : ColumnClear W k w) where
+  pub columns-go : columnPassOf W k w ≡ tooWide → Goes W (at Letter.d k (stateOf W w)) wide
+  columns-go o = reaches-next limit (sizesOf W) release1 (step-d-wide limit (sizesOf W) release1 k (stateOf W w) o)
+
+  module _ {w′ : List ℤ} (p : PassMade W (columnPassOf W k w) (length w) w′) where
+    after-columns : AfterD limit (sizesOf W) k (stateOf W w) (stateOf W w′)
+    after-columns = after-d limit (sizesOf W) k (stateOf W w) (stateOf W w′) (h .ready) (p .outcome)
+
+    columns-laid : Laid (length w′) W
+    columns-laid = laid-kept w′ (h .laid) (p .kept .same-length)
+
+    columns-rows-done : RowsDone W k w′
+    columns-rows-done = rowsDone-moves (after-columns .moves) (h .ready .ready .shaped) (h .rows-done)
+
+    row-test : (b : Bool) → b ≡ rowKeeps (contents (W .matrix) w′) k (W .matrix .width - suc k) (suc k) → rowKeeps (matrixOf W w′) k (W .matrix .width - suc k) (suc k) ≡ b
+    row-test b e =
+        rowKeeps-cong (matrixOf W w′) (contents (W .matrix) w′) k (W .matrix .width - suc k) (suc k)
+        (λ j _ l. entry-state W w′ k j (h .ready .ready .row) (omega (arith, h .ready .ready .column)))
+        ∙ sym e
+
+    pub columns-to-choice :
+        true ≡ rowKeeps (contents (W .matrix) w′) k (W .matrix .width - suc k) (suc k)
+        → ColumnsToChoice W k w w′
+    columns-to-choice e = record {
+      holds = record { laid = columns-laid; small = p .kept .small; row-bound = Nat.le-of-lt (h .ready .ready .row); column-bound = Nat.le-of-lt (h .ready .ready .column); rows-done = columns-rows-done };
+      falls = choice-below-column (W .matrix .lines) (W .matrix .width) k (matrixOf W w) (matrixOf W w′)
+          (after-d-keeps limit (sizesOf W) k (stateOf W w) (stateOf W w′) (h .ready) after-columns (row-test true e));
+      goes = reaches-next limit (sizesOf W) release1 (step-d-made limit (sizesOf W) release1 k (stateOf W w) (stateOf W w′) true (p .outcome) (row-test true e));
+      same-length = p .kept .same-length;
+    }
+
+    pub row-clear : false ≡ rowKeeps (contents (W .matrix) w′) k (W .matrix .width - suc k) (suc k) → RowClear W k w w′
+    row-clear e = record {
+      laid = columns-laid;
+      small = p .kept .small;
+      ready = ready;
+      rows-done = columns-rows-done;
+      goes = reaches-next limit (sizesOf W) release1 (step-d-made limit (sizesOf W) release1 k (stateOf W w) (stateOf W w′) false (p .outcome) (row-test false e));
+      pivot = after-columns .pivot;
+      divided = λ j a b. dvd-iff-modulo (matrixOf W w k j) (matrixOf W w k k) (h .ready .ready .positive) .1 (sym (after-columns .remainder j a b) ∙ ready .right j a b);
+      same-length = p .kept .same-length;
+    }
+      where
+        ready : ReadyE (sizesOf W) k (stateOf W w′)
+        ready = after-d-clear limit (sizesOf W) k (stateOf W w) (stateOf W w′) after-columns (row-test false e)
+
+-- ---- letter e
+
+module _ {W : Work} {k : ℕ} {w w′ : List ℤ} (h : RowClear W k w w′) where
+  ready-pivot : ReadyC (sizesOf W) k (stateOf W w′)
+  ready-pivot = h .ready .ready .ready
+
+  -- the row that the code finds
+  abbrev pub Found : Row → Type 0
+  Found r = r ≡ firstIndivisible (contents (W .matrix) w′) (contents (W .matrix) w′ k k) (suc k) (W .matrix .width - suc k) (W .matrix .lines - suc k) (suc k)
+
+  found-state : (r : Row) → Found r → firstIndivisible (matrixOf W w′) (matrixOf W w′ k k) (suc k) (W .matrix .width - suc k) (W .matrix .lines - suc k) (suc k) ≡ r
+  found-state r e =
+      firstIndivisible-cong (matrixOf W w′) (contents (W .matrix) w′) (matrixOf W w′ k k) (contents (W .matrix) w′ k k) (suc k) (W .matrix .width - suc k) (W .matrix .lines - suc k) (suc k)
+      (entry-state W w′ k k (ready-pivot .row) (ready-pivot .column))
+      (λ i j _ a _ b. entry-state W w′ i j (omega (arith, ready-pivot .row)) (omega (arith, ready-pivot .column)))
+      ∙ sym e
+
+  pub cleared : Found noRow → StageCleared W k (at Letter.d k (stateOf W w)) (length w) w′
+  cleared e = record {
+    goes = reaches-trans limit (sizesOf W) release1 (h .goes) (reaches-next limit (sizesOf W) release1 (step-e-none limit (sizesOf W) release1 k (stateOf W w′) (found-state noRow e)));
+    begun = record {
+      laid = h .laid;
+      small = h .small;
+      row-bound = ready-pivot .row;
+      column-bound = ready-pivot .column;
+      rows-done = record { zero = λ i j a b l. finished i j a b l (ℕ-discrete i k) };
+    };
+    same-length = h .same-length;
+  }
+    where
+      finished : (i j : ℕ) → i < suc k → suc k ≤ j → j < W .matrix .width → Dec (i ≡ k) → matrixOf W w′ i j ≡ pos 0
+      finished i j a b l (yes e) = subst (λ (x : ℕ). matrixOf W w′ x j ≡ pos 0) (sym e) (h .ready .right j b l)
+      finished i j a b l (no f) = h .rows-done .zero i j (omega arith) (omega arith) l
+
+  module _ (i : ℕ) (e : Found (row i)) where
+    found-row : FirstRow (matrixOf W w′) (matrixOf W w′ k k) (suc k) (suc k + (W .matrix .lines - suc k)) (suc k) (suc k + (W .matrix .width - suc k)) i
+    found-row = firstIndivisible-row (matrixOf W w′) (matrixOf W w′ k k) (suc k) (W .matrix .width - suc k) (W .matrix .lines - suc k) (suc k) i (found-state (row i) e)
+
+    pub row-lower : k < i
+    row-lower = found-row .from
+
+    pub row-within : i < W .matrix .lines
+    row-within = omega (arith, found-row .below, ready-pivot .row)
+
+    add-goes : onRow limit (sizesOf W) (subtract k i (negsuc 0)) (stateOf W w′) ≡ tooWide → Goes W (at Letter.d k (stateOf W w)) wide
+    add-goes o = reaches-trans limit (sizesOf W) release1 (h .goes) (reaches-next limit (sizesOf W) release1 (step-e-wide limit (sizesOf W) release1 k (stateOf W w′) i (found-state (row i) e) o))
+
+    -- the addition went too wide, and the slice was cleared
+    pub add-stops :
+        (u : List ℤ) {w″ : List ℤ} → onRow limit (sizesOf W) (subtract k i (negsuc 0)) (stateOf W w′) ≡ tooWide → w″ ≡ replicate (length u) (pos 0) → length u ≡ length w′
+        → StageRefused W (at Letter.d k (stateOf W w)) (length w) refusal.TooWide w″
+    add-stops u o z l = record { goes = add-goes o; cleared = record { number = refl; zeros = z ∙ ap (λ (n : ℕ). replicate n (pos 0)) (l ∙ h .same-length) } }
+
+    pub columns-again :
+        {w″ : List ℤ} → onRow limit (sizesOf W) (subtract k i (negsuc 0)) (stateOf W w′) ≡ made (stateOf W w″) → Small w″ → length w″ ≡ length w′
+        → ColumnsAgain W k w w″
+    columns-again {w″} o s l = record {
+      holds = record { laid = laid-kept w″ (h .laid) l; small = s; ready = after .ready; rows-done = rowsDone-moves (after .moves) (ready-pivot .shaped) (h .rows-done) };
+      falls = column-after-add (W .matrix .lines) (W .matrix .width) k (matrixOf W w) (matrixOf W w″) (ready-pivot .column) (h .divided) (after .remains) (after .pivot ∙ h .pivot);
+      goes = reaches-trans limit (sizesOf W) release1 (h .goes) (reaches-next limit (sizesOf W) release1 (step-e-made limit (sizesOf W) release1 k (stateOf W w′) i (stateOf W w″) (found-state (row i) e) o));
+      same-length = l ∙ h .same-length;
+    }
+      where
+        after : AfterE limit (sizesOf W) k (stateOf W w′) (stateOf W w″)
+        after = after-e limit (sizesOf W) k i (stateOf W w′) (stateOf W w″) (h .ready) (found-state (row i) e) o

@@ -1,0 +1,469 @@
+-- The cycle of calls of a stage: pivot choice, row pass and column pass meet their contracts. Each measure is 4 times a pivot's absolute value and a
+-- number below 4 for the place in the cycle (`Measures`). Where a function goes, with what holds there, is a lemma of `Stages`. Assumes nothing.
+use mathlib.Core.Path.{_≡_, refl, sym, ap, _∙_}
+use mathlib.Core.List.{List}
+use Prim.Native.Nat.{ℕ, _<_}
+use native.Mathlib.Nat as Nat
+use native.Mathlib.Omega.{arith}
+use lib.IntN.{ℤ, pos}
+use lib.ListN.{length, replicate}
+use borrow.Fn.Kinds.{In}
+use borrow.Fn.PlainCycle.{Measures, is, falls, and}
+use Rattle.reduction_steps.specs.Pivot.{place, Least}
+use Rattle.reduction_steps.specs.Step.{Letter, at, row}
+use Rattle.refusal.specs.declared.Refusal.the-variants.{TooWide}
+use Rattle.work.specs.Layout.{stateOf}
+use Rattle.work.specs.Scan.{pivotChoice, indivisibleRow}
+use Rattle.reducer.specs.Answer.{matrixOf, rowPassOf, columnPassOf, PassMade, StageRefused}
+use Rattle.reducer.proofs.States.{held-matrix, operated-done, operated-wide}
+use Rattle.reducer.proofs.Words.{pivot-positive}
+use Rattle.reducer.proofs.Measures.{choiceMeasure, rowMeasure, columnMeasure}
+use Rattle.reducer.proofs.Stages.{measured, ToRows, RowsToChoice, RowsToColumns, ColumnsToChoice, ColumnsAgain, onward-ends, below, laid-kept, passed-made, pass-stops, Chosen, exhausted, chosen-least, bring-goes, to-rows, rows-go, rows-to-choice, rows-to-columns, columns-go, columns-to-choice, RowClear, row-clear, Found, cleared, row-lower, row-within, add-stops, columns-again}
+use Rattle.reducer.proofs.stage.choose_pivot.Reads as choose-pivot
+use Rattle.reducer.proofs.stage.choose_pivot.Kinds as choose-pivot-kinds
+use Rattle.reducer.proofs.stage.+choose_pivot+column_pass+row_pass.Lts-choose_pivot as choose-pivot-lts
+use Rattle.reducer.proofs.stage.column_pass.Reads as column-pass
+use Rattle.reducer.proofs.stage.column_pass.Kinds as column-pass-kinds
+use Rattle.reducer.proofs.stage.+choose_pivot+column_pass+row_pass.Lts-column_pass as column-pass-lts
+use Rattle.reducer.proofs.stage.row_pass.Reads as row-pass
+use Rattle.reducer.proofs.stage.row_pass.Kinds as row-pass-kinds
+use Rattle.reducer.proofs.stage.+choose_pivot+column_pass+row_pass.Lts-row_pass as row-pass-lts
+use Rattle.lines.proofs.line.clear.Reads as clear-reads
+use Rattle.reducer.proofs.bring.bring_pivot.Reads as bring-pivot-reads
+use Rattle.reducer.proofs.pass.clear_column.Reads as clear-column-reads
+use Rattle.reducer.proofs.pass.clear_row.Reads as clear-row-reads
+use Rattle.work.proofs.operations.Work.subtract_row.Reads as subtract-row-reads
+use Rattle.work.proofs.pivot.find_pivot.Reads as find-pivot-reads
+use Rattle.work.proofs.remainder.column_keeps.Reads as column-keeps-reads
+use Rattle.work.proofs.remainder.first_indivisible.Reads as first-indivisible-reads
+use Rattle.work.proofs.remainder.row_keeps.Reads as row-keeps-reads
+use Rattle.reducer.proofs.stage.+choose_pivot+column_pass+row_pass.{statement}
+use Rattle.reducer.proofs.stage.+choose_pivot+column_pass+row_pass.Tie.{close}
+
+-- ---- the measures, and what each function is given and asks of the others
+
+abbrev μ-choose-pivot : Measures 1 choose-pivot-kinds.ps ℕ
+μ-choose-pivot κs a = measured choiceMeasure (a .0) (a .1 .1 .0) (a .1 .0 .now)
+
+abbrev μ-column-pass : Measures 1 column-pass-kinds.ps ℕ
+μ-column-pass κs a = measured columnMeasure (a .0) (a .1 .1 .0) (a .1 .0 .now)
+
+abbrev μ-row-pass : Measures 1 row-pass-kinds.ps ℕ
+μ-row-pass κs a = measured rowMeasure (a .0) (a .1 .1 .0) (a .1 .0 .now)
+
+abbrev choose-pivot-at : ℕ → In 1 choose-pivot-kinds.ps
+choose-pivot-at t =
+    and 1 choose-pivot-kinds.ps (is 1 choose-pivot-kinds.ps μ-choose-pivot t) choose-pivot.Pre
+
+abbrev choose-pivot-below : ℕ → In 1 choose-pivot-kinds.ps
+choose-pivot-below t =
+    and
+    1
+    choose-pivot-kinds.ps
+    (falls 1 choose-pivot-kinds.ps _<_ μ-choose-pivot t)
+    choose-pivot.Pre
+
+abbrev column-pass-at : ℕ → In 1 column-pass-kinds.ps
+column-pass-at t =
+    and 1 column-pass-kinds.ps (is 1 column-pass-kinds.ps μ-column-pass t) column-pass.Pre
+
+abbrev column-pass-below : ℕ → In 1 column-pass-kinds.ps
+column-pass-below t =
+    and 1 column-pass-kinds.ps (falls 1 column-pass-kinds.ps _<_ μ-column-pass t) column-pass.Pre
+
+abbrev row-pass-at : ℕ → In 1 row-pass-kinds.ps
+row-pass-at t = and 1 row-pass-kinds.ps (is 1 row-pass-kinds.ps μ-row-pass t) row-pass.Pre
+
+abbrev row-pass-below : ℕ → In 1 row-pass-kinds.ps
+row-pass-below t =
+    and 1 row-pass-kinds.ps (falls 1 row-pass-kinds.ps _<_ μ-row-pass t) row-pass.Pre
+
+abbrev choose-pivot-calls : ℕ → choose-pivot-lts.Claims
+choose-pivot-calls t = (
+  find-pivot-reads.Asked,
+  find-pivot-reads.Learnt,
+  bring-pivot-reads.Asked,
+  bring-pivot-reads.Learnt,
+  row-pass-below t,
+  row-pass.Post,
+)
+
+abbrev column-pass-calls : ℕ → column-pass-lts.Claims
+column-pass-calls t = (
+  clear-row-reads.Asked,
+  clear-row-reads.Learnt,
+  row-keeps-reads.Asked,
+  row-keeps-reads.Learnt,
+  choose-pivot-below t,
+  choose-pivot.Post,
+  first-indivisible-reads.Asked,
+  first-indivisible-reads.Learnt,
+  subtract-row-reads.Asked,
+  subtract-row-reads.Learnt,
+  clear-reads.Asked,
+  clear-reads.Learnt,
+  column-pass-below t,
+  column-pass.Post,
+)
+
+abbrev row-pass-calls : ℕ → row-pass-lts.Claims
+row-pass-calls t = (
+  clear-column-reads.Asked,
+  clear-column-reads.Learnt,
+  column-keeps-reads.Asked,
+  column-keeps-reads.Learnt,
+  choose-pivot-below t,
+  choose-pivot.Post,
+  column-pass-below t,
+  column-pass.Post,
+)
+
+-- ---- the pivot choice
+
+choose-pivot-find-pivot-requires : (t : ℕ) → choose-pivot-lts.Need-find-pivot-requires (choose-pivot-calls t) (choose-pivot-at t) choose-pivot.Post
+choose-pivot-find-pivot-requires t c κs = (held-matrix (c .before .pre .1 .laid), (c .before .pre .1 .small, c .before .pre .1 .column-bound))
+
+choose-pivot-enum-known-i : (t : ℕ) → choose-pivot-lts.Need-enum-known-i (choose-pivot-calls t) (choose-pivot-at t) choose-pivot.Post
+choose-pivot-enum-known-i t c = c .match .keys1
+
+choose-pivot-enum-told : (t : ℕ) → choose-pivot-lts.Need-enum-told (choose-pivot-calls t) (choose-pivot-at t) choose-pivot.Post
+choose-pivot-enum-told t c = c .match .keys2
+
+choose-pivot-same-length : (t : ℕ) → choose-pivot-lts.Need-same-length (choose-pivot-calls t) (choose-pivot-at t) choose-pivot.Post
+choose-pivot-same-length t c = refl
+
+choose-pivot-returns : (t : ℕ) → choose-pivot-lts.Need-returns (choose-pivot-calls t) (choose-pivot-at t) choose-pivot.Post
+choose-pivot-returns t c =
+    let start = c .before .before .before .before in
+    exhausted (start .args .work) (start .args .k) (start .args .w .now) (start .pre .1) (sym (ap pivotChoice (c .enum-told .given .1)) ∙ c .before .before .find-pivot .ensures)
+
+-- the place that was found
+module _ (t : ℕ) (c : choose-pivot-lts.After-known-told (choose-pivot-calls t) (choose-pivot-at t) choose-pivot.Post) where
+  abbrev start : choose-pivot-lts.Start (choose-pivot-calls t) (choose-pivot-at t) choose-pivot.Post
+  start = c .before .before .before .before .before
+
+  abbrev pivot-row : ℕ
+  pivot-row = c .before .i .given .0 .0
+
+  abbrev pivot-column : ℕ
+  pivot-column = c .before .i .given .0 .1 .0
+
+  found : Chosen (start .args .work) (start .args .k) (start .args .w .now) (place pivot-row pivot-column)
+  found = sym (ap pivotChoice (c .before .i .given .1)) ∙ c .before .before .before .find-pivot .ensures
+
+  least : Least (start .args .work .matrix .lines) (start .args .work .matrix .width) (start .args .k) (matrixOf (start .args .work) (start .args .w .now)) pivot-row pivot-column
+  least = chosen-least (start .args .work) (start .args .k) (start .args .w .now) pivot-row pivot-column found
+
+choose-pivot-bring-pivot-requires : (t : ℕ) → choose-pivot-lts.Need-bring-pivot-requires (choose-pivot-calls t) (choose-pivot-at t) choose-pivot.Post
+choose-pivot-bring-pivot-requires t c κs =
+    let h = least t (c .before) in
+    let begun = start t (c .before) .pre .1 in
+    (begun .laid, (begun .small, (Nat.lt-of-le-of-lt (h .row-from) (h .row-below), Nat.lt-of-le-of-lt (h .column-from) (h .column-below), h .row-below, h .column-below)))
+
+choose-pivot-enum-told-2 : (t : ℕ) → choose-pivot-lts.Need-enum-told-2 (choose-pivot-calls t) (choose-pivot-at t) choose-pivot.Post
+choose-pivot-enum-told-2 t c = c .match2 .keys1
+
+choose-pivot-enum-told-3 : (t : ℕ) → choose-pivot-lts.Need-enum-told-3 (choose-pivot-calls t) (choose-pivot-at t) choose-pivot.Post
+choose-pivot-enum-told-3 t c = c .match2 .keys2
+
+choose-pivot-same-length-2 : (t : ℕ) → choose-pivot-lts.Need-same-length-2 (choose-pivot-calls t) (choose-pivot-at t) choose-pivot.Post
+choose-pivot-same-length-2 t c = c .before .before .before .bring-pivot .kept .1 .0
+
+choose-pivot-returns-2 : (t : ℕ) → choose-pivot-lts.Need-returns-2 (choose-pivot-calls t) (choose-pivot-at t) choose-pivot.Post
+choose-pivot-returns-2 t c =
+    let place = c .before .before .before .before .before in
+    let begun = start t place in
+    pass-stops (begun .args .work) (at Letter.a (begun .args .k) (stateOf (begun .args .work) (begun .args .w .now))) (c .before .before .before .bring-pivot .result) (c .before .before .before .bring-pivot .last .1 .0)
+    (bring-goes (begun .args .work) (begun .args .k) (begun .args .w .now) (pivot-row t place) (pivot-column t place) (found t place))
+    (c .enum-told3 .given .1) (c .before .before .before .bring-pivot .ensures)
+
+-- after step b
+to-row-pass :
+    (t : ℕ) (c : choose-pivot-lts.After-enum-told2 (choose-pivot-calls t) (choose-pivot-at t) choose-pivot.Post)
+    → (let begun = start t (c .before .before .before .before .before) in
+    ToRows (begun .args .work) (begun .args .k) (begun .args .w .now) (c .before .before .before .bring-pivot .last .1 .0))
+to-row-pass t c =
+    let place = c .before .before .before .before .before in
+    let begun = start t place in
+    to-rows (begun .args .work) (begun .args .k) (begun .args .w .now) (pivot-row t place) (pivot-column t place) (found t place) (begun .pre .1)
+    (passed-made (c .enum-told2 .given .1) (c .before .before .before .bring-pivot .ensures))
+
+choose-pivot-row-pass-requires : (t : ℕ) → choose-pivot-lts.Need-row-pass-requires (choose-pivot-calls t) (choose-pivot-at t) choose-pivot.Post
+choose-pivot-row-pass-requires t c κs =
+    let o = to-row-pass t (c .before) in
+    (below (start t (c .before .before .before .before .before .before) .pre .0) (o .falls), o .holds)
+
+choose-pivot-same-length-3 : (t : ℕ) → choose-pivot-lts.Need-same-length-3 (choose-pivot-calls t) (choose-pivot-at t) choose-pivot.Post
+choose-pivot-same-length-3 t c = c .before .row-pass .kept .1 .0 ∙ c .before .before .before .before .before .before .bring-pivot .kept .1 .0
+
+choose-pivot-returns-3 : (t : ℕ) → choose-pivot-lts.Need-returns-3 (choose-pivot-calls t) (choose-pivot-at t) choose-pivot.Post
+choose-pivot-returns-3 t c = onward-ends (to-row-pass t (c .before .before .before)) (c .before .row-pass .result) (c .before .row-pass .last .1 .0) (c .before .row-pass .ensures)
+
+-- ---- the column pass
+
+column-pass-clear-row-requires : (t : ℕ) → column-pass-lts.Need-clear-row-requires (column-pass-calls t) (column-pass-at t) column-pass.Post
+column-pass-clear-row-requires t c κs = c .before .pre .1
+
+column-pass-enum-told : (t : ℕ) → column-pass-lts.Need-enum-told (column-pass-calls t) (column-pass-at t) column-pass.Post
+column-pass-enum-told t c = c .match .keys1
+
+column-pass-enum-told-2 : (t : ℕ) → column-pass-lts.Need-enum-told-2 (column-pass-calls t) (column-pass-at t) column-pass.Post
+column-pass-enum-told-2 t c = c .match .keys2
+
+column-pass-same-length : (t : ℕ) → column-pass-lts.Need-same-length (column-pass-calls t) (column-pass-at t) column-pass.Post
+column-pass-same-length t c = c .before .before .before .clear-row .kept .1 .0
+
+column-pass-returns : (t : ℕ) → column-pass-lts.Need-returns (column-pass-calls t) (column-pass-at t) column-pass.Post
+column-pass-returns t c =
+    let begun = c .before .before .before .before .before in
+    pass-stops (begun .args .work) (at Letter.d (begun .args .k) (stateOf (begun .args .work) (begun .args .w .now))) (c .before .before .before .clear-row .result) (c .before .before .before .clear-row .last .1 .0)
+    (columns-go (begun .pre .1)) (c .enum-told2 .given .1) (c .before .before .before .clear-row .ensures)
+
+-- after step d
+module _ (t : ℕ) (c : column-pass-lts.After-enum-told (column-pass-calls t) (column-pass-at t) column-pass.Post) where
+  abbrev column-start : column-pass-lts.Start (column-pass-calls t) (column-pass-at t) column-pass.Post
+  column-start = c .before .before .before .before .before
+
+  columns-made :
+      PassMade (column-start .args .work)
+      (columnPassOf (column-start .args .work) (column-start .args .k) (column-start .args .w .now))
+      (length (column-start .args .w .now))
+      (c .before .before .before .clear-row .last .1 .0)
+  columns-made = passed-made (c .enum-told .given .1) (c .before .before .before .clear-row .ensures)
+
+column-pass-row-keeps-requires : (t : ℕ) → column-pass-lts.Need-row-keeps-requires (column-pass-calls t) (column-pass-at t) column-pass.Post
+column-pass-row-keeps-requires t c κs =
+    let h = column-start t (c .before) .pre .1 in
+    (held-matrix (laid-kept (c .before .before .before .before .clear-row .last .1 .0) (h .laid) (c .before .before .before .before .clear-row .kept .1 .0)), (h .ready .ready .row, h .ready .ready .column))
+
+column-to-choice :
+    (t : ℕ) (c : column-pass-lts.Then1 (column-pass-calls t) (column-pass-at t) column-pass.Post)
+    → (let begun = column-start t (c .before .before .before) in
+    ColumnsToChoice (begun .args .work) (begun .args .k) (begun .args .w .now) (c .before .before .before .before .before .before .clear-row .last .1 .0))
+column-to-choice t c =
+    columns-to-choice (column-start t (c .before .before .before) .pre .1) (columns-made t (c .before .before .before)) (sym (c .if1 .taken) ∙ c .before .row-keeps .ensures)
+
+column-cleared :
+    (t : ℕ) (c : column-pass-lts.Else1 (column-pass-calls t) (column-pass-at t) column-pass.Post)
+    → (let begun = column-start t (c .before .before .before) in
+    RowClear (begun .args .work) (begun .args .k) (begun .args .w .now) (c .before .before .before .before .before .before .clear-row .last .1 .0))
+column-cleared t c =
+    row-clear (column-start t (c .before .before .before) .pre .1) (columns-made t (c .before .before .before)) (sym (c .if1 .left) ∙ c .before .row-keeps .ensures)
+
+column-pass-choose-pivot-requires : (t : ℕ) → column-pass-lts.Need-choose-pivot-requires (column-pass-calls t) (column-pass-at t) column-pass.Post
+column-pass-choose-pivot-requires t c κs =
+    let o = column-to-choice t (c .before) in
+    (below (column-start t (c .before .before .before .before) .pre .0) (o .falls), o .holds)
+
+column-pass-same-length-2 : (t : ℕ) → column-pass-lts.Need-same-length-2 (column-pass-calls t) (column-pass-at t) column-pass.Post
+column-pass-same-length-2 t c = c .before .choose-pivot .kept .1 .0 ∙ c .before .before .before .before .before .before .before .before .before .clear-row .kept .1 .0
+
+column-pass-returns-2 : (t : ℕ) → column-pass-lts.Need-returns-2 (column-pass-calls t) (column-pass-at t) column-pass.Post
+column-pass-returns-2 t c = onward-ends (column-to-choice t (c .before .before .before)) (c .before .choose-pivot .result) (c .before .choose-pivot .last .1 .0) (c .before .choose-pivot .ensures)
+
+column-pass-first-indivisible-requires : (t : ℕ) → column-pass-lts.Need-first-indivisible-requires (column-pass-calls t) (column-pass-at t) column-pass.Post
+column-pass-first-indivisible-requires t c κs =
+    let h = column-cleared t (c .before) in
+    let start = column-start t (c .before .before .before .before) in
+    let ready = h .ready .ready .ready in
+    (held-matrix (h .laid), (ready .row, ready .column, pivot-positive (start .args .work) (start .args .k) (c .before .before .before .before .before .before .before .clear-row .last .1 .0) ready))
+
+column-pass-enum-known-i : (t : ℕ) → column-pass-lts.Need-enum-known-i (column-pass-calls t) (column-pass-at t) column-pass.Post
+column-pass-enum-known-i t c = c .match2 .keys1
+
+column-pass-enum-told-3 : (t : ℕ) → column-pass-lts.Need-enum-told-3 (column-pass-calls t) (column-pass-at t) column-pass.Post
+column-pass-enum-told-3 t c = c .match2 .keys2
+
+column-pass-same-length-3 : (t : ℕ) → column-pass-lts.Need-same-length-3 (column-pass-calls t) (column-pass-at t) column-pass.Post
+column-pass-same-length-3 t c = c .before .before .before .before .before .before .before .before .before .before .clear-row .kept .1 .0
+
+column-pass-returns-3 : (t : ℕ) → column-pass-lts.Need-returns-3 (column-pass-calls t) (column-pass-at t) column-pass.Post
+column-pass-returns-3 t c = cleared (column-cleared t (c .before .before .before .before)) (sym (ap indivisibleRow (c .enum-told3 .given .1)) ∙ c .before .before .first-indivisible .ensures)
+
+-- the row that was found
+module _ (t : ℕ) (c : column-pass-lts.After-known-told (column-pass-calls t) (column-pass-at t) column-pass.Post) where
+  abbrev else : column-pass-lts.Else1 (column-pass-calls t) (column-pass-at t) column-pass.Post
+  else = c .before .before .before .before .before
+
+  abbrev begun : column-pass-lts.Start (column-pass-calls t) (column-pass-at t) column-pass.Post
+  begun = column-start t (else .before .before .before)
+
+  abbrev lower : ℕ
+  lower = c .before .i .given .0 .0
+
+  found-lower : Found (column-cleared t else) (row lower)
+  found-lower = sym (ap indivisibleRow (c .before .i .given .1)) ∙ c .before .before .before .first-indivisible .ensures
+
+column-pass-subtract-row-requires : (t : ℕ) → column-pass-lts.Need-subtract-row-requires (column-pass-calls t) (column-pass-at t) column-pass.Post
+column-pass-subtract-row-requires t c κs =
+    let h = column-cleared t (else t (c .before)) in
+    let f = found-lower t (c .before) in (
+      h .laid,
+      (h .small, (h .ready .ready .ready .row, row-within h (lower t (c .before)) f, (λ e. omega (arith, row-lower h (lower t (c .before)) f)), omega arith)),
+    )
+
+column-pass-enum-told-4 : (t : ℕ) → column-pass-lts.Need-enum-told-4 (column-pass-calls t) (column-pass-at t) column-pass.Post
+column-pass-enum-told-4 t c = c .match3 .keys1
+
+column-pass-enum-told-5 : (t : ℕ) → column-pass-lts.Need-enum-told-5 (column-pass-calls t) (column-pass-at t) column-pass.Post
+column-pass-enum-told-5 t c = c .match3 .keys2
+
+-- the addition of step e went too wide
+module _ (t : ℕ) (c : column-pass-lts.After-enum-told5 (column-pass-calls t) (column-pass-at t) column-pass.Post) where
+  abbrev adding : column-pass-lts.After-known-told (column-pass-calls t) (column-pass-at t) column-pass.Post
+  adding = c .before .before .before .before .before
+
+  stopped-length : length (c .before .before .before .subtract-row .last .1 .0) ≡ length (begun t adding .args .w .now)
+  stopped-length = c .before .before .before .subtract-row .kept .1 .0 ∙ column-cleared t (else t adding) .same-length
+
+  stopped :
+      {w : List ℤ} → w ≡ replicate (length (c .before .before .before .subtract-row .last .1 .0)) (pos 0)
+      → (let start = begun t adding .args in StageRefused (start .work) (at Letter.d (start .k) (stateOf (start .work) (start .w .now))) (length (start .w .now)) TooWide w)
+  stopped z =
+      let called = c .before .before .before .subtract-row in
+      add-stops (column-cleared t (else t adding)) (lower t adding) (found-lower t adding) (called .last .1 .0) (operated-wide (called .ensures) (c .enum-told5 .given .1)) z
+      (called .kept .1 .0)
+
+column-pass-clear-requires : (t : ℕ) → column-pass-lts.Need-clear-requires (column-pass-calls t) (column-pass-at t) column-pass.Post
+column-pass-clear-requires t c κs = tt
+
+column-pass-same-length-4 : (t : ℕ) → column-pass-lts.Need-same-length-4 (column-pass-calls t) (column-pass-at t) column-pass.Post
+column-pass-same-length-4 t c = c .before .clear .kept .0 ∙ stopped-length t (c .before .before .before)
+
+column-pass-returns-4 : (t : ℕ) → column-pass-lts.Need-returns-4 (column-pass-calls t) (column-pass-at t) column-pass.Post
+column-pass-returns-4 t c = stopped t (c .before .before .before) (c .before .clear .ensures)
+
+-- after step e
+column-again :
+    (t : ℕ) (c : column-pass-lts.After-enum-told4 (column-pass-calls t) (column-pass-at t) column-pass.Post)
+    → (let start = begun t (c .before .before .before .before .before) in
+    ColumnsAgain (start .args .work) (start .args .k) (start .args .w .now) (c .before .before .before .subtract-row .last .1 .0))
+column-again t c =
+    let row = c .before .before .before .before .before in
+    let called = c .before .before .before .subtract-row in
+    columns-again (column-cleared t (else t row)) (lower t row) (found-lower t row) (operated-done (called .ensures) (c .enum-told4 .given .1)) (called .ensures .small) (called .kept .1 .0)
+
+column-pass-column-pass-requires : (t : ℕ) → column-pass-lts.Need-column-pass-requires (column-pass-calls t) (column-pass-at t) column-pass.Post
+column-pass-column-pass-requires t c κs =
+    let o = column-again t (c .before) in
+    (below (begun t (c .before .before .before .before .before .before) .pre .0) (o .falls), o .holds)
+
+column-pass-same-length-5 : (t : ℕ) → column-pass-lts.Need-same-length-5 (column-pass-calls t) (column-pass-at t) column-pass.Post
+column-pass-same-length-5 t c =
+    c .before .column-pass .kept .1 .0
+    ∙ c .before .before .before .before .before .before .subtract-row .kept .1 .0
+    ∙ column-cleared t (else t (c .before .before .before .before .before .before .before .before)) .same-length
+
+column-pass-returns-5 : (t : ℕ) → column-pass-lts.Need-returns-5 (column-pass-calls t) (column-pass-at t) column-pass.Post
+column-pass-returns-5 t c = onward-ends (column-again t (c .before .before .before)) (c .before .column-pass .result) (c .before .column-pass .last .1 .0) (c .before .column-pass .ensures)
+
+-- ---- the row pass
+
+row-pass-clear-column-requires : (t : ℕ) → row-pass-lts.Need-clear-column-requires (row-pass-calls t) (row-pass-at t) row-pass.Post
+row-pass-clear-column-requires t c κs = c .before .pre .1
+
+row-pass-enum-told : (t : ℕ) → row-pass-lts.Need-enum-told (row-pass-calls t) (row-pass-at t) row-pass.Post
+row-pass-enum-told t c = c .match .keys1
+
+row-pass-enum-told-2 : (t : ℕ) → row-pass-lts.Need-enum-told-2 (row-pass-calls t) (row-pass-at t) row-pass.Post
+row-pass-enum-told-2 t c = c .match .keys2
+
+row-pass-same-length : (t : ℕ) → row-pass-lts.Need-same-length (row-pass-calls t) (row-pass-at t) row-pass.Post
+row-pass-same-length t c = c .before .before .before .clear-column .kept .1 .0
+
+row-pass-returns : (t : ℕ) → row-pass-lts.Need-returns (row-pass-calls t) (row-pass-at t) row-pass.Post
+row-pass-returns t c =
+    let begun = c .before .before .before .before .before in
+    pass-stops (begun .args .work) (at Letter.c (begun .args .k) (stateOf (begun .args .work) (begun .args .w .now))) (c .before .before .before .clear-column .result) (c .before .before .before .clear-column .last .1 .0)
+    (rows-go (begun .pre .1)) (c .enum-told2 .given .1) (c .before .before .before .clear-column .ensures)
+
+-- after step c
+module _ (t : ℕ) (c : row-pass-lts.After-enum-told (row-pass-calls t) (row-pass-at t) row-pass.Post) where
+  abbrev row-start : row-pass-lts.Start (row-pass-calls t) (row-pass-at t) row-pass.Post
+  row-start = c .before .before .before .before .before
+
+  rows-made :
+      PassMade (row-start .args .work)
+      (rowPassOf (row-start .args .work) (row-start .args .k) (row-start .args .w .now))
+      (length (row-start .args .w .now))
+      (c .before .before .before .clear-column .last .1 .0)
+  rows-made = passed-made (c .enum-told .given .1) (c .before .before .before .clear-column .ensures)
+
+row-pass-column-keeps-requires : (t : ℕ) → row-pass-lts.Need-column-keeps-requires (row-pass-calls t) (row-pass-at t) row-pass.Post
+row-pass-column-keeps-requires t c κs =
+    let h = row-start t (c .before) .pre .1 in
+    (held-matrix (laid-kept (c .before .before .before .before .clear-column .last .1 .0) (h .laid) (c .before .before .before .before .clear-column .kept .1 .0)), (h .ready .row, h .ready .column))
+
+row-to-choice :
+    (t : ℕ) (c : row-pass-lts.Then1 (row-pass-calls t) (row-pass-at t) row-pass.Post)
+    → (let begun = row-start t (c .before .before .before) in
+    RowsToChoice (begun .args .work) (begun .args .k) (begun .args .w .now) (c .before .before .before .before .before .before .clear-column .last .1 .0))
+row-to-choice t c =
+    rows-to-choice (row-start t (c .before .before .before) .pre .1) (rows-made t (c .before .before .before)) (sym (c .if1 .taken) ∙ c .before .column-keeps .ensures)
+
+row-to-columns :
+    (t : ℕ) (c : row-pass-lts.Else1 (row-pass-calls t) (row-pass-at t) row-pass.Post)
+    → (let begun = row-start t (c .before .before .before) in
+    RowsToColumns (begun .args .work) (begun .args .k) (begun .args .w .now) (c .before .before .before .before .before .before .clear-column .last .1 .0))
+row-to-columns t c =
+    rows-to-columns (row-start t (c .before .before .before) .pre .1) (rows-made t (c .before .before .before)) (sym (c .if1 .left) ∙ c .before .column-keeps .ensures)
+
+row-pass-choose-pivot-requires : (t : ℕ) → row-pass-lts.Need-choose-pivot-requires (row-pass-calls t) (row-pass-at t) row-pass.Post
+row-pass-choose-pivot-requires t c κs =
+    let o = row-to-choice t (c .before) in
+    (below (row-start t (c .before .before .before .before) .pre .0) (o .falls), o .holds)
+
+row-pass-same-length-2 : (t : ℕ) → row-pass-lts.Need-same-length-2 (row-pass-calls t) (row-pass-at t) row-pass.Post
+row-pass-same-length-2 t c = c .before .choose-pivot .kept .1 .0 ∙ c .before .before .before .before .before .before .before .before .before .clear-column .kept .1 .0
+
+row-pass-returns-2 : (t : ℕ) → row-pass-lts.Need-returns-2 (row-pass-calls t) (row-pass-at t) row-pass.Post
+row-pass-returns-2 t c = onward-ends (row-to-choice t (c .before .before .before)) (c .before .choose-pivot .result) (c .before .choose-pivot .last .1 .0) (c .before .choose-pivot .ensures)
+
+row-pass-column-pass-requires : (t : ℕ) → row-pass-lts.Need-column-pass-requires (row-pass-calls t) (row-pass-at t) row-pass.Post
+row-pass-column-pass-requires t c κs =
+    let o = row-to-columns t (c .before) in
+    (below (row-start t (c .before .before .before .before) .pre .0) (o .falls), o .holds)
+
+row-pass-same-length-3 : (t : ℕ) → row-pass-lts.Need-same-length-3 (row-pass-calls t) (row-pass-at t) row-pass.Post
+row-pass-same-length-3 t c = c .before .column-pass .kept .1 .0 ∙ c .before .before .before .before .before .before .before .before .before .clear-column .kept .1 .0
+
+row-pass-returns-3 : (t : ℕ) → row-pass-lts.Need-returns-3 (row-pass-calls t) (row-pass-at t) row-pass.Post
+row-pass-returns-3 t c = onward-ends (row-to-columns t (c .before .before .before)) (c .before .column-pass .result) (c .before .column-pass .last .1 .0) (c .before .column-pass .ensures)
+
+pub +choose-pivot+column-pass+row-pass-spec : {M : Type 1} → statement M
++choose-pivot+column-pass+row-pass-spec =
+    close μ-choose-pivot μ-column-pass μ-row-pass
+    (λ t. choose-pivot-lts.spec
+    (choose-pivot-calls t)
+    (choose-pivot-at t) choose-pivot.Post
+    (choose-pivot-find-pivot-requires t)
+    (choose-pivot-enum-known-i t)
+    (choose-pivot-enum-told t)
+    (choose-pivot-same-length t)
+    (choose-pivot-returns t)
+    (choose-pivot-bring-pivot-requires t) (choose-pivot-enum-told-2 t) (choose-pivot-enum-told-3 t) (choose-pivot-same-length-2 t) (choose-pivot-returns-2 t)
+    (choose-pivot-row-pass-requires t) (choose-pivot-same-length-3 t) (choose-pivot-returns-3 t))
+    (λ t. column-pass-lts.spec
+    (column-pass-calls t)
+    (column-pass-at t) column-pass.Post
+    (column-pass-clear-row-requires t)
+    (column-pass-enum-told t) (column-pass-enum-told-2 t)
+    (column-pass-same-length t)
+    (column-pass-returns t)
+    (column-pass-row-keeps-requires t)
+    (column-pass-choose-pivot-requires t) (column-pass-same-length-2 t) (column-pass-returns-2 t)
+    (column-pass-first-indivisible-requires t)
+    (column-pass-enum-known-i t) (column-pass-enum-told-3 t) (column-pass-same-length-3 t) (column-pass-returns-3 t)
+    (column-pass-subtract-row-requires t) (column-pass-enum-told-4 t) (column-pass-enum-told-5 t)
+    (column-pass-clear-requires t) (column-pass-same-length-4 t) (column-pass-returns-4 t)
+    (column-pass-column-pass-requires t) (column-pass-same-length-5 t) (column-pass-returns-5 t))
+    (λ t. row-pass-lts.spec
+    (row-pass-calls t)
+    (row-pass-at t) row-pass.Post
+    (row-pass-clear-column-requires t)
+    (row-pass-enum-told t) (row-pass-enum-told-2 t)
+    (row-pass-same-length t)
+    (row-pass-returns t)
+    (row-pass-column-keeps-requires t)
+    (row-pass-choose-pivot-requires t) (row-pass-same-length-2 t) (row-pass-returns-2 t)
+    (row-pass-column-pass-requires t) (row-pass-same-length-3 t) (row-pass-returns-3 t))

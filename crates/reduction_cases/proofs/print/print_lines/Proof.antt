@@ -1,0 +1,56 @@
+-- `print::print_lines` is safe and ends. The invariant: i is at most the count of lines. The measure is the count of lines left. Assumes nothing.
+use Prim.Native.Nat.{_*_, _-_, _≤_}
+use native.Mathlib.Nat as NatL
+use native.Mathlib.Omega.{arith}
+use borrow.Author.Needs.{needs}
+use Rattle.reduction_cases.proofs.print.print_lines.Statement.{statement}
+use Rattle.reduction_cases.proofs.print.print_lines.Tie as tie
+
+abbrev Inv-loop : tie.InvT-loop
+Inv-loop w m outer inner i₀ i = i ≤ m .lines
+
+abbrev μ-loop : tie.MeasureT-loop
+μ-loop w m outer inner i₀ i = m .lines - i
+
+-- there are at most 8 lines
+near : (c : tie.Then1 Inv-loop μ-loop) → c .before .before .loop .i * c .before .before .before .args .outer ≤ 7 * c .before .before .before .args .outer
+near c = NatL.mul-le-mul-right (c .before .before .before .args .outer) (omega arith)
+
+loop-holds : tie.Need-loop-holds Inv-loop μ-loop
+loop-holds c = omega arith
+
+mul-print-line : tie.Need-mul-print-line Inv-loop μ-loop
+mul-print-line c = omega (arith, near c)
+
+add-print-line : tie.Need-add-print-line Inv-loop μ-loop
+add-print-line c = omega (arith, near (c .before))
+
+print-line-requires : tie.Need-print-line-requires Inv-loop μ-loop
+print-line-requires c κs = omega (arith, near (c .before))
+
+add-i : tie.Need-add-i Inv-loop μ-loop
+add-i c = omega arith
+
+loop-less : tie.Need-loop-less Inv-loop μ-loop
+loop-less c = omega arith
+
+loop-again : tie.Need-loop-again Inv-loop μ-loop
+loop-again c = omega arith
+
+returns : tie.Need-returns Inv-loop μ-loop
+returns c = search needs
+
+pub print-lines-spec : {M : Type 1} → statement M
+print-lines-spec =
+    tie.close
+    (tie.spec
+    Inv-loop
+    μ-loop
+    loop-holds
+    mul-print-line
+    add-print-line
+    print-line-requires
+    add-i
+    loop-less
+    loop-again
+    returns)
