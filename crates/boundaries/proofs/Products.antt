@@ -1,0 +1,40 @@
+-- A matrix Q times a boundary matrix: an entry is a sum over the faces of the column's cell (`product-entry`). A matrix that stands after
+-- another in a slice is kept while that one is written (`contents-kept`).
+use mathlib.Core.Path.{_≡_, sym, ap, _∙_}
+use mathlib.Core.Logic.{inr}
+use mathlib.Core.List.{List}
+use Prim.Native.Nat.{ℕ, suc, _+_, _≤_, _<_}
+use native.Mathlib.Omega.{arith}
+use lib.ListN.{getD}
+use lib.IntN.{ℤ, _*ℤ_}
+use Rattle.matrices.specs.Sum.{sum}
+use Rattle.matrices.specs.Matrix.{mul}
+use Rattle.matrices.specs.Matrix as theory
+use Rattle.complexes.specs.Complex.{count, Complex}
+use Rattle.complexes.specs.Boundary.{sign, boundary}
+use Rattle.sheet_format.specs.Check.{sectionsOf}
+use Rattle.lines.specs.Slice.{at, lineAt}
+use Rattle.lines.specs.Matrices.{contents, end, Off}
+use Rattle.lines.specs.declared.matrix.Matrix.{Matrix}
+use Rattle.boundaries.specs.Face.{AreFaces}
+use Rattle.boundaries.proofs.Sums.{sum-places}
+
+-- the matrix q of a slice times the boundary matrix of dimension p + 1
+abbrev pub product : List ℕ → ℕ → Matrix → List ℤ → theory.Matrix
+product b p q w = mul (q .width) (contents q w) (boundary (sectionsOf b) (suc p))
+
+pub contents-kept : (q m : Matrix) (w w′ : List ℤ) → end m ≤ q .at → ((i : ℕ) → Off m i → at w′ i ≡ at w i)
+    → (i k : ℕ) → contents q w′ i k ≡ contents q w i k
+contents-kept q m w w′ l off i k = off (lineAt (q .at) (q .width) i + k) (inr (omega arith))
+
+pub product-entry : (b : List ℕ) {top limit : ℕ} (complex : Complex top limit (sectionsOf b)) (p j : ℕ) → j < count (sectionsOf b) (suc p)
+    → (places : List ℕ) → AreFaces b p j places → (n : ℕ) → n ≡ count (sectionsOf b) p → (Q : theory.Matrix) (i : ℕ)
+    → sum (p + 2) (λ t. Q i (getD places t 0) *ℤ sign t) ≡ mul n Q (boundary (sectionsOf b) (suc p)) i j
+unfolding mul
+product-entry b complex p j below places faces n e Q i =
+    ap (λ (m : ℕ). sum m (λ t. Q i (getD places t 0) *ℤ sign t)) two
+    ∙ sym (sum-places b complex p j below (λ t. getD places t 0) (faces .face) (Q i))
+    ∙ ap (λ (m : ℕ). sum m (λ k. Q i k *ℤ boundary (sectionsOf b) (suc p) k j)) (sym e)
+  where
+    two : p + 2 ≡ suc (suc p)
+    two = omega arith

@@ -1,0 +1,77 @@
+-- `fill::fill_boundary` meets its contract. The invariant: the columns passed are those of the boundary matrix. The measure is how many are
+-- left. Assumes nothing.
+use mathlib.Core.Path.{refl, _∙_}
+use Prim.Native.Nat.{suc, _-_, _≤_}
+use native.Mathlib.Omega.{arith}
+use Rattle.matrices.specs.Matrix as theory
+use Rattle.complexes.specs.Boundary.{boundary}
+use Rattle.sheet_format.specs.Check.{sectionsOf}
+use Rattle.lines.specs.Matrices.{contents, Holds}
+use Rattle.boundaries.proofs.Columns.{leftOf, columns-none, columns-next, columns-more, columns-all}
+use Rattle.boundaries.proofs.fill.fill_boundary.Statement.{statement}
+use Rattle.boundaries.proofs.fill.fill_boundary.Tie as tie
+
+abbrev Inv-loop : tie.InvT-loop
+Inv-loop s p m w₀ j₀ columns w j = (j ≤ m .width) × Holds m w₀ (leftOf j (boundary (sectionsOf s) (suc p)) (contents m w₀)) w
+
+abbrev μ-loop : tie.MeasureT-loop
+μ-loop s p m w₀ j₀ columns w j = m .width - j
+
+loop-holds : tie.Need-loop-holds Inv-loop μ-loop
+loop-holds c =
+    let args = c .before .args in
+    (omega arith, columns-none (args .m) (args .w .now) (boundary (sectionsOf (args .s .now)) (suc (args .p))) (c .before .pre .1 .1 .1))
+
+-- the boundary matrix, and what the slice held at first
+abbrev whole : tie.Start Inv-loop μ-loop → theory.Matrix
+whole c = boundary (sectionsOf (c .args .s .now)) (suc (c .args .p))
+
+abbrev old : tie.Start Inv-loop μ-loop → theory.Matrix
+old c = contents (c .args .m) (c .args .w .now)
+
+fill-column-requires : tie.Need-fill-column-requires Inv-loop μ-loop
+fill-column-requires c κs =
+    let start = c .before .before .before .before in let turn = c .before .before .loop in let below = c .before .loop-test .taken in (
+      start .pre .0,
+      (
+        (start .pre .1 .0 .0, start .pre .1 .0 .1, below),
+        (
+          (record { ends = omega (arith, start .pre .1 .1 .0 .ends, turn .inv .1 .same-length) }, turn .inv .1 .small),
+          λ i l. columns-next (whole start) (old start) (turn .j) (turn .inv .1) i l below ∙ start .pre .1 .1 .2 .at i (turn .j) l below,
+        ),
+      ),
+    )
+
+add-j : tie.Need-add-j Inv-loop μ-loop
+add-j c = omega (arith, c .before .before .before .loop-test .taken, c .before .before .before .before .before .before .fits)
+
+loop-less : tie.Need-loop-less Inv-loop μ-loop
+loop-less c = omega (arith, c .before .before .before .loop-test .taken)
+
+loop-again : tie.Need-loop-again Inv-loop μ-loop
+loop-again c =
+    let start = c .before .before .before .before .before .before in let turn = c .before .before .before .before .loop in (
+      omega (arith, c .before .before .before .loop-test .taken),
+      columns-more (whole start) (old start) (turn .j) (turn .inv .1) (c .before .fill-column .ensures) (λ i l. refl),
+    )
+
+same-length : tie.Need-same-length Inv-loop μ-loop
+same-length c = c .before .loop .inv .1 .same-length
+
+returns : tie.Need-returns Inv-loop μ-loop
+returns c =
+    let start = c .before .before .before in columns-all (whole start) (old start) (c .before .loop .j) (c .before .loop .inv .1) (c .loop-test .left)
+
+pub fill-boundary-spec : {M : Type 1} → statement M
+fill-boundary-spec =
+    tie.close
+    (tie.spec
+    Inv-loop
+    μ-loop
+    loop-holds
+    fill-column-requires
+    add-j
+    loop-less
+    loop-again
+    same-length
+    returns)

@@ -1,0 +1,187 @@
+-- `fill::fill_column` meets its contract. The invariant: the column holds what the first t faces give it. The measure is how many faces are
+-- left. Assumes nothing.
+use mathlib.Core.Path.{_≡_, refl, sym, ap, subst, _∙_}
+use mathlib.Core.List.{List}
+use Prim.Native.Nat.{ℕ, suc, _+_, _-_, _<_, _≤_}
+use native.Mathlib.Omega.{arith}
+use denote.Ref.{now}
+use lib.ListN.{length, set}
+use lib.IntN.{ℤ}
+use Rattle.integers.specs.Ring.{zero-add}
+use Rattle.matrices.specs.Matrix.{null}
+use Rattle.complexes.specs.Complex.{count, cell, Complex}
+use Rattle.complexes.specs.Boundary.{sign, boundary}
+use Rattle.complexes.specs.CoefficientLaws.{natAbs-sign}
+use Rattle.sheet_format.specs.Layout.{top}
+use Rattle.sheet_format.specs.Check.{sectionsOf}
+use Rattle.reports.specs.Call.{libraryLimit}
+use Rattle.lines.specs.Slice.{lineAt, Small}
+use Rattle.lines.specs.Matrices.{Held, contents}
+use Rattle.lines.specs.declared.matrix.Matrix.{Matrix}
+use Rattle.boundaries.specs.Face.{IsFace, ColumnFilled}
+use Rattle.boundaries.proofs.Sheet.{complex}
+use Rattle.boundaries.proofs.Column.{entry, part-none, part-face, part-other, part-fresh, part-all}
+use Rattle.boundaries.proofs.Store.{Place, place-inside, entry-set, column-set}
+use Rattle.boundaries.proofs.Words.{sign-cast, sign-entry}
+use Rattle.boundaries.proofs.fill.fill_column.Statement.{statement}
+use Rattle.boundaries.proofs.fill.fill_column.Tie as tie
+
+-- what the function is given
+record Given (b : List ℕ) (p : ℕ) (M : Matrix) (w₀ : List ℤ) (j : ℕ) : Type 0 where
+  sheet : Complex top libraryLimit (sectionsOf b)
+  inside : p < top
+  lines : M .lines ≡ count (sectionsOf b) p
+  columns : M .width ≡ count (sectionsOf b) (suc p)
+  below : j < M .width
+  held : Held (length w₀) M
+  small : Small w₀
+  zero : (i : ℕ) → i < M .lines → contents M w₀ i j ≡ null i j
+
+record Invariant (b : List ℕ) (p : ℕ) (M : Matrix) (w₀ : List ℤ) (j : ℕ) (w : List ℤ) (t : ℕ) : Type 0 where
+  within : t ≤ p + 2
+  so-far : ColumnFilled M w₀ (λ i k. entry b p k t i) j w
+
+module _ {b : List ℕ} {p : ℕ} {M : Matrix} {w₀ : List ℤ} {j : ℕ} (given : Given b p M w₀ j) where
+  cell-below : j < count (sectionsOf b) (suc p)
+  cell-below = omega (arith, given .below, given .columns)
+
+  begun : Invariant b p M w₀ j w₀ 0
+  unfolding null
+  begun = record {
+    within = omega arith;
+    so-far = record {
+      same-length = refl;
+      on = λ i l. given .zero i l ∙ sym (part-none (cell (sectionsOf b) (suc p) j) (cell (sectionsOf b) p i));
+      beside = λ i k l m d. refl;
+      off = λ i o. refl;
+      small = given .small;
+    };
+  }
+
+  -- the place of the entry for a face
+  entry-place : {t r place : ℕ} → IsFace b p j t r → place ≡ lineAt (M .at) (M .width) r + j → Place M (length w₀) r j place
+  entry-place face e = record { held = given .held; line = omega (arith, face .below, given .lines); column = given .below; is = e }
+
+  module _ {w : List ℤ} {t : ℕ} (inv : Invariant b p M w₀ j w t) where
+    more : t < p + 2 → {r place : ℕ} → IsFace b p j t r → Place M (length w₀) r j place → Invariant b p M w₀ j (set w place (sign t)) (t + 1)
+    more l {r} {place} face e = record {
+      within = omega arith;
+      so-far = column-set (entry-set e w (sign t) (inv .so-far .same-length) (inv .so-far .small) (omega (arith, natAbs-sign t)))
+          (λ i k. entry b p k (t + 1) i) on (inv .so-far) (λ a k d. part-other b (given .sheet) p j cell-below t r face a (omega (arith, given .lines)) d)
+          (given .below);
+    }
+      where
+        on : entry b p j (t + 1) r ≡ sign t
+        on =
+            part-face b (given .sheet) p j cell-below t r face
+            ∙ rw (part-fresh b (given .sheet) p j cell-below t r face (omega arith)) (zero-add (sign t))
+
+    ended : p + 2 ≤ t → ColumnFilled M w₀ (boundary (sectionsOf b) (suc p)) j w
+    ended done = record {
+      same-length = inv .so-far .same-length;
+      on = λ i l. inv .so-far .on i l ∙ ap (λ (n : ℕ). entry b p j n i) all ∙ sym (part-all b (given .sheet) p j cell-below i);
+      beside = inv .so-far .beside;
+      off = inv .so-far .off;
+      small = inv .so-far .small;
+    }
+      where
+        all : t ≡ suc (suc p)
+        all = omega (arith, inv .within)
+
+abbrev Inv-loop : tie.InvT-loop
+Inv-loop s p m w₀ j t₀ w t = Invariant s p m w₀ j w t
+
+abbrev μ-loop : tie.MeasureT-loop
+μ-loop s p m w₀ j t₀ w t = p + 2 - t
+
+given : (c : tie.After-shared-slice-known Inv-loop μ-loop) →
+    let args = c .before .args in Given (args .s .now) (args .p) (args .m) (args .w .now) (args .j)
+given c =
+    let pre = c .before .pre in
+    record {
+      sheet = complex (record { small = λ i. c .shared-slice-known .given i .fits }) (pre .0 .0);
+      inside = pre .0 .1;
+      lines = pre .1 .0 .0;
+      columns = pre .1 .0 .1;
+      below = pre .1 .0 .2;
+      held = pre .1 .1 .0 .0;
+      small = pre .1 .1 .0 .1;
+      zero = pre .1 .1 .1;
+    }
+
+loop-holds : tie.Need-loop-holds Inv-loop μ-loop
+loop-holds c = begun (given c)
+
+add-loop : tie.Need-add-loop Inv-loop μ-loop
+add-loop c = omega (arith, c .before .before .pre .0 .1)
+
+face-place-requires : tie.Need-face-place-requires Inv-loop μ-loop
+face-place-requires c κs =
+    let pre = c .before .before .before .pre in (pre .0 .0, (pre .0 .1, cell-below (given (c .before .before)), omega (arith, c .loop-test .taken)))
+
+line-requires : tie.Need-line-requires Inv-loop μ-loop
+line-requires c κs =
+    let g = given (c .before .before .before) in omega (arith, g .held .ends, c .face-place .ensures .below, g .lines)
+
+module _ (c : tie.After-line Inv-loop μ-loop) where
+  abbrev known : tie.After-shared-slice-known Inv-loop μ-loop
+  known = c .before .before .before .before
+
+  place : let args = known .before .args in
+      Place (args .m) (length (args .w .now)) (c .before .face-place .result) (args .j) (c .line .result + args .j)
+  place = entry-place (given known) (c .before .face-place .ensures) (omega (arith, c .line .ensures))
+
+add-at : tie.Need-add-at Inv-loop μ-loop
+add-at c = omega (arith, place-inside (place c))
+
+sign-requires : tie.Need-sign-requires Inv-loop μ-loop
+sign-requires c κs = tt
+
+cast-w : tie.Need-cast-w Inv-loop μ-loop
+cast-w c = sign-cast (c .sign .result) (c .before .before .before .before .loop .t) (c .sign .ensures)
+
+mul-t9 : tie.Need-mul-t9 Inv-loop μ-loop
+mul-t9 c = omega (arith, place-inside (place (c .before)))
+
+slice-set-from-w : tie.Need-slice-set-from-w Inv-loop μ-loop
+slice-set-from-w c = omega (arith, place-inside (place (c .before)), c .before .before .before .before .loop .inv .so-far .same-length)
+
+add-t : tie.Need-add-t Inv-loop μ-loop
+add-t c = omega (arith, c .before .before .before .loop-test .taken, known (c .before) .before .pre .0 .1)
+
+loop-less : tie.Need-loop-less Inv-loop μ-loop
+loop-less c = omega (arith, c .before .before .before .loop-test .taken)
+
+loop-again : tie.Need-loop-again Inv-loop μ-loop
+loop-again c =
+    let turn = c .before .before .before in let args = known (c .before) .before .args in let place-of = c .before .line .result + args .j in
+    subst (λ (v : ℤ). Invariant (args .s .now) (args .p) (args .m) (args .w .now) (args .j) (set (turn .before .loop .w) place-of v) (turn .before .loop .t + 1))
+    (sym (sign-entry (c .sign .result) (turn .before .loop .t) (c .sign .ensures)))
+    (more (given (known (c .before))) (turn .before .loop .inv) (turn .loop-test .taken) (c .before .before .face-place .ensures) (place (c .before)))
+
+same-length : tie.Need-same-length Inv-loop μ-loop
+same-length c = c .before .loop .inv .so-far .same-length
+
+returns : tie.Need-returns Inv-loop μ-loop
+returns c = ended (given (c .before .before)) (c .before .loop .inv) (c .loop-test .left)
+
+pub fill-column-spec : {M : Type 1} → statement M
+fill-column-spec =
+    tie.close
+    (tie.spec
+    Inv-loop
+    μ-loop
+    loop-holds
+    add-loop
+    face-place-requires
+    line-requires
+    add-at
+    sign-requires
+    cast-w
+    mul-t9
+    slice-set-from-w
+    add-t
+    loop-less
+    loop-again
+    same-length
+    returns)

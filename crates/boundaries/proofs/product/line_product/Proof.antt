@@ -1,0 +1,149 @@
+-- `product::line_product` meets its contract. The invariant: the total is the sum of the first t terms. The measure is how many are left.
+-- Assumes nothing.
+use mathlib.Core.Path.{_≡_, refl, ap, _∙_}
+use mathlib.Core.List.{List}
+use Prim.Native.Nat.{ℕ, _+_, _-_, _^_, _<_, _≤_}
+use native.Mathlib.Nat as NatL
+use native.Mathlib.Numerals.{add-one}
+use native.Mathlib.Omega.{arith}
+use lib.ListN.{getD}
+use lib.IntN.{ℤ, natAbs, _+ℤ_, _*ℤ_}
+use mir.Syntax.{w32, w64}
+use mir.Val.{SFits, toZ}
+use Rattle.integers.specs.Order.{natAbs-mul}
+use Rattle.matrices.specs.Sum.{sum}
+use Rattle.complexes.specs.Boundary.{sign}
+use Rattle.complexes.specs.CoefficientLaws.{natAbs-sign}
+use Rattle.lines.specs.Slice.{limit, at, Small}
+use Rattle.lines.proofs.Words.{read, read-entry, entry-fits, cast-fits}
+use Rattle.boundaries.proofs.Sums.{natAbs-sum}
+use Rattle.boundaries.proofs.Words.{term-fits, sum-fits, sum-is}
+use Rattle.boundaries.proofs.product.line_product.Statement.{statement}
+use Rattle.boundaries.proofs.product.line_product.Tie as tie
+
+-- term number t
+abbrev signed : List ℤ → ℕ → List ℕ → ℕ → ℤ
+signed w line places t = at w (line + getD places t 0) *ℤ sign t
+
+record Invariant (w : List ℤ) (line : ℕ) (places : List ℕ) (faces t : ℕ) (total : ℤ) : Type 0 where
+  within : t ≤ faces
+  is : total ≡ sum t (signed w line places)
+
+module _ {w : List ℤ} {line : ℕ} {places : List ℕ} {faces t : ℕ} {total : ℤ} (inv : Invariant w line places faces t total) (small : Small w)
+    (more : t < faces) (few : faces ≤ 4) (r : ℤ) (r-is : r ≡ sign t) where
+  abbrev x : ℤ
+  x = at w (line + getD places t 0)
+
+  x-small : natAbs x ≤ limit
+  x-small = small .bound (line + getD places t 0)
+
+  read-small : natAbs (read w32 x) ≤ limit
+  read-small = rw (read-entry x x-small) x-small
+
+  signed-small : (k : ℕ) → natAbs (signed w line places k) ≤ limit
+  signed-small k =
+      rw (natAbs-mul (at w (line + getD places k 0)) (sign k), natAbs-sign k) (omega (arith, small .bound (line + getD places k 0)))
+
+  total-small : natAbs total ≤ 2 ^ 33
+  total-small = rw (inv .is) (omega (arith, natAbs-sum t (signed w line places) limit (λ k l. signed-small k)))
+
+  cast-word : SFits w64 (read w32 x)
+  cast-word = cast-fits x (entry-fits x x-small)
+
+  term-word : SFits w64 (read w64 (read w32 x) *ℤ read w64 r)
+  term-word = term-fits total (read w32 x) r t r-is total-small read-small
+
+  sum-word : SFits w64 (total +ℤ read w64 (read w64 (read w32 x) *ℤ read w64 r))
+  sum-word = sum-fits total (read w32 x) r t r-is total-small read-small
+
+  again : Invariant w line places faces (t + 1) (read w64 (total +ℤ read w64 (read w64 (read w32 x) *ℤ read w64 r)))
+  unfolding sum
+  again = record {
+    within = omega arith;
+    is = sum-is total (read w32 x) r t r-is total-small read-small ∙ rw (read-entry x x-small, inv .is, add-one t);
+  }
+
+abbrev Inv-loop : tie.InvT-loop
+Inv-loop w line width faces places total₀ t₀ total t = Invariant w line places faces t (toZ w64 total)
+
+abbrev μ-loop : tie.MeasureT-loop
+μ-loop w line width faces places total₀ t₀ total t = faces - t
+
+loop-holds : tie.Need-loop-holds Inv-loop μ-loop
+unfolding sum
+loop-holds c = record { within = omega arith; is = refl }
+
+mul-place : tie.Need-mul-place Inv-loop μ-loop
+mul-place c = omega (arith, c .loop-test .taken, c .before .before .pre .0 .2)
+
+array-read-place : tie.Need-array-read-place Inv-loop μ-loop
+array-read-place c = omega (arith, c .loop-test .taken, c .before .before .pre .0 .2)
+
+-- the place of a face is one of the line
+inside : (c : tie.In-loop Inv-loop μ-loop) → getD (c .before .before .args .t4) (c .before .loop .t) 0 < c .before .before .args .width
+inside c = c .before .before .pre .1 (c .before .loop .t) (c .loop-test .taken)
+
+add-total : tie.Need-add-total Inv-loop μ-loop
+add-total c = omega (arith, inside c, c .before .before .pre .0 .0)
+
+mul-total : tie.Need-mul-total Inv-loop μ-loop
+mul-total c = omega (arith, inside c, c .before .before .pre .0 .0)
+
+shared-slice-copy-out-total : tie.Need-shared-slice-copy-out-total Inv-loop μ-loop
+shared-slice-copy-out-total c = omega (arith, inside c, c .before .before .pre .0 .0)
+
+cast-total : tie.Need-cast-total Inv-loop μ-loop
+cast-total c =
+    let start = c .before .before .before in
+    cast-word (c .before .before .loop .inv) (start .pre .0 .1) (c .before .loop-test .taken) (start .pre .0 .2) (sign (c .before .before .loop .t)) refl
+
+sign-requires : tie.Need-sign-requires Inv-loop μ-loop
+sign-requires c κs = tt
+
+mul-total-2 : tie.Need-mul-total-2 Inv-loop μ-loop
+mul-total-2 c =
+    let start = c .before .before .before .before in
+    term-word (c .before .before .before .loop .inv) (start .pre .0 .1) (c .before .before .loop-test .taken) (start .pre .0 .2) (c .sign .result) (c .sign .ensures)
+
+add-total-2 : tie.Need-add-total-2 Inv-loop μ-loop
+add-total-2 c =
+    let start = c .before .before .before .before in
+    sum-word (c .before .before .before .loop .inv) (start .pre .0 .1) (c .before .before .loop-test .taken) (start .pre .0 .2) (c .sign .result) (c .sign .ensures)
+
+add-t : tie.Need-add-t Inv-loop μ-loop
+add-t c = omega (arith, c .before .before .loop-test .taken, c .before .before .before .before .pre .0 .2)
+
+loop-less : tie.Need-loop-less Inv-loop μ-loop
+loop-less c = omega (arith, c .before .before .loop-test .taken)
+
+loop-again : tie.Need-loop-again Inv-loop μ-loop
+loop-again c =
+    let start = c .before .before .before .before in
+    again (c .before .before .before .loop .inv) (start .pre .0 .1) (c .before .before .loop-test .taken) (start .pre .0 .2) (c .sign .result) (c .sign .ensures)
+
+returns : tie.Need-returns Inv-loop μ-loop
+returns c =
+    let args = c .before .before .args in
+    c .before .loop .inv .is
+    ∙ ap (λ (n : ℕ). sum n (signed (args .w .now) (args .line) (args .t4))) (NatL.le-antisymm (c .before .loop .inv .within) (c .loop-test .left))
+
+pub line-product-spec : {M : Type 1} → statement M
+line-product-spec =
+    tie.close
+    (tie.spec
+    Inv-loop
+    μ-loop
+    loop-holds
+    mul-place
+    array-read-place
+    add-total
+    mul-total
+    shared-slice-copy-out-total
+    cast-total
+    sign-requires
+    mul-total-2
+    add-total-2
+    add-t
+    loop-less
+    loop-again
+    returns)

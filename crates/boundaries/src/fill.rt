@@ -1,0 +1,61 @@
+// Boundary matrices and identities in a work slice that holds zeros there.
+ghost use mathlib.Core.Path.{_≡_};
+ghost use Prim.Native.Nat.{ℕ, suc, _<_};
+ghost use lib.ListN.{length};
+ghost use Rattle.matrices.specs.Matrix.{Eq, identity, null};
+ghost use Rattle.complexes.specs.Complex.{count};
+ghost use Rattle.complexes.specs.Boundary.{boundary};
+ghost use Rattle.sheet_format.specs.Layout.{top};
+ghost use Rattle.sheet_format.specs.Check.{sectionsOf};
+ghost use Rattle.lines.specs.Slice.{Small};
+ghost use Rattle.lines.specs.Matrices.{Held, contents, Holds};
+ghost use Rattle.boundaries.specs.Face.{Accepted, ColumnFilled};
+use crate::face::face_place;
+use crate::face::sign;
+use lines::matrix::Matrix;
+
+// Writes column j of the boundary matrix of dimension p + 1.
+fn fill_column(s: &[u8], p: usize, m: Matrix, w: &mut [i32], j: usize)
+    requires { ⌜ Accepted (now s) × (p < top) ⌝ }
+    requires { ⌜ (m .lines ≡ count (sectionsOf (now s)) p) × (m .width ≡ count (sectionsOf (now s)) (suc p)) × (j < m .width) ⌝ }
+    requires { ⌜ Held (length (now w)) m × Small (now w) ⌝ }
+    requires { ⌜ ((i : ℕ) → i < m .lines → contents m (now w) i j ≡ null i j) ⌝ }
+    ensures { λ r. ⌜ ColumnFilled m (now (w .entry)) (boundary (sectionsOf (now (s .entry))) (suc p)) j (now (w .exit)) ⌝ }
+{
+    let mut t: usize = 0;
+    while t < p + 2 {
+        let i = face_place(s, p, j, t);
+        let at = m.line(i) + j;
+        w[at] = sign(t) as i32;
+        t = t + 1;
+    }
+}
+
+// Writes the boundary matrix of dimension p + 1.
+pub fn fill_boundary(s: &[u8], p: usize, m: Matrix, w: &mut [i32])
+    requires { ⌜ Accepted (now s) × (p < top) ⌝ }
+    requires { ⌜ (m .lines ≡ count (sectionsOf (now s)) p) × (m .width ≡ count (sectionsOf (now s)) (suc p)) ⌝ }
+    requires { ⌜ Held (length (now w)) m × Small (now w) × Eq (m .lines) (m .width) (contents m (now w)) null ⌝ }
+    ensures { λ r. ⌜ Holds m (now (w .entry)) (boundary (sectionsOf (now (s .entry))) (suc p)) (now (w .exit)) ⌝ }
+{
+    let mut j: usize = 0;
+    let columns = m.width;
+    while j < columns {
+        fill_column(s, p, m, w, j);
+        j = j + 1;
+    }
+}
+
+// Writes the identity.
+pub fn fill_identity(m: Matrix, w: &mut [i32])
+    requires { ⌜ Held (length (now w)) m × Small (now w) × (m .lines ≡ m .width) × Eq (m .lines) (m .width) (contents m (now w)) null ⌝ }
+    ensures { λ r. ⌜ Holds m (now (w .entry)) identity (now (w .exit)) ⌝ }
+{
+    let mut i: usize = 0;
+    let lines = m.lines;
+    while i < lines {
+        let at = m.line(i) + i;
+        w[at] = 1;
+        i = i + 1;
+    }
+}

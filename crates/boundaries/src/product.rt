@@ -1,0 +1,80 @@
+// The product of a matrix in the work slice and a boundary matrix, checked against the entry limit.
+ghost use mathlib.Core.Path.{_≡_};
+ghost use Prim.Native.Nat.{ℕ, suc, _+_, _<_, _≤_};
+ghost use lib.ListN.{length, getD};
+ghost use lib.IntN.{_*ℤ_};
+ghost use Rattle.matrices.specs.Sum.{sum};
+ghost use Rattle.matrices.specs.Matrix.{mul};
+ghost use Rattle.complexes.specs.Complex.{count};
+ghost use Rattle.complexes.specs.Boundary as spec;
+ghost use Rattle.complexes.specs.Boundary.{boundary};
+ghost use Rattle.sheet_format.specs.Layout.{top};
+ghost use Rattle.sheet_format.specs.Check.{sectionsOf};
+ghost use Rattle.lines.specs.Slice.{Small, at};
+ghost use Rattle.lines.specs.Matrices.{Held, contents, end, Became};
+ghost use Rattle.boundaries.specs.Face.{Accepted, ColumnBecame};
+use crate::face::FACES;
+use crate::face::face_places;
+use crate::face::sign;
+use lines::line::Written;
+use lines::matrix::Matrix;
+
+// The sum of sign t times the entry at places[t] of a line, over t below `faces`.
+fn line_product(w: &[i32], line: usize, width: usize, places: [usize; FACES], faces: usize) -> i64
+    requires { ⌜ (line + width ≤ length (now w)) × Small (now w) × (faces ≤ 4) ⌝ }
+    requires { ⌜ ((t : ℕ) → t < faces → getD places t 0 < width) ⌝ }
+    ensures { λ r. ⌜ r ≡ sum faces (λ t. at (now (w .entry)) (line + getD places t 0) *ℤ spec.sign t) ⌝ }
+{
+    let mut total: i64 = 0;
+    let mut t: usize = 0;
+    while t < faces {
+        let place = places[t];
+        total = total + w[line + place] as i64 * sign(t);
+        t = t + 1;
+    }
+    total
+}
+
+// Column j of the product.
+fn multiply_column(s: &[u8], p: usize, q: Matrix, m: Matrix, w: &mut [i32], j: usize) -> Written
+    requires { ⌜ Accepted (now s) × (p < top) ⌝ }
+    requires { ⌜ (q .width ≡ count (sectionsOf (now s)) p) × (m .width ≡ count (sectionsOf (now s)) (suc p)) × (m .lines ≡ q .lines) × (j < m .width) ⌝ }
+    requires { ⌜ Held (length (now w)) q × (end m ≤ q .at) × Small (now w) ⌝ }
+    ensures { λ r. ⌜ ColumnBecame m (now (w .entry)) (mul (q .width) (contents q (now (w .entry))) (boundary (sectionsOf (now (s .entry))) (suc p))) j r (now (w .exit)) ⌝ }
+{
+    let places = face_places(s, p, j);
+    let lines = q.lines;
+    let width = q.width;
+    let mut i: usize = 0;
+    while i < lines {
+        let v = line_product(w, q.line(i), width, places, p + 2);
+        if v < -Matrix::ENTRY_LIMIT {
+            return Written::TooWide;
+        }
+        if Matrix::ENTRY_LIMIT < v {
+            return Written::TooWide;
+        }
+        let at = m.line(i) + j;
+        w[at] = v as i32;
+        i = i + 1;
+    }
+    Written::Done
+}
+
+// Makes of m the product of q and the boundary matrix of dimension p + 1.
+pub fn multiply(s: &[u8], p: usize, q: Matrix, m: Matrix, w: &mut [i32]) -> Written
+    requires { ⌜ Accepted (now s) ⌝ }
+    requires { ⌜ (q .width ≡ count (sectionsOf (now s)) p) × (m .width ≡ count (sectionsOf (now s)) (suc p)) × (m .lines ≡ q .lines) ⌝ }
+    requires { ⌜ Held (length (now w)) q × (end m ≤ q .at) × Small (now w) ⌝ }
+    ensures { λ r. ⌜ Became m (now (w .entry)) (mul (q .width) (contents q (now (w .entry))) (boundary (sectionsOf (now (s .entry))) (suc p))) r (now (w .exit)) ⌝ }
+{
+    let mut j: usize = 0;
+    let columns = m.width;
+    while j < columns {
+        let Written::Done = multiply_column(s, p, q, m, w, j) else {
+            return Written::TooWide;
+        };
+        j = j + 1;
+    }
+    Written::Done
+}

@@ -1,0 +1,99 @@
+-- Between the two reductions Q is the lines of the inverse from the rank on and G the columns of V from the rank on, which are the same places of
+-- the slice: later-lines. After the product the slice holds the start of the second reduction: second-state, product-narrow; or the product
+-- goes beyond the limit: product-beyond.
+use mathlib.Core.Path.{_≡_, sym, subst, _∙_, ap}
+use mathlib.Core.Bool.{true, false}
+use mathlib.Core.List.{List}
+use Prim.Native.Nat.{ℕ, suc, _+_, _*_, _-_, _≤_}
+use native.Mathlib.Nat.{add-mul}
+use native.Mathlib.Omega.{arith}
+use lib.IntN.{ℤ, pos, natAbs}
+use lib.ListN.{length, getD, drop}
+use Rattle.matrices.specs.Matrix.{Eq, mul}
+use Rattle.matrices.specs.Matrix as theory
+use Rattle.matrices.specs.Product.{Eq-refl, mul-ext}
+use Rattle.complexes.specs.Complex.{count}
+use Rattle.complexes.specs.Boundary.{rowCells, boundary}
+use Rattle.sheet_format.specs.Check.{sectionsOf}
+use Rattle.reduction_steps.specs.Table.{entry, table, tableWithin}
+use Rattle.reduction_laws.specs.Tables.{entry-table, table-ext, tableWithin-table, tableWithin-false}
+use Rattle.reduction_laws.specs.Shape.{Shaped}
+use Rattle.reports.specs.Reductions.{firstSizes, secondSizes, secondStart, product}
+use Rattle.reports.specs.Call.{workSlots, entryLimit}
+use Rattle.demands.specs.Starts.{second-shaped, entry-drop}
+use Rattle.lines.specs.Slice.{lineAt}
+use Rattle.lines.specs.Matrices.{contents, Holds, Exceeds}
+use Rattle.lines.specs.declared.matrix.Matrix.{Matrix}
+use Rattle.work.specs.Layout.{Laid, linesOf, stateOf}
+use Rattle.work.proofs.Regions.{lines-off, lines-on}
+use Rattle.calls.specs.Slices.{matrixAt, firstWork, secondWork, firstWorkOf, secondWorkOf}
+use Rattle.calls.proofs.Places.{second-laid, matrix-row-inverse, matrix-row-follower}
+use Rattle.calls.proofs.Filling.{state-is, lines-absent}
+
+-- the matrix of the later lines stands where they stand
+later-lines : (at lines width r : ℕ) (w : List ℤ)
+    → Eq (lines - r) width (contents (matrixAt (at + r * width) (lines - r) width) w) (entry (drop r (linesOf (matrixAt at lines width) w)))
+unfolding linesOf
+later-lines at lines width r w = record {
+  at = λ i j a b.
+      ap (λ (k : ℕ). getD w k (pos 0)) (omega (arith, add-mul r i width))
+      ∙ sym (entry-table lines width (contents (matrixAt at lines width) w) (r + i) j (omega arith) b)
+      ∙ sym (entry-drop r (table lines width (contents (matrixAt at lines width) w)) i j);
+}
+
+module _ (b : List ℕ) (p n r : ℕ) (slots : workSlots (sectionsOf b) p ≤ n) (within : r ≤ count (sectionsOf b) p) (w : List ℤ)
+    (shaped : Shaped (firstSizes (sectionsOf b) p) (stateOf (firstWorkOf b p) w)) where
+  -- Q times the boundary matrix of dimension p + 1
+  abbrev pub multiplied : theory.Matrix
+  multiplied = mul (count (sectionsOf b) p) (contents (secondWorkOf b p r .«row_follower») w) (boundary (sectionsOf b) (suc p))
+
+  pub laid-second : Laid n (secondWorkOf b p r)
+  laid-second =
+      second-laid (count (sectionsOf b) p) (length (rowCells (sectionsOf b) p)) (count (sectionsOf b) (suc p)) slots r within
+
+  Q-is : Eq (count (sectionsOf b) p - r) (count (sectionsOf b) p) (contents (secondWorkOf b p r .«row_follower») w)
+      (entry (drop r (stateOf (firstWorkOf b p) w .columnInverse)))
+  unfolding firstWork secondWork stateOf
+  Q-is = later-lines _ (count (sectionsOf b) p) (count (sectionsOf b) p) r w
+
+  G-is : Eq (count (sectionsOf b) p - r) (count (sectionsOf b) p) (contents (secondWorkOf b p r .«row_inverse») w)
+      (entry (drop r (stateOf (firstWorkOf b p) w .columnFollower)))
+  unfolding firstWork secondWork stateOf
+  G-is = later-lines _ (count (sectionsOf b) p) (count (sectionsOf b) p) r w
+
+  product-is : table (count (sectionsOf b) p - r) (count (sectionsOf b) (suc p)) multiplied ≡ product (sectionsOf b) p r (stateOf (firstWorkOf b p) w)
+  unfolding product
+  product-is = table-ext (mul-ext Q-is (Eq-refl (count (sectionsOf b) p) (count (sectionsOf b) (suc p)) (boundary (sectionsOf b) (suc p))))
+
+  module _ {w′ : List ℤ} (h : Holds (secondWorkOf b p r .matrix) w multiplied w′) where
+    pub second-state : stateOf (secondWorkOf b p r) w′ ≡ secondStart (sectionsOf b) p r (stateOf (firstWorkOf b p) w)
+    unfolding stateOf linesOf secondWork secondStart
+    second-state =
+        state-is
+        (lines-on h ∙ product-is)
+        (lines-off (matrix-row-follower laid-second) h ∙ table-ext Q-is ∙ sym (later .rowFollower))
+        (lines-off (matrix-row-inverse laid-second) h ∙ table-ext G-is ∙ sym (later .rowInverse))
+        (lines-absent end (count (sectionsOf b) (suc p)) w′)
+        (lines-absent end (count (sectionsOf b) (suc p)) w′)
+      where
+        later : Shaped (secondSizes (sectionsOf b) p r) (secondStart (sectionsOf b) p r (stateOf (firstWorkOf b p) w))
+        later = second-shaped (sectionsOf b) p r (stateOf (firstWorkOf b p) w) shaped
+
+        end : ℕ
+        end = secondWorkOf b p r .«column_follower» .at
+
+    pub product-narrow : tableWithin entryLimit (product (sectionsOf b) p r (stateOf (firstWorkOf b p) w)) ≡ true
+    unfolding secondWork
+    product-narrow =
+        rw (← product-is)
+        (tableWithin-table entryLimit (count (sectionsOf b) p - r) (count (sectionsOf b) (suc p)) multiplied .1
+        (λ i j s t. subst (λ (x : ℤ). natAbs x ≤ entryLimit) (h .on .at i j s t) (h .small .bound (lineAt 0 (count (sectionsOf b) (suc p)) i + j))))
+
+  pub product-beyond : {w′ : List ℤ} → Exceeds (secondWorkOf b p r .matrix) w multiplied w′
+      → tableWithin entryLimit (product (sectionsOf b) p r (stateOf (firstWorkOf b p) w)) ≡ false
+  unfolding secondWork
+  product-beyond h =
+      rw (← product-is)
+      (tableWithin-false entryLimit (table (count (sectionsOf b) p - r) (count (sectionsOf b) (suc p)) multiplied) (h .line) (h .place)
+      (rw (entry-table (count (sectionsOf b) p - r) (count (sectionsOf b) (suc p)) multiplied (h .line) (h .place) (h .line-below) (h .place-below))
+      (h .beyond)))

@@ -1,0 +1,71 @@
+-- What the coordinate call answers: coordinates-refuse, for the checks 1 to 9; chain-refuses, for 10 to 12; coordinates-wide, coordinates-done.
+use mathlib.Core.Path.{_≡_, _∙_, ap}
+use mathlib.Core.List.{List}
+use Prim.Native.Nat.{ℕ}
+use lib.IntN.{ℤ, pos}
+use lib.ListN.{length, replicate}
+use Rattle.complexes.specs.Complex.{Complex, count}
+use Rattle.sheet_format.specs.Layout.{top}
+use Rattle.sheet_format.specs.Check.{sectionsOf}
+use Rattle.reduction_steps.specs.State.{State}
+use Rattle.reports.specs.Report.{coordinateList}
+use Rattle.reports.specs.Call.{coordinateSlots, libraryLimit, orElse, refusalBefore, chainRefusal, reductionsOf, coordinateCall, written}
+use Rattle.reports.specs.RefusalLaws.{Passed, refusalBefore-zero}
+use Rattle.refusal.specs.Number.{numberOf}
+use Rattle.refusal.specs.declared.Refusal.{Refusal}
+use Rattle.refusal.specs.declared.Refusal.the-variants as refusal
+use Rattle.writers.specs.Written.{WroteCoordinates}
+use Rattle.writers.specs.declared.reduced.Counts.{Counts}
+use Rattle.writers.specs.declared.reduced.Reduced.{Reduced}
+use Rattle.work.specs.Layout.{stateOf}
+use Rattle.calls.specs.Answer.{CallAnswers}
+use Rattle.calls.specs.Slices.{ReducedTwice, TwiceReduced}
+use Rattle.calls.specs.declared.answer.Answer.the-variants.{Done, Refused}
+use Rattle.calls.specs.declared.reductions.Reductions.the-variants as reductions
+use Rattle.calls.proofs.Refusals.{orElse-first}
+use Rattle.calls.proofs.Answering.{refuses, goes-wide, is-done}
+use Rattle.calls.proofs.Writing.{follower-width}
+
+module _ (limit : ℕ) (b : List ℕ) (p : ℕ) (z coordinates work : List ℤ) where
+  -- the refusals before the reductions: 1 to 9, then 10 to 12
+  abbrev before-chain : ℕ
+  before-chain = refusalBefore limit b p coordinateSlots (length coordinates) (length work)
+
+  abbrev before-reductions : ℕ
+  before-reductions = orElse before-chain (chainRefusal b p z)
+
+  -- the coordinates
+  abbrev numbers : ℕ → ℕ → State → List ℤ
+  numbers s r x = coordinateList (count (sectionsOf b) p) s x z
+
+  pub coordinates-refuse : {x : Refusal} → before-chain ≡ numberOf x → CallAnswers (coordinateCall limit b p z coordinates work) (Refused x) coordinates work
+  unfolding coordinateCall
+  coordinates-refuse {x} e =
+      refuses before-reductions (reductionsOf b p) numbers coordinates work (orElse-first before-chain (chainRefusal b p z) x e)
+
+  module _ (passed : Passed limit b p coordinateSlots (length coordinates) (length work)) where
+    chain-next : before-reductions ≡ chainRefusal b p z
+    chain-next =
+        ap (λ (k : ℕ). orElse k (chainRefusal b p z)) (refusalBefore-zero limit b p coordinateSlots (length coordinates) (length work) .1 passed)
+
+    pub chain-refuses : {x : Refusal} → chainRefusal b p z ≡ numberOf x → CallAnswers (coordinateCall limit b p z coordinates work) (Refused x) coordinates work
+    unfolding coordinateCall
+    chain-refuses e = refuses before-reductions (reductionsOf b p) numbers coordinates work (chain-next ∙ e)
+
+    module _ (chain : chainRefusal b p z ≡ 0) where
+      pub coordinates-wide : {x : Refusal} {work′ : List ℤ} → TwiceReduced b p (reductionsOf b p) (length work) (reductions.Refused x) work′
+          → CallAnswers (coordinateCall limit b p z coordinates work) (Refused refusal.TooWide) coordinates work′
+      unfolding coordinateCall
+      coordinates-wide h = goes-wide before-reductions (reductionsOf b p) numbers coordinates work (chain-next ∙ chain) (h .0) (h .1 .zeros)
+
+      pub coordinates-done :
+          Complex top libraryLimit (sectionsOf b) → {x : Reduced} {w : List ℤ} → ReducedTwice b p (reductionsOf b p) (length work) x w
+          → {counts : Counts} {coordinates′ work′ : List ℤ} → WroteCoordinates x w z coordinates counts coordinates′ → work′ ≡ replicate (length w) (pos 0)
+          → CallAnswers (coordinateCall limit b p z coordinates work) (Done counts) coordinates′ work′
+      unfolding coordinateCall
+      coordinates-done complex {x} {w} h k e =
+          is-done before-reductions (reductionsOf b p) numbers coordinates work (chain-next ∙ chain) (h .is) (k .free) (k .torsion)
+          (k .is
+          ∙ ap (λ (cells : ℕ). written (coordinateList cells (x .work .matrix .lines) (stateOf (x .work) w) z) coordinates)
+          (follower-width complex (passed .work-slots) h))
+          (e ∙ ap (λ (m : ℕ). replicate m (pos 0)) (h .kept .same-length))

@@ -1,0 +1,68 @@
+-- What the two reductions leave can be written: can-report, can-coordinate.
+use mathlib.Core.Path.{_≡_, refl, sym, _∙_}
+use mathlib.Core.List.{List}
+use Prim.Native.Nat.{ℕ, suc, _≤_}
+use native.Mathlib.Nat.{mul-le-mul, le-refl, le-trans}
+use native.Mathlib.Omega.{arith}
+use lib.IntN.{ℤ, natAbs}
+use lib.ListN.{length}
+use Rattle.complexes.specs.Complex.{Complex, count}
+use Rattle.complexes.specs.Boundary.{rowCells}
+use Rattle.sheet_format.specs.Layout.{top}
+use Rattle.sheet_format.specs.Check.{sectionsOf}
+use Rattle.reduction_steps.specs.Pivot.{release1}
+use Rattle.reduction_steps.specs.PivotLaws.{release1-is-rule}
+use Rattle.reports.specs.Call.{workSlots, reportSlots, entryLimit, coefficientLimit, libraryLimit, reductionsOf}
+use Rattle.demands.specs.TwoReductions.{Right, reductions-right}
+use Rattle.lines.specs.Slice.{at}
+use Rattle.work.specs.Layout.{Laid, stateOf}
+use Rattle.writers.specs.Written.{Kinds, CanReport, CanCoordinate}
+use Rattle.writers.specs.declared.reduced.Reduced.{Reduced}
+use Rattle.calls.specs.Slices.{secondWork, ReducedTwice}
+use Rattle.calls.proofs.Places.{second-laid}
+
+module _ {b : List ℕ} {p n : ℕ} {x : Reduced} {w : List ℤ} (complex : Complex top libraryLimit (sectionsOf b)) (slots : workSlots (sectionsOf b) p ≤ n)
+    (h : ReducedTwice b p (reductionsOf b p) n x w) where
+  laid : Laid (length w) (x .work)
+  laid =
+      rw (h .kept .same-length, h .work-is)
+      (second-laid (count (sectionsOf b) p) (length (rowCells (sectionsOf b) p)) (count (sectionsOf b) (suc p)) slots (h .first-rank) (h .rank-within))
+
+  right : Right (sectionsOf b) p (x .work .matrix .lines) (x .rank) (stateOf (x .work) w)
+  unfolding reductionsOf
+  right =
+      reductions-right complex release1 release1-is-rule entryLimit p (omega arith) (x .work .matrix .lines) (x .rank) (stateOf (x .work) w) (h .is)
+
+  kinds : Kinds (x .work .matrix) w
+  unfolding stateOf
+  kinds = record { nonneg = right .reduced .second .nonneg }
+
+  pub inverse-width : x .work .«row_inverse» .width ≡ count (sectionsOf b) p
+  unfolding secondWork
+  inverse-width = rw (h .work-is) refl
+
+  pub follower-width : x .work .«row_follower» .width ≡ count (sectionsOf b) p
+  unfolding secondWork
+  follower-width = rw (h .work-is) refl
+
+  pub can-report : {m : ℕ} → reportSlots (sectionsOf b) p ≤ m → CanReport x w m
+  can-report {m} room = record {
+    laid = laid;
+    kinds = kinds;
+    rank-below = h .rank-below;
+    lines-below = rw inverse-width (right .rows-bound);
+    room = rw inverse-width (omega (arith, room, h .rank-below, right .rows-bound, mul-le-mul (right .rows-bound) (le-refl (count (sectionsOf b) p))));
+  }
+
+  pub can-coordinate : {z : List ℤ} {m : ℕ} → count (sectionsOf b) p ≤ m → length z ≡ count (sectionsOf b) p
+      → ((j : ℕ) → natAbs (at z j) ≤ coefficientLimit) → CanCoordinate x w z m
+  can-coordinate {z} {m} room size small = record {
+    laid = laid;
+    small = h .kept .small;
+    kinds = kinds;
+    rank-below = h .rank-below;
+    room = le-trans (right .rows-bound) room;
+    width = follower-width ∙ sym size;
+    width-within = rw size (complex .within p);
+    coefficients = small;
+  }

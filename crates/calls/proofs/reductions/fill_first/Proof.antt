@@ -1,0 +1,103 @@
+-- `reductions::fill_first` meets its contract: the boundary matrix, V and its inverse are written one after another in a slice of zeros, each
+-- where the others do not stand. Assumes nothing.
+use mathlib.Core.Path.{_≡_, _∙_, ap}
+use mathlib.Core.Logic.{⊎-elim}
+use Prim.Native.Nat.{suc, _-_}
+use native.Mathlib.Omega.{arith}
+use borrow.Author.Needs.{needs}
+use denote.Ref.{now}
+use lib.IntN.{pos}
+use lib.ListN.{length, replicate, length-replicate}
+use Rattle.complexes.specs.Complex.{count}
+use Rattle.complexes.specs.Boundary.{boundary}
+use Rattle.sheet_format.specs.Check.{sectionsOf}
+use Rattle.lines.specs.Matrices.{Holds}
+use Rattle.calls.proofs.Places.{held-matrix}
+use Rattle.calls.proofs.Sheet.{rows-none, rows-section}
+use Rattle.calls.proofs.Filling.{zeros-small, zeros-null, no-lines, matrix-rows, matrix-columns, laid, filled, follower-fills, inverse-fills}
+use Rattle.calls.proofs.reductions.fill_first.Statement.{statement}
+use Rattle.calls.proofs.reductions.fill_first.Tie as tie
+
+clear-requires : tie.Need-clear-requires
+clear-requires c κs = search needs
+
+sub-fill-boundary : tie.Need-sub-fill-boundary
+sub-fill-boundary c = search needs
+
+fill-boundary-requires : tie.Need-fill-boundary-requires
+fill-boundary-requires c κs =
+    let start = c .before .before .before .before .before .before in
+    let b = now (start .args .s) in
+    let p = start .args .p in
+    let n = length (now (start .args .w)) in
+    let W = start .args .work in
+    let is = start .pre .1 .1 in
+    let cleared = c .before .before .before .clear .ensures in (
+      (start .pre .0 .0, omega (arith, start .pre .0 .1, c .before .if1 .taken)),
+      (
+        (
+          matrix-rows b p n (start .pre .1 .0) W is ∙ rows-section (sectionsOf b) p (c .before .if1 .taken),
+          matrix-columns b p n (start .pre .1 .0) W is ∙ ap (count (sectionsOf b)) (omega (arith, c .before .if1 .taken)),
+        ),
+        (
+          rw (cleared, length-replicate) (held-matrix (laid b p n (start .pre .1 .0) W is)),
+          rw cleared (zeros-small n),
+          rw cleared (zeros-null n (W .matrix)),
+        ),
+      ),
+    )
+
+-- the boundary matrix stands in a slice of zeros
+matrix-filled : (c : tie.Joined1) →
+    let args = c .before .before .before .before .before .args in
+    Holds (args .work .matrix) (replicate (length (now (args .w))) (pos 0)) (boundary (sectionsOf (now (args .s))) (args .p)) (c .if1 .w)
+matrix-filled c =
+    let start = c .before .before .before .before .before in
+    let b = now (start .args .s) in
+    let p = start .args .p in
+    let n = length (now (start .args .w)) in
+    let cleared = c .before .before .clear .ensures in
+    ⊎-elim
+    (λ f. let dimension : suc (p - 1) ≡ p = omega (arith, f .0 .taken) in rw (f .4) (rw (cleared, dimension) at (f .2 .ensures)))
+    (λ f. rw (f .1, cleared) (no-lines (boundary (sectionsOf b) p)
+    (matrix-rows b p n (start .pre .1 .0) (start .args .work) (start .pre .1 .1) ∙ rows-none b p (omega (arith, f .0 .left))) (zeros-small n)))
+    (c .if1 .came)
+
+fill-identity-requires : tie.Need-fill-identity-requires
+fill-identity-requires c κs =
+    let start = c .before .before .before .before .before .before in
+    follower-fills (now (start .args .s)) (start .args .p) (length (now (start .args .w))) (start .pre .1 .0) (start .args .work) (start .pre .1 .1)
+    (matrix-filled (c .before))
+
+fill-identity-requires-2 : tie.Need-fill-identity-requires-2
+fill-identity-requires-2 c κs =
+    let joined = c .before .before .before .before in
+    let start = joined .before .before .before .before .before in
+    inverse-fills (now (start .args .s)) (start .args .p) (length (now (start .args .w))) (start .pre .1 .0) (start .args .work) (start .pre .1 .1)
+    (matrix-filled joined) (c .before .before .fill-identity .ensures)
+
+returns : tie.Need-returns
+returns c =
+    let joined = c .before .before .before .before .before .before in
+    let start = joined .before .before .before .before .before in
+    filled (now (start .args .s)) (start .args .p) (length (now (start .args .w))) (start .pre .1 .0) (start .args .work) (start .pre .1 .1)
+    (record {
+      matrix = matrix-filled joined;
+      follower = c .before .before .before .before .fill-identity .ensures;
+      inverse = c .before .fill-identity2 .ensures;
+    })
+
+same-length : tie.Need-same-length
+same-length c = returns c .kept .same-length
+
+pub fill-first-spec : {M : Type 1} → statement M
+fill-first-spec =
+    tie.close
+    (tie.spec
+    clear-requires
+    sub-fill-boundary
+    fill-boundary-requires
+    fill-identity-requires
+    fill-identity-requires-2
+    same-length
+    returns)

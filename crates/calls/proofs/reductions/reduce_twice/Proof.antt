@@ -1,0 +1,262 @@
+-- `reductions::reduce_twice` meets its contract: each call's answer is one step of the definition of the two reductions (`Outcomes`).
+-- Assumes nothing.
+use mathlib.Core.Path.{_≡_, refl, sym, _∙_, ap}
+use Prim.Native.Nat.{ℕ}
+use native.Mathlib.Omega.{arith}
+use borrow.Author.Needs.{needs}
+use denote.Ref.{now}
+use lib.IntN.{pos}
+use lib.ListN.{length, replicate}
+use Rattle.complexes.specs.Complex.{Complex}
+use Rattle.sheet_format.specs.Layout.{top}
+use Rattle.sheet_format.specs.Check.{sectionsOf}
+use Rattle.reports.specs.Call.{libraryLimit}
+use Rattle.calls.specs.Slices.{firstWorkOf, secondWorkOf}
+use Rattle.calls.proofs.Sheet.{Counted, counted, sheet-complex, first-of, second-of}
+use Rattle.calls.proofs.Filling.{laid}
+use Rattle.calls.proofs.Outcomes.{cleared-length, reduces-done, reduces-refused, became-done, became-wide, FirstDone, SecondStarted, first-refused, first-done, laid-then, Q-width, product-width, Q-held}
+use Rattle.calls.proofs.Outcomes.{product-refused, second-started, second-refused, second-done}
+use Rattle.calls.proofs.reductions.reduce_twice.Statement.{statement}
+use Rattle.calls.proofs.reductions.reduce_twice.Tie as tie
+
+-- ---- the counts
+
+count-requires : tie.Need-count-requires
+count-requires c κs = search needs
+
+rows-of-requires : tie.Need-rows-of-requires
+rows-of-requires c κs = search needs
+
+add-count : tie.Need-add-count
+add-count c = search needs
+
+count-requires-2 : tie.Need-count-requires-2
+count-requires-2 c κs = search needs
+
+first-work-requires : tie.Need-first-work-requires
+first-work-requires c κs = search needs
+
+module _ (c : tie.After-first-work) where
+  abbrev start : tie.Start
+  start = c .before .before .before .before .before
+
+  complex : Complex top libraryLimit (sectionsOf (now (start .args .s)))
+  complex =
+      sheet-complex (record { small = λ i. c .before .before .before .before .shared-slice-known .given i .fits }) (start .pre .0 .0)
+
+  counts : Counted (now (start .args .s)) (start .args .p) (c .before .before .before .count .result) (c .before .before .rows-of .result) (c .before .count2 .result)
+  counts = counted (c .before .before .before .count .ensures) (c .before .before .rows-of .ensures) (c .before .count2 .ensures)
+
+  first-is : c .first-work .result ≡ firstWorkOf (now (start .args .s)) (start .args .p)
+  first-is = c .first-work .ensures ∙ first-of counts
+
+-- ---- the first reduction
+
+fill-first-requires : tie.Need-fill-first-requires
+fill-first-requires c κs = let s = start (c .before) in (s .pre .0, (s .pre .1, first-is (c .before)))
+
+reduce-matrix-requires : tie.Need-reduce-matrix-requires
+reduce-matrix-requires c κs =
+    let first = c .before .before .before .before in
+    let s = start first in
+    let filled = c .before .before .fill-first .ensures in (
+      rw (filled .kept .same-length)
+          (laid (now (s .args .s)) (s .args .p) (length (now (s .args .w))) (s .pre .1) (first .first-work .result) (first-is first)),
+      filled .kept .small,
+    )
+
+enum-known-rank : tie.Need-enum-known-rank
+enum-known-rank c = c .match .keys1
+
+enum-told : tie.Need-enum-told
+enum-told c = c .match .keys2
+
+module _ (c : tie.After-reduce-matrix) where
+  abbrev at-first : tie.After-first-work
+  at-first = c .before .before .before .before .before
+
+returns : tie.Need-returns
+returns c =
+    let called = c .before .before .before in
+    let first = at-first called in
+    let s = start first in
+    first-refused (now (s .args .s)) (s .args .p) (length (now (s .args .w))) (complex first) (s .pre .1) (first .first-work .result) (first-is first)
+    (called .before .before .before .fill-first .ensures) (reduces-refused (first .first-work .result) (called .reduce-matrix .result) (c .enum-told .given .1) (called .reduce-matrix .ensures))
+
+same-length : tie.Need-same-length
+same-length c = cleared-length (returns c .1)
+
+-- ---- the product
+
+module _ (c : tie.After-known-told) where
+  abbrev first-called : tie.After-reduce-matrix
+  first-called = c .before .before .before .before
+
+  abbrev began : tie.After-first-work
+  began = at-first (c .before .before .before .before)
+
+  abbrev rank : ℕ
+  rank = c .before .rank .given .0 .0
+
+  first : let s = start began in
+      FirstDone (now (s .args .s)) (s .args .p) (length (now (s .args .w))) (complex began) (s .pre .1) rank (first-called .reduce-matrix .last .1 .0)
+  first =
+      let s = start began in
+      first-done (now (s .args .s)) (s .args .p) (length (now (s .args .w))) (complex began) (s .pre .1) (began .first-work .result) (first-is began)
+      (first-called .before .before .before .fill-first .ensures) (reduces-done (began .first-work .result) (first-called .reduce-matrix .result) (c .before .rank .given .1) (first-called .reduce-matrix .ensures))
+
+second-work-requires : tie.Need-second-work-requires
+second-work-requires c κs =
+    let first-work = began c in (
+      first-work .before .before .before .count .ensures .below,
+      first-work .before .before .rows-of .ensures .below,
+      first-work .before .count2 .ensures .below,
+      rw (counts first-work .cells-are) (first c .rank-within),
+    )
+
+second-is : (c : tie.After-second-work) →
+    let s = start (began (c .before)) in c .second-work .result ≡ secondWorkOf (now (s .args .s)) (s .args .p) (rank (c .before))
+second-is c = c .second-work .ensures ∙ second-of (counts (began (c .before))) (rank (c .before))
+
+multiply-requires : tie.Need-multiply-requires
+multiply-requires c κs =
+    let told = c .before .before in
+    let s = start (began told) in
+    let W = c .before .second-work .result in
+    let is = second-is (c .before) in
+    let l = laid-then (now (s .args .s)) (s .args .p) (length (now (s .args .w))) (complex (began told)) (s .pre .1) (first told) W is in (
+      s .pre .0 .0,
+      (
+        (
+          Q-width (now (s .args .s)) (s .args .p) (length (now (s .args .w))) (complex (began told)) (s .pre .1) (first told) W is,
+          product-width (now (s .args .s)) (s .args .p) (length (now (s .args .w))) (complex (began told)) (s .pre .1) (first told) W is,
+          sym (l .row-follower-lines),
+        ),
+        (
+          Q-held (now (s .args .s)) (s .args .p) (length (now (s .args .w))) (complex (began told)) (s .pre .1) (first told) W is,
+          omega (arith, l .after-matrix, l .after-row-inverse),
+          first told .kept .small,
+        ),
+      ),
+    )
+
+enum-told-2 : tie.Need-enum-told-2
+enum-told-2 c = c .match2 .keys1
+
+enum-told-3 : tie.Need-enum-told-3
+enum-told-3 c = c .match2 .keys2
+
+clear-requires : tie.Need-clear-requires
+clear-requires c κs = search needs
+
+returns-2 : tie.Need-returns-2
+returns-2 c =
+    let called = c .before .before .before .before .before .before in
+    let told = called .before .before .before in
+    let s = start (began told) in
+    let W = called .before .before .second-work .result in
+    let beyond = became-wide (called .multiply .result) (c .before .before .before .enum-told3 .given .1) (called .multiply .ensures) in (
+      product-refused (now (s .args .s)) (s .args .p) (length (now (s .args .w))) (complex (began told)) (s .pre .1) (first told) W
+          (second-is (called .before .before)) beyond,
+      record {
+        number = refl;
+        zeros =
+            c .before .clear .ensures
+            ∙ ap (λ (k : ℕ). replicate k (pos 0)) (beyond .same-length ∙ first told .kept .same-length);
+      },
+    )
+
+same-length-2 : tie.Need-same-length-2
+same-length-2 c = cleared-length (returns-2 c .1)
+
+-- ---- the second reduction
+
+module _ (c : tie.After-enum-told2) where
+  abbrev multiplied : tie.After-multiply
+  multiplied = c .before .before .before
+
+  abbrev first-told : tie.After-known-told
+  first-told = c .before .before .before .before .before .before
+
+  started : let s = start (began first-told) in
+      SecondStarted (now (s .args .s)) (s .args .p) (length (now (s .args .w))) (complex (began first-told)) (s .pre .1) (rank first-told)
+      (first-called first-told .reduce-matrix .last .1 .0) (multiplied .multiply .last .1 .1 .1 .1 .0)
+  started =
+      let s = start (began first-told) in
+      second-started (now (s .args .s)) (s .args .p) (length (now (s .args .w))) (complex (began first-told)) (s .pre .1) (first first-told)
+      (multiplied .before .before .second-work .result) (second-is (multiplied .before .before))
+      (became-done (multiplied .multiply .result) (c .enum-told2 .given .1) (multiplied .multiply .ensures))
+
+reduce-matrix-requires-2 : tie.Need-reduce-matrix-requires-2
+reduce-matrix-requires-2 c κs =
+    let told = first-told (c .before) in
+    let s = start (began told) in
+    let second = multiplied (c .before) .before .before in
+    let kept = started (c .before) .kept in (
+      rw (kept .same-length)
+          (laid-then (now (s .args .s)) (s .args .p) (length (now (s .args .w))) (complex (began told)) (s .pre .1) (first told) (second .second-work .result)
+          (second-is second)),
+      kept .small,
+    )
+
+enum-known-last : tie.Need-enum-known-last
+enum-known-last c = c .match3 .keys1
+
+enum-told-4 : tie.Need-enum-told-4
+enum-told-4 c = c .match3 .keys2
+
+returns-3 : tie.Need-returns-3
+returns-3 c =
+    let called = c .before .before .before in
+    let told = first-told (called .before .before) in
+    let s = start (began told) in
+    let second = multiplied (called .before .before) .before .before in
+    second-refused (now (s .args .s)) (s .args .p) (length (now (s .args .w))) (complex (began told)) (s .pre .1) (started (called .before .before))
+    (second .second-work .result) (second-is second)
+    (reduces-refused (second .second-work .result) (called .reduce-matrix2 .result) (c .enum-told4 .given .1) (called .reduce-matrix2 .ensures))
+
+same-length-3 : tie.Need-same-length-3
+same-length-3 c = cleared-length (returns-3 c .1)
+
+returns-4 : tie.Need-returns-4
+returns-4 c =
+    let called = c .before .before .before .before in
+    let told = first-told (called .before .before) in
+    let s = start (began told) in
+    let second = multiplied (called .before .before) .before .before in
+    second-done (now (s .args .s)) (s .args .p) (length (now (s .args .w))) (complex (began told)) (s .pre .1) (started (called .before .before))
+    (second .second-work .result) (second-is second)
+    (reduces-done (second .second-work .result) (called .reduce-matrix2 .result) (c .before .last .given .1) (called .reduce-matrix2 .ensures))
+
+same-length-4 : tie.Need-same-length-4
+same-length-4 c = returns-4 c .kept .same-length
+
+pub reduce-twice-spec : {M : Type 1} → statement M
+reduce-twice-spec =
+    tie.close
+    (tie.spec
+    count-requires
+    rows-of-requires
+    add-count
+    count-requires-2
+    first-work-requires
+    fill-first-requires
+    reduce-matrix-requires
+    enum-known-rank
+    enum-told
+    same-length
+    returns
+    second-work-requires
+    multiply-requires
+    enum-told-2
+    enum-told-3
+    clear-requires
+    same-length-2
+    returns-2
+    reduce-matrix-requires-2
+    enum-known-last
+    enum-told-4
+    same-length-3
+    returns-3
+    same-length-4
+    returns-4)

@@ -1,0 +1,30 @@
+-- `reductions::rows_of` meets its contract: dimension 0 has no rows. Assumes nothing.
+use mathlib.Core.Path.{sym, _∙_}
+use native.Mathlib.Omega.{arith}
+use borrow.Author.Needs.{needs}
+use denote.Ref.{now}
+use Rattle.calls.proofs.Sheet.{rows-none, rows-before}
+use Rattle.calls.proofs.reductions.rows_of.Statement.{statement}
+use Rattle.calls.proofs.reductions.rows_of.Tie as tie
+
+sub-count : tie.Need-sub-count
+sub-count c = search needs
+
+count-requires : tie.Need-count-requires
+count-requires c κs = search needs
+
+returns : tie.Need-returns
+returns c =
+    let args = c .before .before .args in
+    record { is = sym (rows-none (now (args .s)) (args .p) (c .if1 .taken)); below = omega arith }
+
+returns-2 : tie.Need-returns-2
+returns-2 c =
+    let args = c .before .before .before .args in
+    record {
+      is = c .count .ensures .is ∙ sym (rows-before (now (args .s)) (args .p) (c .before .if1 .left));
+      below = c .count .ensures .below;
+    }
+
+pub rows-of-spec : {M : Type 1} → statement M
+rows-of-spec = tie.close (tie.spec sub-count count-requires returns returns-2)

@@ -1,0 +1,26 @@
+-- `slices::work_slots` meets its contract. Assumes nothing.
+use native.Mathlib.Omega.{arith}
+use borrow.Author.Needs.{needs}
+use Rattle.calls.proofs.Room.{slots-below, max-below}
+use Rattle.calls.proofs.slices.work_slots.Statement.{statement}
+use Rattle.calls.proofs.slices.work_slots.Tie as tie
+
+mul-result : tie.Need-mul-result
+mul-result c = search needs
+
+larger-requires : tie.Need-larger-requires
+larger-requires c κs = search needs
+
+add-result : tie.Need-add-result
+add-result c = search needs
+
+mul-result-2 : tie.Need-mul-result-2
+mul-result-2 c =
+    let pre = c .before .pre in
+    rw (c .larger .ensures) (omega (arith, slots-below (pre .0) (max-below (pre .1) (pre .2))))
+
+returns : tie.Need-returns
+returns c = rw (c .larger .ensures)
+
+pub work-slots-spec : {M : Type 1} → statement M
+work-slots-spec = tie.close (tie.spec mul-result larger-requires add-result mul-result-2 returns)

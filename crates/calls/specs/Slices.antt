@@ -1,0 +1,68 @@
+-- Where the matrices of the two reductions stand in the work slice, and what the two come to.
+use mathlib.Core.Path.{_≡_}
+use mathlib.Core.List.{List}
+use Prim.Native.Nat.{ℕ, suc, _+_, _*_, _-_, _≤_, max}
+use lib.ListN.{length}
+use lib.IntN.{ℤ}
+use Rattle.complexes.specs.Complex.{count}
+use Rattle.complexes.specs.Boundary.{rowCells}
+use Rattle.sheet_format.specs.Check.{sectionsOf}
+use Rattle.reports.specs.Reductions as reports
+use Rattle.reports.specs.Reductions.{firstStart}
+use Rattle.lines.specs.declared.matrix.Matrix.{Matrix}
+use Rattle.work.specs.Layout.{stateOf}
+use Rattle.work.specs.declared.operations.Work.{Work}
+use Rattle.reducer.specs.Answer.{Cleared, Kept}
+use Rattle.writers.specs.declared.reduced.Reduced.{Reduced}
+use Rattle.calls.specs.declared.reductions.Reductions.{Reductions}
+use Rattle.calls.specs.declared.reductions.Reductions.the-variants.{Done, Refused}
+
+-- ---- where the matrices stand
+
+abbrev pub matrixAt : ℕ → ℕ → ℕ → Matrix
+matrixAt at lines width = record { at = at; lines = lines; width = width }
+
+unfoldable pub firstWork : ℕ → ℕ → ℕ → Work
+firstWork cells rows columns =
+    record {
+      matrix = matrixAt 0 rows cells;
+      «row_inverse» = matrixAt (cells * max rows columns) rows 0;
+      «row_follower» = matrixAt (cells * max rows columns) rows 0;
+      «column_follower» = matrixAt (cells * max rows columns) cells cells;
+      «column_inverse» = matrixAt (cells * max rows columns + cells * cells) cells cells;
+    }
+
+unfoldable pub secondWork : ℕ → ℕ → ℕ → ℕ → Work
+secondWork cells rows columns rank =
+    record {
+      matrix = matrixAt 0 (cells - rank) columns;
+      «row_inverse» = matrixAt (cells * max rows columns + rank * cells) (cells - rank) cells;
+      «row_follower» = matrixAt (cells * max rows columns + cells * cells + rank * cells) (cells - rank) cells;
+      «column_follower» = matrixAt (cells * max rows columns + 2 * (cells * cells)) columns 0;
+      «column_inverse» = matrixAt (cells * max rows columns + 2 * (cells * cells)) columns 0;
+    }
+
+-- those of dimension p of the sheet b
+abbrev pub firstWorkOf : List ℕ → ℕ → Work
+firstWorkOf b p = firstWork (count (sectionsOf b) p) (length (rowCells (sectionsOf b) p)) (count (sectionsOf b) (suc p))
+
+abbrev pub secondWorkOf : List ℕ → ℕ → ℕ → Work
+secondWorkOf b p rank = secondWork (count (sectionsOf b) p) (length (rowCells (sectionsOf b) p)) (count (sectionsOf b) (suc p)) rank
+
+-- the slice of length n holds the start of the first reduction
+pub record Filled (b : List ℕ) (p n : ℕ) (w′ : List ℤ) : Type 0 where
+  pub state : stateOf (firstWorkOf b p) w′ ≡ firstStart (sectionsOf b) p
+  pub kept : Kept n w′
+
+-- The two reductions came to x, and the slice holds the state that the second leaves; its matrix has a line for each row of Q.
+pub record ReducedTwice (b : List ℕ) (p : ℕ) (y : reports.Reductions) (n : ℕ) (x : Reduced) (w′ : List ℤ) : Type 0 where
+  pub first-rank : ℕ
+  pub rank-within : first-rank ≤ count (sectionsOf b) p
+  pub work-is : x .work ≡ secondWorkOf b p first-rank
+  pub is : y ≡ reports.reduced (x .work .matrix .lines) (x .rank) (stateOf (x .work) w′)
+  pub rank-below : x .rank ≤ x .work .matrix .lines
+  pub kept : Kept n w′
+
+abbrev pub TwiceReduced : List ℕ → ℕ → reports.Reductions → ℕ → Reductions → List ℤ → Type 0
+TwiceReduced b p y n (Done x) w′ = ReducedTwice b p y n x w′
+TwiceReduced b p y n (Refused x) w′ = (y ≡ reports.tooWide) × Cleared n x w′

@@ -1,0 +1,9 @@
+// What a call answers.
+use refusal::Refusal;
+use writers::reduced::Counts;
+
+// Done, with the report's counts, or refused.
+pub enum Answer {
+    Done(Counts),
+    Refused(Refusal),
+}

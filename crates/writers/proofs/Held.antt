@@ -1,0 +1,16 @@
+-- The matrices of a layout lie within the slice: `matrix-held`, `row-inverse-held`, `row-follower-held`.
+use Prim.Native.Nat.{ℕ}
+use native.Mathlib.Omega.{arith}
+use Rattle.lines.specs.Matrices.{Held}
+use Rattle.work.specs.Layout.{Laid}
+use Rattle.work.specs.declared.operations.Work.{Work}
+
+module _ {n : ℕ} {W : Work} (laid : Laid n W) where
+  pub row-follower-held : Held n (W .«row_follower»)
+  row-follower-held = record { ends = omega arith }
+
+  pub row-inverse-held : Held n (W .«row_inverse»)
+  row-inverse-held = record { ends = omega arith }
+
+  pub matrix-held : Held n (W .matrix)
+  matrix-held = record { ends = omega arith }

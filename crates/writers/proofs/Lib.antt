@@ -1,0 +1,7 @@
+-- What the proofs of the crate share: the entries of a matrix (`Held`, `Entries`), a remainder (`Remainder`), the rows that are kept (`Rows`),
+-- and slices that are written number by number (`Writing`).
+pub mod Held
+pub mod Entries
+pub mod Remainder
+pub mod Rows
+pub mod Writing

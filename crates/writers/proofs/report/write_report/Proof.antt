@@ -1,0 +1,150 @@
+-- `report::write_report` meets its contract: the counts, the orders and the columns are written one behind the other. Assumes nothing.
+use mathlib.Core.Path.{_≡_, refl, sym, ap, subst, _∙_}
+use mathlib.Core.List.{List, [], _∷_, _++_, map}
+use Prim.Native.Nat.{ℕ, zero, suc, _+_, _*_, _-_, _^_, _≤_, _<_}
+use native.Mathlib.Nat as NatL
+use native.Mathlib.Omega.{arith}
+use lib.ListN.{length, set, length-set, length-map}
+use lib.IntN.{ℤ, pos}
+use mir.Syntax.{w64}
+use mir.Val.{SFits, toZ}
+use mir.Facts.{toZ-pos}
+use Rattle.reports.specs.Report.{kept, columnsOf, torsionCount, reportList}
+use Rattle.reports.specs.ReportLaws.{length-kept-le}
+use Rattle.reports.specs.Call.{written}
+use Rattle.work.specs.Layout.{linesOf, stateOf}
+use Rattle.writers.specs.Written.{kindIn, WrittenFrom, CanReport, WroteReport}
+use Rattle.writers.specs.declared.reduced.Reduced.{Reduced}
+use Rattle.writers.proofs.Held.{matrix-held, row-inverse-held}
+use Rattle.writers.proofs.Writing.{written-none, written-one, written-then, written-whole}
+use Rattle.writers.proofs.report.write_report.Statement.{statement}
+use Rattle.writers.proofs.report.write_report.Tie as tie
+
+le-mul : (m n : ℕ) → m ≤ n → m ≤ m * n
+le-mul zero n h = omega arith
+le-mul (suc m) n h = omega (arith, NatL.mul-le-mul-left (suc m) (NatL.le-trans one h))
+  where
+    one : 1 ≤ suc m
+    one = omega arith
+
+-- what is known once the orders are counted
+record Counted (x : Reduced) (w report : List ℤ) (torsion : ℕ) : Type 0 where
+  can : CanReport x w (length report)
+  fits : length report < 2 ^ 63
+  counted : torsion ≡ length (kept (kindIn (x .work .matrix) w) (x .rank))
+
+module _ {x : Reduced} {w report : List ℤ} {torsion : ℕ} (known : Counted x w report torsion) where
+  abbrev free : ℕ
+  free = x .work .matrix .lines - x .rank
+
+  -- the kinds of the rows
+  abbrev e : ℕ → ℤ
+  e = kindIn (x .work .matrix) w
+
+  abbrev orders : List ℤ
+  orders = map e (kept e (x .rank))
+
+  abbrev columns : List ℤ
+  columns = columnsOf (linesOf (x .work .«row_inverse») w) (x .work .«row_inverse» .width) (kept e (x .work .matrix .lines))
+
+  free-fits : SFits w64 (pos free)
+  free-fits = record {
+    sfits = omega (arith, known .fits, known .can .room, le-mul (x .work .matrix .lines) (x .work .«row_inverse» .width) (known .can .lines-below));
+  }
+
+  torsion-fits : SFits w64 (pos torsion)
+  torsion-fits = record { sfits = omega (arith, known .fits, known .can .room, known .counted, length-kept-le e (x .rank)) }
+
+  -- the report with the two counts
+  abbrev headed : List ℤ
+  headed = set (set report 0 (toZ w64 free)) 1 (toZ w64 torsion)
+
+  headed-written : WrittenFrom 0 (pos free ∷ pos torsion ∷ []) report 2 headed
+  headed-written =
+      rw (toZ-pos w64 (free-fits .sfits), toZ-pos w64 (torsion-fits .sfits))
+      (written-one (written-one (written-none 0 report) (pos free) (omega (arith, known .can .room))) (pos torsion) (omega (arith, known .can .room)))
+
+  module _ {next : ℕ} {ordered : List ℤ} (o : WrittenFrom 2 orders headed next ordered) where
+    columns-room : next + x .work .«row_inverse» .lines * x .work .«row_inverse» .width ≤ length report
+    columns-room =
+        subst (λ (n : ℕ). next + n * x .work .«row_inverse» .width ≤ length report) (sym (known .can .laid .row-inverse-lines))
+        (omega (arith, o .next, known .can .room, length-map (kept e (x .rank)) e, length-kept-le e (x .rank)))
+
+    wrote : {last : ℕ} {report′ : List ℤ} → WrittenFrom next columns ordered last report′
+        → WroteReport x w report (record { free = free; torsion = torsion }) report′
+    unfolding stateOf torsionCount reportList
+    wrote g = record {
+      free = refl;
+      torsion = known .counted;
+      is =
+          written-whole (written-then (written-then headed-written o (omega arith)) g (omega arith))
+          ∙ ap (λ (t : ℕ). written (pos free ∷ pos t ∷ (orders ++ columns)) report) (known .counted);
+    }
+
+kept-count-requires : tie.Need-kept-count-requires
+kept-count-requires c κs =
+    let pre = c .before .before .pre in
+    (matrix-held (pre .laid), pre .rank-below, pre .kinds)
+
+known-after : (c : tie.After-kept-count) →
+    Counted (c .before .before .before .args .reduced) (c .before .before .before .args .w .now) (c .before .before .before .args .report .now)
+    (c .kept-count .result)
+known-after c =
+    let start = c .before .before .before in
+    record { can = start .pre; fits = omega (arith, start .good); counted = c .kept-count .ensures }
+
+sub-free : tie.Need-sub-free
+sub-free c = c .before .before .before .before .pre .rank-below
+
+cast-report : tie.Need-cast-report
+cast-report c = free-fits (known-after (c .before))
+
+slice-set-from-report : tie.Need-slice-set-from-report
+slice-set-from-report c = omega (arith, c .before .before .before .before .pre .room)
+
+cast-report-2 : tie.Need-cast-report-2
+cast-report-2 c = torsion-fits (known-after (c .before))
+
+slice-set-from-report-2 : tie.Need-slice-set-from-report-2
+slice-set-from-report-2 c = simp length-set (omega (arith, c .before .before .before .before .pre .room))
+
+write-orders-requires : tie.Need-write-orders-requires
+write-orders-requires c κs =
+    let pre = c .before .before .before .before .before .pre in
+    (matrix-held (pre .laid), pre .rank-below, simp length-set (omega (arith, pre .room)), pre .kinds)
+
+write-generators-requires : tie.Need-write-generators-requires
+write-generators-requires c κs =
+    let counted = c .before .before .before .before .before in let write-orders = c .before .before .write-orders in
+    let g = counted .before .before .before .args .reduced .work .«row_inverse» in let pre = counted .before .before .before .pre in (
+      matrix-held (pre .laid),
+      row-inverse-held (pre .laid),
+      sym (pre .laid .row-inverse-lines),
+      subst (λ (n : ℕ). write-orders .result + g .lines * g .width ≤ n) (sym (write-orders .kept .1 .1 .1 .0 ∙ simp length-set))
+          (columns-room (known-after counted) (write-orders .ensures)),
+      pre .kinds,
+    )
+
+same-length : tie.Need-same-length
+same-length c =
+    c .before .write-generators .kept .1 .1 .1 .0 ∙ c .before .before .before .before .write-orders .kept .1 .1 .1 .0 ∙ simp length-set
+
+returns : tie.Need-returns
+returns c =
+    wrote (known-after (c .before .before .before .before .before .before .before)) (c .before .before .before .before .write-orders .ensures)
+    (c .before .write-generators .ensures)
+
+pub write-report-spec : {M : Type 1} → statement M
+write-report-spec =
+    tie.close
+    (tie.spec
+    kept-count-requires
+    sub-free
+    cast-report
+    slice-set-from-report
+    cast-report-2
+    slice-set-from-report-2
+    write-orders-requires
+    write-generators-requires
+    same-length
+    returns)

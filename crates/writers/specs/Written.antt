@@ -1,0 +1,64 @@
+-- What the writers of the report and of the coordinates leave.
+use mathlib.Core.Path.{_≡_}
+use mathlib.Core.List.{List}
+use Prim.Native.Nat.{ℕ, _+_, _*_, _≤_}
+use lib.ListN.{length}
+use lib.IntN.{ℤ, pos, natAbs}
+use lib.Signed.{_≤ℤ_}
+use Rattle.lists.specs.Tabulate.{tabulate}
+use Rattle.lists.specs.Splice.{splice}
+use Rattle.reduction_steps.specs.Table.{entry}
+use Rattle.reports.specs.Report.{freeRank, torsionCount, reportList, coordinateList}
+use Rattle.reports.specs.Call.{written, libraryLimit, coefficientLimit}
+use Rattle.lines.specs.Slice.{at, Small}
+use Rattle.lines.specs.Matrices.{contents}
+use Rattle.lines.specs.declared.matrix.Matrix.{Matrix}
+use Rattle.work.specs.Layout.{Laid, linesOf, stateOf}
+use Rattle.writers.specs.declared.reduced.Counts.{Counts}
+use Rattle.writers.specs.declared.reduced.Reduced.{Reduced}
+
+-- the kind of row i: the entry on the diagonal, 0 past it
+abbrev pub kindIn : Matrix → List ℤ → ℕ → ℤ
+kindIn M w i = entry (linesOf M w) i i
+
+-- no kind is negative
+pub record Kinds (M : Matrix) (w : List ℤ) : Type 0 where
+  pub nonneg : (i : ℕ) → pos 0 ≤ℤ kindIn M w i
+
+-- the numbers stand from slot `from` on; r is the slot after them, and nothing else has changed
+pub record WrittenFrom (from : ℕ) (numbers slice : List ℤ) (r : ℕ) (slice′ : List ℤ) : Type 0 where
+  pub next : r ≡ from + length numbers
+  pub is : slice′ ≡ splice from numbers slice
+
+-- line i of the matrix stands from slot `from` on, and nothing else has changed
+pub record CopiedLine (M : Matrix) (w : List ℤ) (i from : ℕ) (slice slice′ : List ℤ) : Type 0 where
+  pub is : slice′ ≡ splice from (tabulate (M .width) (contents M w i)) slice
+
+-- what the report is written from: no kind is negative, Q has no more rows than there are cells, and there is room for the report
+pub record CanReport (x : Reduced) (w : List ℤ) (m : ℕ) : Type 0 where
+  pub laid : Laid (length w) (x .work)
+  pub kinds : Kinds (x .work .matrix) w
+  pub rank-below : x .rank ≤ x .work .matrix .lines
+  pub lines-below : x .work .matrix .lines ≤ x .work .«row_inverse» .width
+  pub room : 2 + x .rank + x .work .matrix .lines * x .work .«row_inverse» .width ≤ m
+
+pub record WroteReport (x : Reduced) (w slice : List ℤ) (r : Counts) (slice′ : List ℤ) : Type 0 where
+  pub free : r .free ≡ freeRank (x .work .matrix .lines) (x .rank)
+  pub torsion : r .torsion ≡ torsionCount (x .rank) (stateOf (x .work) w)
+  pub is : slice′ ≡ written (reportList (x .work .«row_inverse» .width) (x .work .matrix .lines) (x .rank) (stateOf (x .work) w)) slice
+
+-- what the coordinates are written from: no kind is negative, there is room for them, and the chain is one of the dimension
+pub record CanCoordinate (x : Reduced) (w z : List ℤ) (m : ℕ) : Type 0 where
+  pub laid : Laid (length w) (x .work)
+  pub small : Small w
+  pub kinds : Kinds (x .work .matrix) w
+  pub rank-below : x .rank ≤ x .work .matrix .lines
+  pub room : x .work .matrix .lines ≤ m
+  pub width : x .work .«row_follower» .width ≡ length z
+  pub width-within : length z ≤ libraryLimit
+  pub coefficients : (j : ℕ) → natAbs (at z j) ≤ coefficientLimit
+
+pub record WroteCoordinates (x : Reduced) (w z slice : List ℤ) (r : Counts) (slice′ : List ℤ) : Type 0 where
+  pub free : r .free ≡ freeRank (x .work .matrix .lines) (x .rank)
+  pub torsion : r .torsion ≡ torsionCount (x .rank) (stateOf (x .work) w)
+  pub is : slice′ ≡ written (coordinateList (x .work .«row_follower» .width) (x .work .matrix .lines) (stateOf (x .work) w) z) slice

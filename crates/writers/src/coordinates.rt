@@ -1,0 +1,77 @@
+// Writing the coordinates.
+ghost use mathlib.Core.Path.{_≡_};
+ghost use Prim.Native.Nat.{ℕ, _<_, _≤_};
+ghost use lib.ListN.{length};
+ghost use lib.IntN.{pos, natAbs};
+ghost use lib.Signed.{_≤ℤ_};
+ghost use Rattle.integers.specs.Floor.{modulo};
+ghost use Rattle.matrices.specs.Vector.{apply};
+ghost use Rattle.reduction_steps.specs.Table.{entry};
+ghost use Rattle.lines.specs.Slice.{Small, at};
+ghost use Rattle.lines.specs.Matrices.{Held};
+ghost use Rattle.work.specs.Layout.{linesOf};
+ghost use Rattle.reports.specs.Call.{libraryLimit, coefficientLimit};
+ghost use Rattle.writers.specs.Written.{CanCoordinate, WroteCoordinates};
+use crate::kind::kept_count;
+use crate::kind::kind;
+use crate::reduced::Counts;
+use crate::reduced::Reduced;
+use lines::matrix::Matrix;
+
+// x modulo the order d, in 0 to d - 1; x itself where d is 0, the order of a free row.
+fn residue(x: i64, d: i64) -> i64
+    requires { ⌜ pos 0 ≤ℤ d ⌝ }
+    ensures { λ r. ⌜ r ≡ modulo x d ⌝ }
+{
+    if d == 0 {
+        return x;
+    }
+    let r = x % d;
+    if r < 0 { r + d } else { r }
+}
+
+// Row i of q times the chain.
+fn row_times_chain(q: Matrix, w: &[i32], i: usize, chain: &[i32]) -> i64
+    requires { ⌜ Held (length (now w)) q × (i < q .lines) × (q .width ≡ length (now chain)) × (q .width ≤ libraryLimit) × Small (now w) ⌝ }
+    requires { ⌜ ((j : ℕ) → natAbs (at (now chain) j) ≤ coefficientLimit) ⌝ }
+    ensures { λ r. ⌜ r ≡ apply (q .width) (entry (linesOf q (now (w .entry)))) (at (now (chain .entry))) i ⌝ }
+{
+    let line = q.line(i);
+    let mut total: i64 = 0;
+    let mut j: usize = 0;
+    while j < chain.len() {
+        total = total + w[line + j] as i64 * chain[j] as i64;
+        j = j + 1;
+    }
+    total
+}
+
+// Writes the coordinates, and answers the counts.
+pub fn write_coordinates(
+    reduced: Reduced,
+    w: &[i32],
+    chain: &[i32],
+    coordinates: &mut [i64],
+) -> Counts
+    requires { ⌜ CanCoordinate reduced (now w) (now chain) (length (now coordinates)) ⌝ }
+    ensures { λ r. ⌜ WroteCoordinates reduced (now (w .entry)) (now (chain .entry)) (now (coordinates .entry)) r (now (coordinates .exit)) ⌝ }
+{
+    let m = reduced.work.matrix;
+    let q = reduced.work.row_follower;
+    let rank = reduced.rank;
+    let lines = m.lines;
+    let mut next: usize = 0;
+    let mut i: usize = 0;
+    while i < lines {
+        let order = kind(m, w, i);
+        if order != 1 {
+            coordinates[next] = residue(row_times_chain(q, w, i, chain), order);
+            next = next + 1;
+        }
+        i = i + 1;
+    }
+    Counts {
+        free: lines - rank,
+        torsion: kept_count(m, w, rank),
+    }
+}

@@ -1,0 +1,32 @@
+// The kinds of the rows of Q, by the diagonal of the second reduction: 1, an order above 1, or 0 for a free row.
+ghost use mathlib.Core.Path.{_≡_};
+ghost use Prim.Native.Nat.{_<_, _≤_};
+ghost use lib.ListN.{length};
+ghost use Rattle.lines.specs.Matrices.{Held};
+ghost use Rattle.reports.specs.Report.{kept};
+ghost use Rattle.writers.specs.Written.{kindIn, Kinds};
+use lines::matrix::Matrix;
+
+// The kind of row i.
+pub fn kind(m: Matrix, w: &[i32], i: usize) -> i64
+    requires { ⌜ Held (length (now w)) m × (i < m .lines) ⌝ }
+    ensures { λ r. ⌜ r ≡ kindIn m (now (w .entry)) i ⌝ }
+{
+    if i < m.width { m.entry(w, i, i) } else { 0 }
+}
+
+// How many of the first n rows have another kind than 1.
+pub fn kept_count(m: Matrix, w: &[i32], n: usize) -> usize
+    requires { ⌜ Held (length (now w)) m × (n ≤ m .lines) × Kinds m (now w) ⌝ }
+    ensures { λ r. ⌜ r ≡ length (kept (kindIn m (now (w .entry))) n) ⌝ }
+{
+    let mut found: usize = 0;
+    let mut i: usize = 0;
+    while i < n {
+        if kind(m, w, i) != 1 {
+            found = found + 1;
+        }
+        i = i + 1;
+    }
+    found
+}
