@@ -1,0 +1,3 @@
+-- What the proofs of the host calls share.
+mod HostCalls
+mod Through

@@ -1,0 +1,82 @@
+// Numbers as bytes, low byte first.
+ghost use mathlib.Core.Path.{_≡_};
+ghost use mathlib.Core.List.{_++_};
+ghost use Prim.Native.Nat.{ℕ, _+_, _*_, _≤_, _<_, min};
+ghost use lib.ListN.{length, take, drop, replicate};
+ghost use lib.IntN.{ℤ, pos};
+ghost use Rattle.reports.specs.Host.{numberBytes, numbersBytes, coefficientAt};
+ghost use Rattle.little_endian.specs.Bytes.{SameBits, ReadsChain};
+
+pub fn smaller(a: usize, b: usize) -> usize
+    ensures { λ r. ⌜ r ≡ min a b ⌝ }
+{
+    if a < b { a } else { b }
+}
+
+// The unsigned number with the bits of x.
+fn unsigned(x: i64) -> u64
+    ensures { λ r. ⌜ SameBits x r ⌝ }
+{
+    if x < 0 {
+        18446744073709551615 - (-(x + 1)) as u64
+    } else {
+        x as u64
+    }
+}
+
+// Writes the eight bytes of x from byte `at` on.
+fn write_number(x: i64, out: &mut [u8], at: usize)
+    requires { ⌜ at + 8 ≤ length (now out) ⌝ }
+    ensures { λ r. ⌜ now (out .exit) ≡ take at (now (out .entry)) ++ (numberBytes x ++ drop (at + 8) (now (out .entry))) ⌝ }
+{
+    let mut rest = unsigned(x);
+    let mut i: usize = 0;
+    while i < 8 {
+        out[at + i] = (rest % 256) as u8;
+        rest = rest / 256;
+        i = i + 1;
+    }
+}
+
+// Writes the bytes of the first n numbers.
+pub fn write_numbers(numbers: &[i64], n: usize, out: &mut [u8])
+    requires { ⌜ (n ≤ length (now numbers)) × (8 * n ≤ length (now out)) ⌝ }
+    ensures { λ r. ⌜ now (out .exit) ≡ numbersBytes (take n (now (numbers .entry))) ++ drop (8 * n) (now (out .entry)) ⌝ }
+{
+    let mut i: usize = 0;
+    while i < n {
+        write_number(numbers[i], out, 8 * i);
+        i = i + 1;
+    }
+}
+
+// The signed number at byte `at`.
+fn read_coefficient(b: &[u8], at: usize) -> i32
+    requires { ⌜ at + 4 ≤ length (now b) ⌝ }
+    ensures { λ r. ⌜ r ≡ coefficientAt (now (b .entry)) at ⌝ }
+{
+    let low = b[at] as u32 + 256 * b[at + 1] as u32;
+    let high = b[at + 2] as u32 + 256 * b[at + 3] as u32;
+    let n = low + 65536 * high;
+    if n < 2147483648 {
+        n as i32
+    } else {
+        -((4294967295 - n) as i32) - 1
+    }
+}
+
+// Reads a chain of n coefficients over zeros, and answers n; where the bytes are not 4 times n, or n exceeds the room, another length.
+pub fn read_chain(chain: &[u8], n: usize, coefficients: &mut [i32; 48]) -> usize
+    requires { ⌜ (n < 65536) × (now coefficients ≡ replicate 48 (pos 0)) ⌝ }
+    ensures { λ r. ⌜ ReadsChain (now (chain .entry)) n r (now (coefficients .exit)) ⌝ }
+{
+    if 48 < n || chain.len() != 4 * n {
+        return if n == 0 { 1 } else { 0 };
+    }
+    let mut i: usize = 0;
+    while i < n {
+        coefficients[i] = read_coefficient(chain, 4 * i);
+        i = i + 1;
+    }
+    n
+}

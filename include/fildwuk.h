@@ -1,0 +1,62 @@
+/* Fildwuk: verified homology of conductor meshes. The host calls of document 01.
+ *
+ * Link with libfildwuk.a, which `rt staticlib fildwuk` writes to target/staticlib/.
+ *
+ * Every pointer is lent for the time of the call and not kept. A call reads `sheet` and `chain`, and writes nothing but its output. The output
+ * must not overlap the sheet or the chain, and nobody else may write to any of them while the call runs. A pointer may be null only where its
+ * length is 0. The calls keep no state: they may run at the same time on several threads, each with its own output. Each uses its own work
+ * arrays on the caller's stack; 256 KiB of stack are enough for any sheet (docs/SOLVER.md has the measured figure). They always return.
+ *
+ * Numbers stand in bytes, low byte first: 4 bytes for a coefficient of a chain, 8 for a number of a report and for a coordinate, all signed.
+ */
+#ifndef FILDWUK_H
+#define FILDWUK_H
+
+#include <stddef.h>
+#include <stdint.h>
+
+#ifdef __cplusplus
+extern "C" {
+#endif
+
+/* What a call answers. A refusal leaves the output untouched. The refusals are tried in the order of their numbers. */
+enum fildwuk_answer {
+    FILDWUK_DONE = 0,
+    FILDWUK_SHEET_TOO_SHORT = 1,       /* the sheet has fewer than 16 bytes */
+    FILDWUK_COUNT_EXCEEDS_LIMIT = 2,   /* a count exceeds FILDWUK_CELLS */
+    FILDWUK_OFFSET_DIFFERS = 3,        /* an offset differs from the one required */
+    FILDWUK_LENGTH_DIFFERS = 4,        /* the sheet's length differs from the one required */
+    FILDWUK_VERTICES_DO_NOT_RISE = 5,  /* in some cell the vertices do not rise strictly */
+    FILDWUK_CELLS_DO_NOT_RISE = 6,     /* in some section the cells do not rise strictly */
+    FILDWUK_FACE_MISSING = 7,          /* a face is missing */
+    FILDWUK_DIMENSION_EXCEEDS_TOP = 8, /* the dimension exceeds 3 */
+    FILDWUK_SLICE_TOO_SHORT = 9,       /* the output is too short */
+    FILDWUK_CHAIN_LENGTH_DIFFERS = 10, /* the chain has other than 4 * n bytes */
+    FILDWUK_COEFFICIENT_EXCEEDS = 11,  /* a coefficient lies outside -32767 to 32767 */
+    FILDWUK_BOUNDARY_NOT_ZERO = 12,    /* the chain is no cycle */
+    FILDWUK_TOO_WIDE = 13              /* the reduction makes an entry beyond 1048575 */
+};
+
+/* The most cells that a dimension may have. */
+#define FILDWUK_CELLS 48
+
+/* The bytes to lend for n cells in the dimension asked for. With n = FILDWUK_CELLS they are enough for every sheet. */
+#define FILDWUK_REPORT_BYTES(n) (8 * (2 + (size_t)(n) + (size_t)(n) * (size_t)(n)))
+#define FILDWUK_COORDINATE_BYTES(n) (8 * (size_t)(n))
+#define FILDWUK_CHAIN_BYTES(n) (4 * (size_t)(n))
+
+/* The report of a dimension: the free rank b, the number t of torsion orders, the t orders, then t + b generators of n coefficients each, first
+ * those of the orders, then the free ones. `report_len` must be at least FILDWUK_REPORT_BYTES(n); an incomplete number at the end gives no slot.
+ * Bytes past the report stay as they were. */
+uint32_t fildwuk_report(const uint8_t *sheet, size_t sheet_len, uint32_t dimension, uint8_t *report, size_t report_len);
+
+/* The coordinates of a cycle: t residues, each from 0 to its order less 1, then b whole numbers, in the report's order. The chain has exactly
+ * FILDWUK_CHAIN_BYTES(n) bytes. `coordinates_len` must be at least FILDWUK_COORDINATE_BYTES(n). Bytes past the t + b numbers stay as they were. */
+uint32_t fildwuk_coordinates(const uint8_t *sheet, size_t sheet_len, uint32_t dimension, const uint8_t *chain, size_t chain_len,
+                             uint8_t *coordinates, size_t coordinates_len);
+
+#ifdef __cplusplus
+}
+#endif
+
+#endif
