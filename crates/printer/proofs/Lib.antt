@@ -1,0 +1,4 @@
+-- What the proofs of this crate share.
+mod Dimension
+mod Dimensions
+mod Program

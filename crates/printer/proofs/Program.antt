@@ -1,0 +1,44 @@
+-- The text of a sheet: the line of its refusal (refused-text), or the texts of its dimensions (accepted-text).
+use mathlib.Core.Path.{_≡_, refl, sym, _∙_, ap, subst}
+use mathlib.Core.List.{List}
+use Prim.Native.Nat.{ℕ, zero, suc}
+use native.Mathlib.Omega.{arith}
+use Rattle.sheet_format.specs.Layout.{top}
+use Rattle.sheet_format.specs.Check.{refusal}
+use Rattle.refusal.specs.declared.Refusal.{Refusal}
+use Rattle.refusal.specs.declared.Refusal.the-variants.{SheetTooShort, CountExceedsLimit, OffsetDiffers, LengthDiffers, VerticesDoNotRise, CellsDoNotRise, FaceMissing, DimensionExceedsTop, SliceTooShort, ChainLengthDiffers, CoefficientExceedsLimit, BoundaryNotZero, TooWide}
+use Rattle.refusal.specs.Number.{numberOf}
+use Rattle.reports.specs.Call.{hostLimit}
+use Rattle.reports.specs.Text.{refusalLine, dimensionsText, textFor, programText}
+use Rattle.text.specs.Put.{PutsWithin}
+use Rattle.text.specs.PutLaws.{within-more}
+
+-- the text for the number of a refusal is its line
+textFor-number : (b : List ℕ) (x : Refusal) → textFor (numberOf x) b ≡ refusalLine (numberOf x)
+unfolding textFor
+textFor-number b SheetTooShort = refl
+textFor-number b CountExceedsLimit = refl
+textFor-number b OffsetDiffers = refl
+textFor-number b LengthDiffers = refl
+textFor-number b VerticesDoNotRise = refl
+textFor-number b CellsDoNotRise = refl
+textFor-number b FaceMissing = refl
+textFor-number b DimensionExceedsTop = refl
+textFor-number b SliceTooShort = refl
+textFor-number b ChainLengthDiffers = refl
+textFor-number b CoefficientExceedsLimit = refl
+textFor-number b BoundaryNotZero = refl
+textFor-number b TooWide = refl
+
+module _ (b : List ℕ) {at r : ℕ} {out out′ : List ℕ} where
+  pub refused-text : (x : Refusal) → refusal hostLimit b ≡ numberOf x → PutsWithin 23 (refusalLine (numberOf x)) at out r out′
+      → PutsWithin 240000 (programText b) at out r out′
+  unfolding programText
+  refused-text x e puts = subst (λ (text : List ℕ). PutsWithin 240000 text at out r out′) same (within-more (omega arith) puts)
+    where
+      same : refusalLine (numberOf x) ≡ textFor (refusal hostLimit b) b
+      same = sym (textFor-number b x) ∙ ap (λ (n : ℕ). textFor n b) (sym e)
+
+  pub accepted-text : refusal hostLimit b ≡ 0 → PutsWithin 240000 (dimensionsText b (suc top) 0) at out r out′ → PutsWithin 240000 (programText b) at out r out′
+  unfolding programText textFor
+  accepted-text e puts = subst (λ (text : List ℕ). PutsWithin 240000 text at out r out′) (ap (λ (n : ℕ). textFor n b) (sym e)) puts

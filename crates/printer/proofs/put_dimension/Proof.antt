@@ -1,0 +1,166 @@
+-- `printer::put_dimension` meets its contract: the text is `Dimension`'s to say, from what `report_at` ensures. Assumes nothing.
+use mathlib.Core.Path.{_≡_, subst}
+use mathlib.Core.List.{List}
+use Prim.Native.Nat.{ℕ}
+use native.Mathlib.Omega.{arith}
+use borrow.Author.Needs.{needs}
+use denote.Ref.{now}
+use lib.IntN.{ℤ}
+use Rattle.sheet_format.specs.Sheet.{Bytes}
+use Rattle.reports.specs.Call.{hostLimit, reportCall}
+use Rattle.writers.specs.declared.reduced.Counts.{Counts}
+use Rattle.calls.specs.declared.answer.Answer.{Answer}
+use Rattle.calls.specs.declared.answer.Answer.the-variants.{Done, Refused}
+use Rattle.calls.specs.Answer.{CallAnswers}
+use Rattle.printer.proofs.Dimension.{ReportRoom, refused-text, total-within, done-room, done-text}
+use Rattle.printer.proofs.put_dimension.Statement.{statement}
+use Rattle.printer.proofs.put_dimension.Tie as tie
+
+-- ---- after `report_at`
+
+module _ (c : tie.After-report-at) where
+  abbrev start : tie.Start
+  start = c .before .before .before .before .before .before
+
+  abbrev sheet : List ℕ
+  sheet = now (start .args .s)
+
+  abbrev report : List ℤ
+  report = now (start .args .report)
+
+  abbrev work : List ℤ
+  work = now (start .args .work)
+
+  abbrev limit : ℕ
+  limit = c .before .before .before .host .result .limit
+
+  abbrev after : List ℤ
+  after = c .report-at .last .1 .1 .1 .0
+
+  abbrev work′ : List ℤ
+  work′ = c .report-at .last .1 .1 .1 .1 .0
+
+  host : limit ≡ hostLimit
+  host = c .before .before .before .host .ensures
+
+  bytes : Bytes sheet
+  bytes = record { small = λ i. c .before .before .before .before .before .shared-slice-known .given i .fits }
+
+  answers : (r : Answer) → c .report-at .result ≡ r → CallAnswers (reportCall limit sheet (start .args .p) report work) r after work′
+  answers r e = subst (λ (x : Answer). CallAnswers (reportCall limit sheet (start .args .p) report work) x after work′) e (c .report-at .ensures)
+
+-- ---- where it is done
+
+module _ (c : tie.After-counts) where
+  abbrev called : tie.After-report-at
+  called = c .before .before .before .before
+
+  abbrev counts : Counts
+  counts = c .counts .given .0 .0
+
+  done : CallAnswers (reportCall (limit called) (sheet called) (start called .args .p) (report called) (work called)) (Done counts) (after called) (work′ called)
+  done = answers called (Done counts) (c .counts .given .1)
+
+module _ (c : tie.After-count) where
+  abbrev counted : tie.After-counts
+  counted = c .before .before .before
+
+  room : ReportRoom (c .count .result) (counts counted .torsion) (counts counted .free) (report (called counted))
+  room =
+      let a = called counted in
+      done-room (limit a) (host a) (sheet a) (start a .pre .0 .0) (start a .args .p) (start a .pre .0 .1) (report a) (work a) (start a .pre .1 .0) (start a .pre .1 .1)
+      (start a .args .at) (now (start a .args .out)) (bytes a) (counts counted) (after a) (work′ a) (done counted) (c .count .result) (c .count .ensures .is)
+
+host-requires : tie.Need-host-requires
+host-requires c κs = search needs
+
+cast-report-at : tie.Need-cast-report-at
+cast-report-at c = search needs
+
+report-at-requires : tie.Need-report-at-requires
+report-at-requires c κs = search needs
+
+enum-known-refusal : tie.Need-enum-known-refusal
+enum-known-refusal c = search needs
+
+put-refusal-requires : tie.Need-put-refusal-requires
+put-refusal-requires c κs = search needs
+
+enum-known-counts : tie.Need-enum-known-counts
+enum-known-counts c = search needs
+
+add-generators : tie.Need-add-generators
+add-generators c =
+    let d = c .before .before in
+    let a = called d in
+    omega (
+      arith,
+      total-within (limit a) (host a) (sheet a) (start a .pre .0 .0) (start a .args .p) (start a .pre .0 .1) (report a) (work a) (start a .pre .1 .0) (start a .pre .1 .1)
+          (start a .args .at) (now (start a .args .out)) (bytes a) (counts d) (after a) (work′ a) (done d),
+    )
+
+count-requires : tie.Need-count-requires
+count-requires c κs = search needs
+
+put-report-requires : tie.Need-put-report-requires
+put-report-requires c κs =
+    let d = c .before .before in
+    let a = called (counted d) in
+    let h = room d in
+    ((start a .pre .0 .1, h .cells-within, h .torsion-within, h .generators-within), (omega (arith, h .report-within, a .report-at .kept .1 .1 .1 .0), start a .pre .0 .2))
+
+same-length : tie.Need-same-length
+same-length c = search needs
+
+same-length-2 : tie.Need-same-length-2
+same-length-2 c = search needs
+
+same-length-3 : tie.Need-same-length-3
+same-length-3 c = search needs
+
+returns : tie.Need-returns
+returns c =
+    let d = c .before .before .before .before .before in
+    let a = d .before .before .before .before in
+    refused-text (limit a) (host a) (sheet a) (start a .pre .0 .0) (start a .args .p) (start a .pre .0 .1) (report a) (work a) (start a .pre .1 .0) (start a .pre .1 .1)
+    (start a .args .at) (now (start a .args .out)) (d .refusal .given .0 .0) (after a) (work′ a) (c .before .before .put-refusal .result) (c .before .before .put-refusal .last .1 .0)
+    (answers a (Refused (d .refusal .given .0 .0)) (d .refusal .given .1)) (c .before .before .put-refusal .ensures)
+
+same-length-4 : tie.Need-same-length-4
+same-length-4 c = search needs
+
+same-length-5 : tie.Need-same-length-5
+same-length-5 c = search needs
+
+same-length-6 : tie.Need-same-length-6
+same-length-6 c = search needs
+
+returns-2 : tie.Need-returns-2
+returns-2 c =
+    let d = c .before .before .before .before .before in
+    let a = called (counted d) in
+    done-text (limit a) (host a) (sheet a) (start a .pre .0 .0) (start a .args .p) (start a .pre .0 .1) (report a) (work a) (start a .pre .1 .0) (start a .pre .1 .1)
+    (start a .args .at) (now (start a .args .out)) (bytes a) (counts (counted d)) (after a) (work′ a) (done (counted d)) (d .count .result)
+    (c .before .before .put-report .result) (c .before .before .put-report .last .1 .1 .1 .1 .1 .0) (d .count .ensures .is) (c .before .before .put-report .ensures)
+
+pub put-dimension-spec : {M : Type 1} → statement M
+put-dimension-spec =
+    tie.close
+    (tie.spec
+    host-requires
+    cast-report-at
+    report-at-requires
+    enum-known-refusal
+    put-refusal-requires
+    enum-known-counts
+    add-generators
+    count-requires
+    put-report-requires
+    same-length
+    same-length-2
+    same-length-3
+    returns
+    same-length-4
+    same-length-5
+    same-length-6
+    returns-2)

@@ -1,0 +1,73 @@
+-- `text::line::put_heading` meets its contract: the parts of the line stand one behind the other (`heading-put`). Assumes nothing.
+use mathlib.Core.Path.{_∙_, subst}
+use native.Mathlib.Omega.{arith}
+use lib.IntN.{ℤ}
+use borrow.Author.Needs.{needs}
+use mir.Syntax.{w64}
+use mir.Facts.{toZ-pos}
+use Rattle.reports.specs.Text.{decimal}
+use Rattle.text.specs.Put.{PutsWithin}
+use Rattle.text.proofs.Heading.{heading-put}
+use Rattle.text.proofs.line.put_heading.Statement.{statement}
+use Rattle.text.proofs.line.put_heading.Tie as tie
+
+put-requires : tie.Need-put-requires
+put-requires c κs = search needs
+
+put-requires-2 : tie.Need-put-requires-2
+put-requires-2 c κs = search needs
+
+cast-put-decimal : tie.Need-cast-put-decimal
+cast-put-decimal c = search needs
+
+put-decimal-requires : tie.Need-put-decimal-requires
+put-decimal-requires c κs = search needs
+
+add-put-fields : tie.Need-add-put-fields
+add-put-fields c = search needs
+
+put-fields-requires : tie.Need-put-fields-requires
+put-fields-requires c κs = search needs
+
+put-requires-3 : tie.Need-put-requires-3
+put-requires-3 c κs = search needs
+
+same-length : tie.Need-same-length
+same-length c = search needs
+
+returns : tie.Need-returns
+returns c =
+    let fields = c .before .before .before .before .before .before in
+    let dimension = fields .before .before .before .before in
+    let space = dimension .before .before .before .before in
+    let letter = space .before .before .before .before in
+    let s = letter .before .before .before in
+    let kept = space .put2 .kept .1 .0 ∙ letter .put .kept .1 .0 in
+    heading-put (s .args .p) (s .args .torsion) (s .args .report .now)
+    (omega (arith, s .pre))
+    (omega (arith, s .pre))
+    (letter .put .kept .1 .0)
+    kept
+    (dimension .put-decimal .kept .1 .0 ∙ kept)
+    (letter .put .ensures)
+    (space .put2 .ensures)
+    (subst
+    (λ (z : ℤ). PutsWithin 20 (decimal z) (space .put2 .result) (space .put2 .last .1 .0) (dimension .put-decimal .result) (dimension .put-decimal .last .1 .0))
+    (toZ-pos w64 (omega (arith, s .pre)))
+    (dimension .put-decimal .ensures))
+    (fields .put-fields .ensures)
+    (c .before .before .put3 .ensures)
+
+pub put-heading-spec : {M : Type 1} → statement M
+put-heading-spec =
+    tie.close
+    (tie.spec
+    put-requires
+    put-requires-2
+    cast-put-decimal
+    put-decimal-requires
+    add-put-fields
+    put-fields-requires
+    put-requires-3
+    same-length
+    returns)

@@ -1,0 +1,3 @@
+-- What the contracts of src/ cite, and its laws.
+pub mod Put
+pub mod PutLaws

@@ -1,0 +1,3 @@
+// Writing the text of a report.
+pub mod decimal;
+pub mod line;
