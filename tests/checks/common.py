@@ -1,0 +1,25 @@
+"""Sheets and helpers that several checks use."""
+
+import random
+
+from model import meshes, random_meshes
+from model.sheet import Refused, from_facets
+
+EDGE = from_facets([(0, 1)])
+HOLLOW = from_facets(meshes.hollow_triangle())
+FILLED = from_facets(meshes.filled_triangle())
+
+
+def answer(call, *arguments, **choices):
+    """The number with which a call is refused, 0 for done."""
+    try:
+        call(*arguments, **choices)
+    except Refused as refused:
+        return refused.number
+    return 0
+
+
+def random_sheets(seed, count, count_limit=48):
+    """So many seeded random sheets."""
+    rng = random.Random(seed)
+    return [from_facets(random_meshes.complex_of(rng, count_limit)) for _ in range(count)]

@@ -1,0 +1,94 @@
+"""What the calls and the program of 01 leave behind: lent slices, lent bytes, printed text."""
+
+import struct
+
+from model import homology
+from model.reduction import ENTRY_LIMIT
+from model.sheet import DIMENSIONS, LIBRARY_COUNT_LIMIT, PROGRAM_COUNT_LIMIT, Refused, refusal
+
+DONE = 0
+TOO_WIDE = 13
+COEFFICIENT_BYTES = 4
+NUMBER_BYTES = 8
+
+
+def overwrite(lent, numbers):
+    """The lent slice with its first slots written and the others untouched."""
+    return list(numbers) + list(lent[len(numbers):])
+
+
+def cleared(work, answer):
+    """The work slice after a call: zeros after done and after 13, else untouched."""
+    return [0] * len(work) if answer in (DONE, TOO_WIDE) else list(work)
+
+
+def library_report(data, p, lent, work, count_limit=LIBRARY_COUNT_LIMIT, limit=ENTRY_LIMIT):
+    """The report call: its answer (0 or the refusal), and both slices after it."""
+    try:
+        numbers = homology.report(data, p, count_limit, limit, len(lent), len(work)).numbers()
+    except Refused as refused:
+        return refused.number, list(lent), cleared(work, refused.number)
+    return DONE, overwrite(lent, numbers), cleared(work, DONE)
+
+
+def library_coordinates(data, p, chain, lent, work,
+                        count_limit=LIBRARY_COUNT_LIMIT, limit=ENTRY_LIMIT):
+    """The coordinate call: its answer (0 or the refusal), and both slices after it."""
+    try:
+        numbers = homology.coordinates(data, p, chain, count_limit, limit, len(lent), len(work))
+    except Refused as refused:
+        return refused.number, list(lent), cleared(work, refused.number)
+    return DONE, overwrite(lent, numbers), cleared(work, DONE)
+
+
+def written(lent, numbers):
+    """The lent bytes with the numbers at their start, 8 bytes each, low byte first."""
+    return struct.pack(f"<{len(numbers)}q", *numbers) + bytes(lent[NUMBER_BYTES * len(numbers):])
+
+
+def host_report(data, p, lent):
+    """The report call of the host: its answer and the lent bytes after it."""
+    try:
+        numbers = homology.report(data, p, PROGRAM_COUNT_LIMIT,
+                                  report_length=len(lent) // NUMBER_BYTES).numbers()
+    except Refused as refused:
+        return refused.number, bytes(lent)
+    return DONE, written(lent, numbers)
+
+
+def coefficients(chain_bytes):
+    """The coefficients in the bytes of a chain, None where the last is incomplete."""
+    if len(chain_bytes) % COEFFICIENT_BYTES:
+        return None
+    return list(struct.unpack(f"<{len(chain_bytes) // COEFFICIENT_BYTES}i", chain_bytes))
+
+
+def host_coordinates(data, p, chain_bytes, lent):
+    """The coordinate call of the host: its answer and the lent bytes after it."""
+    try:
+        numbers = homology.coordinates(data, p, coefficients(chain_bytes), PROGRAM_COUNT_LIMIT,
+                                       coordinate_length=len(lent) // NUMBER_BYTES)
+    except Refused as refused:
+        return refused.number, bytes(lent)
+    return DONE, written(lent, numbers)
+
+
+def dimension_lines(data, p, count_limit, limit):
+    """The lines that the program prints for one dimension of an accepted sheet."""
+    try:
+        found = homology.report(data, p, count_limit, limit)
+    except Refused as refused:
+        return [["R", refused.number]]
+    head = ["H", p, found.rank, len(found.orders), *found.orders]
+    return [head] + [["G", *generator] for generator in found.generators]
+
+
+def program_output(data, count_limit=PROGRAM_COUNT_LIMIT, limit=ENTRY_LIMIT):
+    """The text that the program prints for the bytes on its standard input."""
+    number = refusal(data, count_limit)
+    if number:
+        lines = [["R", number]]
+    else:
+        lines = [line for p in range(DIMENSIONS)
+                 for line in dimension_lines(data, p, count_limit, limit)]
+    return "".join(" ".join(map(str, line)) + "\n" for line in lines)

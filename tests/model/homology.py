@@ -1,0 +1,129 @@
+"""The report and the coordinates of 01, with refusals 1 to 13 in order.
+
+A slice length that is not given is long enough. Refusals are raised as Refused.
+"""
+
+from dataclasses import dataclass
+
+from model.matrices import apply, boundary, identity, is_cycle, multiply
+from model.reduction import ENTRY_LIMIT, TooWide, check, reduce
+from model.sheet import DIMENSIONS, LIBRARY_COUNT_LIMIT, Refused, parse
+
+COEFFICIENT_LIMIT = 32767
+FREE = 0
+
+
+@dataclass(frozen=True)
+class Classes:
+    """The end of both reductions: rows of Q, columns of G, and the kind of each.
+
+    A kind is the pivot of the row, 1 or an order above 1, or FREE.
+    """
+
+    rows: list
+    generators: list
+    kinds: list
+
+    def places(self):
+        """The places of the orders, then those of the free rows."""
+        orders = [i for i, kind in enumerate(self.kinds) if kind > 1]
+        return orders + [i for i, kind in enumerate(self.kinds) if kind == FREE]
+
+
+@dataclass(frozen=True)
+class Report:
+    """The free rank, the orders, and the generators of the orders and then the free ones."""
+
+    rank: int
+    orders: list
+    generators: list
+
+    def numbers(self):
+        """The report as the numbers that the call writes."""
+        coefficients = [x for generator in self.generators for x in generator]
+        return [self.rank, len(self.orders), *self.orders, *coefficients]
+
+
+def classes(sheet, p, limit=ENTRY_LIMIT):
+    """Both reductions of dimension p; raises TooWide."""
+    n, above = sheet.count(p), sheet.count(p + 1)
+    first = reduce(boundary(sheet, p), sheet.count(p - 1), n, limit,
+                   column=identity(n), column_inverse=identity(n))
+    r = first.rank
+    g = [row[r:] for row in first.column]
+    q = first.column_inverse[r:]
+    product = multiply(q, boundary(sheet, p + 1), above)
+    for row in product:
+        check(row, limit, "product")
+    second = reduce(product, n - r, above, limit, row=q, row_inverse=g)
+    kinds = second.diagonal() + [FREE] * (n - r - second.rank)
+    columns = [[row[j] for row in second.row_inverse] for j in range(n - r)]
+    return Classes(second.row, columns, kinds)
+
+
+def work_slots(sheet, p):
+    """The work slice that check 9 asks for."""
+    n = sheet.count(p)
+    return n * (2 * n + max(sheet.count(p - 1), sheet.count(p + 1)))
+
+
+def report_slots(sheet, p):
+    """The report slice that check 9 asks for."""
+    n = sheet.count(p)
+    return 2 + n + n * n
+
+
+def shorter(length, needed):
+    """Whether a slice of a given length, None where it is long enough, is too short."""
+    return length is not None and length < needed
+
+
+def admit(data, p, count_limit):
+    """The sheet in the bytes; raises Refused 1 to 8."""
+    sheet = parse(data, count_limit)
+    if p >= DIMENSIONS:
+        raise Refused(8)
+    return sheet
+
+
+def reduced(sheet, p, limit):
+    """Both reductions of dimension p; raises Refused 13."""
+    try:
+        return classes(sheet, p, limit)
+    except TooWide as wide:
+        raise Refused(13) from wide
+
+
+def report(data, p, count_limit=LIBRARY_COUNT_LIMIT, limit=ENTRY_LIMIT,
+           report_length=None, work_length=None):
+    """The report on dimension p of the sheet in the bytes."""
+    sheet = admit(data, p, count_limit)
+    if shorter(report_length, report_slots(sheet, p)) or shorter(work_length, work_slots(sheet, p)):
+        raise Refused(9)
+    found = reduced(sheet, p, limit)
+    orders = [kind for kind in found.kinds if kind > 1]
+    generators = [found.generators[i] for i in found.places()]
+    return Report(found.kinds.count(FREE), orders, generators)
+
+
+def coordinate(kind, value):
+    """The coordinate of a row with this value: modulo an order, as it is where free."""
+    return value if kind == FREE else value % kind
+
+
+def coordinates(data, p, chain, count_limit=LIBRARY_COUNT_LIMIT, limit=ENTRY_LIMIT,
+                coordinate_length=None, work_length=None):
+    """The coordinates of a chain of dimension p; None is a chain of no whole length."""
+    sheet = admit(data, p, count_limit)
+    n = sheet.count(p)
+    if shorter(coordinate_length, n) or shorter(work_length, work_slots(sheet, p)):
+        raise Refused(9)
+    if chain is None or len(chain) != n:
+        raise Refused(10)
+    if any(abs(x) > COEFFICIENT_LIMIT for x in chain):
+        raise Refused(11)
+    if not is_cycle(sheet, p, chain):
+        raise Refused(12)
+    found = reduced(sheet, p, limit)
+    values = apply(found.rows, chain)
+    return [coordinate(found.kinds[i], values[i]) for i in found.places()]

@@ -1,0 +1,195 @@
+"""Sheets for the checks 1 to 7: sound ones, each fault alone, and every two faults together."""
+
+from dataclasses import dataclass, field
+from itertools import combinations, islice
+from math import comb
+
+from model.sheet import DIMENSIONS, closure, layout, section_starts
+
+# The last cell of each section is a face of no other, so that a fault in it is the only one.
+BASE_FACETS = [(0, 1, 2, 3), (1, 2, 3, 4), (5, 6, 7), (8, 9), (10,)]
+
+
+@dataclass
+class Draft:
+    """A sheet on its way to bytes, with room for faults in its header and its length."""
+
+    sections: list = field(default_factory=lambda: closure(BASE_FACETS))
+    offset_faults: dict = field(default_factory=dict)
+    tail: int = 0
+    kept_bytes: int = None
+
+    def bytes(self):
+        """The bytes: a tail of zeros below 0 bytes cuts the end, kept_bytes cuts last."""
+        offsets = section_starts(map(len, self.sections))[:DIMENSIONS]
+        for p, change in self.offset_faults.items():
+            offsets[p] += change
+        data = layout(self.sections, offsets=offsets)
+        data = data[:self.tail] if self.tail < 0 else data + bytes(self.tail)
+        return data[:self.kept_bytes]
+
+
+def cut_header(kept):
+    """Fault 1."""
+    def edit(draft):
+        draft.kept_bytes = kept
+    return edit
+
+
+def many_vertices(count):
+    """Fault 2: loose vertices until there are so many."""
+    def edit(draft):
+        new = (v for v in range(100, 65536))
+        draft.sections[0] += [(v,) for v in islice(new, count - len(draft.sections[0]))]
+    return edit
+
+
+def shift_offset(p, change):
+    """Fault 3."""
+    def edit(draft):
+        draft.offset_faults[p] = change
+    return edit
+
+
+def change_length(change):
+    """Fault 4: so many bytes more, or fewer."""
+    def edit(draft):
+        draft.tail = change
+    return edit
+
+
+def turn_cell(p):
+    """Fault 5: the last cell of a section with its last two vertices exchanged."""
+    def edit(draft):
+        cell = draft.sections[p][-1]
+        draft.sections[p][-1] = cell[:-2] + (cell[-1], cell[-2])
+    return edit
+
+
+def repeat_vertex(p):
+    """Fault 5: the last cell of a section with its last vertex twice."""
+    def edit(draft):
+        cell = draft.sections[p][-1]
+        draft.sections[p][-1] = cell[:-2] + (cell[-1], cell[-1])
+    return edit
+
+
+def exchange_cells(p):
+    """Fault 6: the first two cells of a section exchanged."""
+    def edit(draft):
+        first, second, *rest = draft.sections[p]
+        draft.sections[p] = [second, first, *rest]
+    return edit
+
+
+def repeat_cell(p):
+    """Fault 6: the first cell of a section twice."""
+    def edit(draft):
+        draft.sections[p] = draft.sections[p][:1] + draft.sections[p]
+    return edit
+
+
+def drop_face(cell):
+    """Fault 7: a face left out of its section."""
+    def edit(draft):
+        section = draft.sections[len(cell) - 1]
+        section.remove(cell)
+    return edit
+
+
+def faults(count_limit):
+    """Every edit by name, with the number of the check that it alone fails."""
+    edits = {f"{kept} bytes": (1, cut_header(kept)) for kept in (0, 1, 15)}
+    edits[f"{count_limit + 1} vertices"] = (2, many_vertices(count_limit + 1))
+    for p in range(DIMENSIONS):
+        edits[f"offset {p} more"] = (3, shift_offset(p, 1))
+        edits[f"offset {p} less"] = (3, shift_offset(p, -2))
+        edits[f"cells exchanged in {p}"] = (6, exchange_cells(p))
+        edits[f"cell twice in {p}"] = (6, repeat_cell(p))
+    for change in (-8, -1, 1, 8):
+        edits[f"length {change:+}"] = (4, change_length(change))
+    for p in range(1, DIMENSIONS):
+        edits[f"cell turned in {p}"] = (5, turn_cell(p))
+        edits[f"vertex twice in {p}"] = (5, repeat_vertex(p))
+    for cell in ((2,), (4,), (1, 3), (3, 4), (0, 2, 3), (2, 3, 4), (5, 7), (9,)):
+        edits[f"face {'-'.join(map(str, cell))} missing"] = (7, drop_face(cell))
+    return edits
+
+
+def damaged(count_limit):
+    """Sheets by name with the refusal due: each fault alone, and every two of different numbers."""
+    edits = faults(count_limit)
+    sheets = {}
+    for names in [(name,) for name in edits] + list(combinations(edits, 2)):
+        numbers = [edits[name][0] for name in names]
+        if len(set(numbers)) < len(numbers):
+            continue
+        draft = Draft()
+        # Faults in cells are put in by falling number, so that each finds the cells it names.
+        for name in sorted(names, key=lambda name: -edits[name][0]):
+            edits[name][1](draft)
+        sheets[", ".join(names)] = (draft.bytes(), min(numbers))
+    return sheets
+
+
+def first_cells(p, count):
+    """The first cells of dimension p by greatest vertex, then the next: these have few faces."""
+    top = p + 1
+    while comb(top, p + 1) < count:
+        top += 1
+    cells = sorted(combinations(range(top), p + 1), key=lambda cell: cell[::-1])
+    return cells[:count]
+
+
+def full_in(p, count):
+    """A sheet with so many cells in dimension p and as few as can be below."""
+    return layout(closure(first_cells(p, count)))
+
+
+def full(count):
+    """A sheet with so many cells in each dimension."""
+    facets = first_cells(3, count)
+    for p in (2, 1, 0):
+        present = set(closure(facets)[p])
+        missing = [cell for cell in first_cells(p, 2 * count) if cell not in present]
+        facets = facets + missing[:count - len(present)]
+    return layout(closure(facets))
+
+
+def at_limit(count_limit):
+    """Sheets by name with counts at and above a limit, with the refusal due, 0 for none."""
+    sheets = {}
+    for count, number in ((count_limit, 0), (count_limit + 1, 2)):
+        for p in range(DIMENSIONS):
+            sheets[f"{count} cells of dimension {p}"] = (full_in(p, count), number)
+        sheets[f"{count} cells of each dimension"] = (full(count), number)
+    return sheets
+
+
+def long_tails():
+    """Sound sheets followed by bytes that do not belong to them, up to very long ones."""
+    sheets = {}
+    for extra in (1, 2, 8, 1000, 65536, 1 << 20):
+        sheets[f"48 cells of each dimension and {extra} bytes"] = (full(48) + bytes(extra), 4)
+        sheets[f"no cells and {extra} bytes"] = (layout([[], [], [], []]) + bytes(extra), 4)
+    return sheets
+
+
+def damage(rng, data):
+    """The bytes of a sheet with one to three small changes anywhere."""
+    data = bytearray(data)
+    for _ in range(rng.randint(1, 3)):
+        change = rng.choice(["byte", "step", "step", "exchange", "exchange", "cut", "insert"])
+        at = rng.randrange(len(data)) if data else 0
+        other = rng.randrange(0, len(data), 2) if data else 0
+        if change == "byte":
+            data[at:at + 1] = bytes([rng.randrange(256)])
+        elif change == "step":
+            data[at:at + 1] = bytes((byte + rng.choice([-1, 1])) % 256 for byte in data[at:at + 1])
+        elif change == "exchange":
+            data[other:other + 4] = data[other + 2:other + 4] + data[other:other + 2]
+        elif change == "cut":
+            del data[at:at + rng.choice([1, 2, 4])]
+        else:
+            data[at:at] = bytes(rng.choice([1, 2, 4]))
+    return bytes(data)
