@@ -3,7 +3,7 @@
  * Link with libfildwuk.a, which `rt staticlib fildwuk` writes to target/staticlib/.
  *
  * Every pointer is lent for the time of the call and not kept. A call reads `sheet` and `chain`, and writes nothing but its output. The output
- * must not overlap the sheet or the chain, and nobody else may write to any of them while the call runs. A pointer may be null only where its
+ * must not overlap the sheet or the chain, and nobody else may write to any of them while the call runs. No pointer may be null, also where its
  * length is 0. The calls keep no state: they may run at the same time on several threads, each with its own output. Each uses its own work
  * arrays on the caller's stack; 256 KiB of stack are enough for any sheet (docs/SOLVER.md has the measured figure). They always return.
  *
