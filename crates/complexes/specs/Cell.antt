@@ -46,3 +46,19 @@ pub record Listed (c : Cell) (l : List Cell) : Type 0 where
   pub place : ℕ
   pub below : place < length l
   pub is : getD l place [] ≡ c
+
+-- the first cell is the second with some vertices left out
+pub data Sublist : Cell → Cell → Type 0 where
+  none : Sublist [] []
+  skip : {d c : Cell} (v : ℕ) → Sublist d c → Sublist d (v ∷ c)
+  keep : {d c : Cell} (v : ℕ) → Sublist d c → Sublist (v ∷ d) (v ∷ c)
+
+-- v is a vertex of c
+pub record Vertex (v : ℕ) (c : Cell) : Type 0 where
+  pub place : ℕ
+  pub below : place < length c
+  pub is : getD c place 0 ≡ v
+
+-- every vertex of d is one of c
+abbrev pub Subset : Cell → Cell → Type 0
+Subset d c = (v : ℕ) → Vertex v d → Vertex v c

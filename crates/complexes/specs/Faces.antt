@@ -5,15 +5,9 @@ use mathlib.Core.List.{[], _∷_}
 use Prim.Native.Nat.{ℕ, zero, suc, _<_, _≤_, _-_}
 use native.Mathlib.Omega.{arith}
 use lib.ListN.{length}
-use Rattle.complexes.specs.Cell.{Cell, without, Listed}
+use Rattle.complexes.specs.Cell.{Cell, without, Listed, Sublist, none, skip, keep}
 use Rattle.complexes.specs.FaceLaws.{length-without}
 use Rattle.complexes.specs.Complex.{Sections, section, count, cell, Complex}
-
--- the first cell is the second with some vertices left out
-pub data Sublist : Cell → Cell → Type 0 where
-  none : Sublist [] []
-  skip : {d c : Cell} (v : ℕ) → Sublist d c → Sublist d (v ∷ c)
-  keep : {d c : Cell} (v : ℕ) → Sublist d c → Sublist (v ∷ d) (v ∷ c)
 
 pub Sublist-refl : (c : Cell) → Sublist c c
 Sublist-refl [] = none

@@ -6,20 +6,10 @@ use mathlib.Core.List.{[], _∷_}
 use Prim.Native.Nat.{ℕ, zero, suc, _<_, _-_}
 use native.Mathlib.Omega.{arith}
 use lib.ListN.{length, getD}
-use Rattle.complexes.specs.Cell.{Cell, rises, Listed}
+use Rattle.complexes.specs.Cell.{Cell, rises, Listed, Vertex, Subset, Sublist, none, skip, keep}
 use Rattle.complexes.specs.CellLaws.{rises-at, rises-lt, rises-of}
 use Rattle.complexes.specs.Complex.{Sections, section, count, cell, Complex}
-use Rattle.complexes.specs.Faces.{Sublist, none, skip, keep, closed-sublist}
-
--- v is a vertex of c
-pub record Vertex (v : ℕ) (c : Cell) : Type 0 where
-  pub place : ℕ
-  pub below : place < length c
-  pub is : getD c place 0 ≡ v
-
--- every vertex of d is one of c
-abbrev pub Subset : Cell → Cell → Type 0
-Subset d c = (v : ℕ) → Vertex v d → Vertex v c
+use Rattle.complexes.specs.Faces.{closed-sublist}
 
 -- a vertex of w ∷ c is w or one of c
 data Either (v w : ℕ) (c : Cell) : Type 0 where

@@ -9,15 +9,14 @@ use lib.ListN.{length, getD}
 use lib.IntN.{ℤ, pos, natAbs, _-ℤ_}
 use lib.Signed.{_<ℤ_}
 use Rattle.homology_groups.specs.Chain.{Chain, combination}
-use Rattle.homology_groups.specs.Counts.{IsCounts}
+use Rattle.homology_groups.specs.Presentation.{IsCounts}
 use Rattle.sheet_format.specs.Check.{refusal, sectionsOf}
 use Rattle.sheet_format.specs.Sheet.{Bytes, IsSheet}
 use Rattle.reduction_steps.specs.Table.{tableWithin}
 use Rattle.reduction_steps.specs.State.{Sizes, State}
 use Rattle.reduction_steps.specs.Pivot.{release1}
 use Rattle.reduction_steps.specs.Step as machine
-use Rattle.reduction_steps.specs.Step.{Machine, at, wide, a}
-use Rattle.reduction_laws.specs.Run.{Reaches}
+use Rattle.reduction_steps.specs.Step.{Machine, at, wide, a, Reaches}
 use Rattle.reports.specs.Reductions.{firstSizes, firstStart, secondSizes, secondStart, product}
 use Rattle.reports.specs.Call.{Answer, done, refused, entryLimit, coefficientLimit, refusalBefore, chainRefusal, reportSlots, coordinateSlots, reportCall, coordinateCall}
 use Rattle.demands.specs.Written.{chainOf, cells, IsCycle, IsBoundary, Presents, orderIn, generatorIn}

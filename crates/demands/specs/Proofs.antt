@@ -15,8 +15,7 @@ use Rattle.reports.specs.Call.{written, chainRefusal, coordinateSlots, reductio
 use Rattle.reports.specs.RefusalLaws.{orElse-above, refusalBefore-le}
 use Rattle.reports.specs.CallLaws.{Counted, counted-unique}
 use Rattle.demands.specs.Written.{chainOf, cells, IsCycle, IsBoundary, generatorIn}
-use Rattle.demands.specs.Claims.{Acceptance, Reports, TooWide, ReportDone, CoordinatesDecide, CoordinatesCombine, SameCounts, NotACycle, CoordinatesDone, CoordinatesTooWide}
-use Rattle.demands.specs.Claims.{ReportIsRight, Counts, by-report, by-coordinates}
+use Rattle.demands.specs.Claims.{Acceptance, Reports, TooWide, ReportDone, CoordinatesDecide, CoordinatesCombine, SameCounts, NotACycle, CoordinatesDone, CoordinatesTooWide, ReportIsRight, Counts, by-report, by-coordinates}
 use Rattle.demands.specs.ChainChecks.{not-a-cycle-iff}
 use Rattle.demands.specs.TwoReductions.{Right}
 use Rattle.demands.specs.ReportRight.{report-is-right}

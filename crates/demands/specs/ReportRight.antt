@@ -15,7 +15,8 @@ use Rattle.smith.specs.Rank.{order-above-one}
 use Rattle.homology_groups.specs.Chain.{Chain, Same}
 use Rattle.homology_groups.specs.Presents.{generator, presentation}
 use Rattle.homology_groups.specs.PresentationLaws.{presentation-ext}
-use Rattle.homology_groups.specs.Counts.{IsCounts, SameReport, report-unique}
+use Rattle.homology_groups.specs.Counts.{SameReport, report-unique}
+use Rattle.homology_groups.specs.Presentation.{IsCounts}
 use Rattle.sheet_format.specs.Check.{sectionsOf}
 use Rattle.reduction_steps.specs.Table.{entry}
 use Rattle.reduction_steps.specs.State.{State}

@@ -12,8 +12,7 @@ use Rattle.reduction_steps.specs.Table.{tableWithin}
 use Rattle.reduction_steps.specs.State.{Sizes, State, within}
 use Rattle.reduction_steps.specs.Pivot.{release1}
 use Rattle.reduction_steps.specs.PivotLaws.{release1-is-rule}
-use Rattle.reduction_steps.specs.Step.{Machine, at, done, wide, a, reduce, enough}
-use Rattle.reduction_laws.specs.Run.{Ended}
+use Rattle.reduction_steps.specs.Step.{Machine, at, done, wide, a, reduce, enough, Ended}
 use Rattle.reduction_laws.specs.Ends.{reduce-ends, reaches-reduce}
 use Rattle.reduction_laws.specs.Shape.{Shaped}
 use Rattle.reduction_laws.specs.SmithForm.{Reduced}

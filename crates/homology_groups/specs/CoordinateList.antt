@@ -12,8 +12,9 @@ use lib.Signed.{_≤ℤ_}
 use Rattle.integers.specs.Ring.{mul-zero, add-zero, sub-self}
 use Rattle.integers.specs.Order.{lt-pos, eq-of-sub}
 use Rattle.integers.specs.Solve.{solve, terms}
-use Rattle.integers.specs.Divides.{_∣ℤ_, zero-dvd, dvd-zero}
-use Rattle.integers.specs.Floor.{floor, modulo, modulo-is, modulo-eq-iff}
+use Rattle.integers.specs.Divides.{zero-dvd, dvd-zero}
+use Rattle.integers.specs.Division.{_∣ℤ_, floor, modulo}
+use Rattle.integers.specs.Floor.{modulo-is, modulo-eq-iff}
 use Rattle.matrices.specs.Matrix.{Matrix}
 use Rattle.matrices.specs.Vector.{apply}
 use Rattle.smith.specs.Rank.{IsOnes}

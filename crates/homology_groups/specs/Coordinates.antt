@@ -6,7 +6,7 @@ use Prim.Native.Nat.{ℕ, _<_}
 use mathlib.Core.Path.{refl, sym, _∙_, subst}
 use mathlib.Core.Logic.{_↔_}
 use lib.IntN.{ℤ, _-ℤ_}
-use Rattle.integers.specs.Divides.{_∣ℤ_}
+use Rattle.integers.specs.Division.{_∣ℤ_}
 use Rattle.matrices.specs.Matrix.{Matrix, Eq, mul, identity}
 use Rattle.matrices.specs.Inverse.{InversePair, inverse-pair-sym}
 use Rattle.matrices.specs.Vector.{apply}

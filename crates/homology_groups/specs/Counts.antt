@@ -7,19 +7,14 @@ use native.Mathlib.Decide.{decLt}
 use mathlib.Core.Path.{_≡_, refl, sym, _∙_, subst}
 use mathlib.Core.Logic.{_≢_}
 use lib.IntN.{ℤ, pos, ℤ-discrete}
-use Rattle.integers.specs.Divides.{_∣ℤ_, zero-dvd}
+use Rattle.integers.specs.Divides.{zero-dvd}
+use Rattle.integers.specs.Division.{_∣ℤ_}
 use Rattle.matrices.specs.Matrix.{Matrix}
 use Rattle.smith.specs.Rank.{IsRank, IsOnes, ones-rank}
 use Rattle.smith.specs.Divisors.{dvd-chain}
 use Rattle.homology_groups.specs.Chain.{Chain}
-use Rattle.homology_groups.specs.Presentation.{Presentation}
+use Rattle.homology_groups.specs.Presentation.{Presentation, IsCounts}
 use Rattle.homology_groups.specs.Unique.{SameOrders, presentation-unique}
-
--- of k generators with the orders o, the first t have an order that is not 0 and the other b are free
-pub record IsCounts (k : ℕ) (o : ℕ → ℤ) (t b : ℕ) : Type 0 where
-  pub total : t + b ≡ k
-  pub torsion : (j : ℕ) → j < t → o j ≢ pos 0
-  pub free : (j : ℕ) → t ≤ j → j < k → o j ≡ pos 0
 
 pub record Counts (k : ℕ) (o : ℕ → ℤ) : Type 0 where
   pub torsionCount : ℕ

@@ -9,7 +9,8 @@ use mathlib.Core.Path.{_≡_, sym, _∙_, ap, subst}
 use mathlib.Core.Logic.{_↔_}
 use lib.IntN.{ℤ, _-ℤ_}
 use Rattle.integers.specs.Ring.{sub-self}
-use Rattle.integers.specs.Divides.{_∣ℤ_, one-dvd, dvd-zero}
+use Rattle.integers.specs.Divides.{one-dvd, dvd-zero}
+use Rattle.integers.specs.Division.{_∣ℤ_}
 use Rattle.matrices.specs.Matrix.{Matrix}
 use Rattle.matrices.specs.Vector.{apply}
 use Rattle.smith.specs.Rank.{IsOnes}

@@ -9,7 +9,7 @@ use mathlib.Core.Logic.{_↔_}
 use lib.IntN.{ℤ, pos, _*ℤ_}
 use Rattle.integers.specs.Ring.{zero-mul, mul-zero, mul-comm}
 use Rattle.integers.specs.Order.{mul-cancel}
-use Rattle.integers.specs.Divides.{_∣ℤ_}
+use Rattle.integers.specs.Division.{_∣ℤ_}
 use Rattle.matrices.specs.Matrix.{Matrix, mul}
 use Rattle.matrices.specs.Inverse.{inverse-pair-sym}
 use Rattle.matrices.specs.Vector.{apply}

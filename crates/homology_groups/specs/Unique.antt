@@ -10,7 +10,8 @@ use lib.IntN.{ℤ, pos, _+ℤ_, _-ℤ_, _*ℤ_}
 use Rattle.integers.specs.Ring.{mul-zero, mul-one}
 use Rattle.integers.specs.Solve.{solve, terms}
 use Rattle.integers.specs.Order.{nonneg-is}
-use Rattle.integers.specs.Divides.{_∣ℤ_, dvd-trans, dvd-zero, dvd-one}
+use Rattle.integers.specs.Divides.{dvd-trans, dvd-zero, dvd-one}
+use Rattle.integers.specs.Division.{_∣ℤ_}
 use Rattle.matrices.specs.Matrix.{Matrix, mul, identity}
 use Rattle.matrices.specs.Product.{mul-assoc, sub-mul, mul-sub, mul-scale-left, mul-identity-left, identity-at, identity-other}
 use Rattle.smith.specs.Rectangle.{block-divides}

@@ -1,4 +1,4 @@
--- Divisibility of whole numbers: `a ∣ℤ b` holds a quotient q with b = q·a.
+-- Laws of divisibility.
 -- `dvd-refl`, `dvd-trans`, `dvd-add`, `dvd-sub`, `dvd-neg`, `neg-dvd`, `dvd-mul`, `mul-dvd-mul`, `dvd-antisymm`, `dvd-le`;
 -- with 0 and 1: `dvd-zero`, `zero-dvd`, `one-dvd`, `dvd-one`. `dvd-iff-mod`: by the remainder of the absolute values.
 -- `divides a b`, the test, with `divides-dvd` and `dvd-divides`; `decide-dvd`.
@@ -9,13 +9,9 @@ use Prim.Native.Nat.{ℕ, zero, suc, _+_, _*_, _/_, _%_, _≤_}
 use native.Mathlib.Nat as NatL
 use lib.Dec.{T, eqb, eqb→eq, eqb-refl}
 use lib.IntN.{ℤ, pos, negsuc, negℤ, natAbs, _+ℤ_, _-ℤ_, _*ℤ_}
+use Rattle.integers.specs.Division.{_∣ℤ_, divides}
 use Rattle.integers.specs.Ring.{one-mul, mul-one, zero-mul, mul-zero, mul-assoc, mul-left-comm, add-mul, neg-mul, mul-neg, neg-neg}
 use Rattle.integers.specs.Order.{natAbs-mul, natAbs-zero}
-
-infix 50 _∣ℤ_
-pub record _∣ℤ_ (a b : ℤ) : Type 0 where
-  pub quotient : ℤ
-  pub is : b ≡ quotient *ℤ a
 
 pub dvd-refl : (a : ℤ) → a ∣ℤ a
 dvd-refl a = record { quotient = pos 1; is = sym (one-mul a) }
@@ -102,9 +98,6 @@ pub dvd-one : {a : ℤ} → a ∣ℤ pos 1 → natAbs a ≡ 1
 dvd-one {a} h = dvd-antisymm h (one-dvd a)
 
 -- ---- the test
-
-unfoldable pub divides : ℤ → ℤ → Bool
-divides a b = eqb (natAbs b % natAbs a) 0
 
 pub divides-dvd : (a b : ℤ) → T (divides a b) → a ∣ℤ b
 unfolding divides

@@ -1,5 +1,4 @@
--- Division rounded towards minus infinity, for a divisor other than 0.
--- `floor a d`, and `modulo a d`, which is a - floor a d · d. `Division a d q r`: a = q·d + r with 0 ≤ r < d.
+-- Laws of division rounded towards minus infinity. `Division a d q r`: a = q·d + r with 0 ≤ r < d.
 -- For a positive divisor: `floor-division`, `natAbs-modulo`, `floor-unique`, `modulo-unique`, `dvd-iff-modulo`, `modulo-eq-iff`.
 -- For every divisor: `floor-modulo`, `natAbs-floor`, and `floor-neg`: floor (-a) (-d) is floor a d unless d is 0.
 use mathlib.Core.Path.{_≡_, refl, sym, _∙_, ap, subst}
@@ -14,18 +13,7 @@ use lib.Signed.{_≤ℤ_, _<ℤ_, ≤ℤ-refl}
 use Rattle.integers.specs.Ring.{add-zero}
 use Rattle.integers.specs.Solve.{solve, terms}
 use Rattle.integers.specs.Order.{le-pos, lt-pos, pos-lt, natAbs-mul, natAbs-zero, eq-of-sub}
-use Rattle.integers.specs.Divides.{_∣ℤ_}
-
--- the largest whole number that is at most a / d
-unfoldable pub floor : ℤ → ℤ → ℤ
-floor (pos a) (pos d) = pos (a / d)
-floor (negsuc a) (pos d) = negsuc (a / d)
-floor (pos zero) (negsuc d) = pos 0
-floor (pos (suc a)) (negsuc d) = negsuc (a / suc d)
-floor (negsuc a) (negsuc d) = pos (suc a / suc d)
-
-unfoldable pub modulo : ℤ → ℤ → ℤ
-modulo a d = a -ℤ floor a d *ℤ d
+use Rattle.integers.specs.Division.{floor, modulo, _∣ℤ_}
 
 pub modulo-is : (a d : ℤ) → modulo a d ≡ a -ℤ floor a d *ℤ d
 unfolding modulo

@@ -1,6 +1,7 @@
 -- Laws of the whole numbers that the kit lacks. `Ring`: the commutative ring laws. `Solve`: ring identities by normal forms.
--- `Order`: absolute value and order. `Divides`: divisibility. `Floor`: division rounded towards minus infinity.
+-- `Order`: absolute value and order. `Division` has the definitions of division and divisibility, `Divides` and `Floor` their laws.
 -- `Truncate`: the machine's division, and how it gives that of `Floor`.
+pub mod Division
 pub mod Ring
 pub mod Solve
 pub mod Order

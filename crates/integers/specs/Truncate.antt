@@ -12,8 +12,9 @@ use lib.IntN.{ℤ, pos, negsuc, negℤ, natAbs, _+ℤ_, _-ℤ_, _*ℤ_}
 use lib.Signed.{_≤ℤ_, _<ℤ_, <ℤ-irrefl, quotZ, remZ}
 use Rattle.integers.specs.Solve.{solve, terms}
 use Rattle.integers.specs.Order.{natAbs-neg, natAbs-zero, le-pos, lt-pos, pos-lt}
-use Rattle.integers.specs.Divides.{_∣ℤ_, dvd-iff-mod}
-use Rattle.integers.specs.Floor.{floor, floor-unique}
+use Rattle.integers.specs.Divides.{dvd-iff-mod}
+use Rattle.integers.specs.Division.{_∣ℤ_, floor}
+use Rattle.integers.specs.Floor.{floor-unique}
 
 quot-rem : (n m : ℕ) → pos n ≡ pos (n / m) *ℤ pos m +ℤ pos (n % m)
 quot-rem n m = ap pos (sym (NatL.div-add-mod' n m))

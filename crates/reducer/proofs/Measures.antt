@@ -6,7 +6,7 @@ use Prim.Native.Nat.{ℕ, suc, _+_, _-_, _*_, _≤_, _<_}
 use native.Mathlib.Nat as Nat
 use native.Mathlib.Omega.{arith}
 use lib.IntN.{natAbs}
-use Rattle.integers.specs.Divides.{_∣ℤ_}
+use Rattle.integers.specs.Division.{_∣ℤ_}
 use Rattle.matrices.specs.Matrix.{Matrix}
 use Rattle.reduction_steps.specs.Pivot.{Choice, none, place, release1}
 use Rattle.reduction_steps.specs.PivotLaws.{release1-is-rule}

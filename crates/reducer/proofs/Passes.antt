@@ -10,7 +10,7 @@ use native.Mathlib.Decide.{decLt}
 use lib.IntN.{ℤ, pos}
 use lib.Signed.{_<ℤ_}
 use lib.ListN.{length, replicate}
-use Rattle.integers.specs.Floor.{floor}
+use Rattle.integers.specs.Division.{floor}
 use Rattle.matrices.specs.Matrix as theory
 use Rattle.matrices.specs.Matrix.{transpose}
 use Rattle.matrices.specs.Operation.{subtract, onRows, onColumns}

@@ -8,8 +8,8 @@ use lib.IntN.{ℤ, pos}
 use lib.ListN.{length, replicate}
 use Rattle.reduction_steps.specs.Pivot.{release1}
 use Rattle.reduction_steps.specs.PivotLaws.{release1-is-rule}
-use Rattle.reduction_steps.specs.Step.{Letter, Machine, at}
-use Rattle.reduction_laws.specs.Run.{Ended, reaches-refl, reaches-trans}
+use Rattle.reduction_steps.specs.Step.{Letter, Machine, at, Ended}
+use Rattle.reduction_laws.specs.Run.{reaches-refl, reaches-trans}
 use Rattle.reduction_laws.specs.Ends.{reaches-reduce}
 use Rattle.lines.specs.Slice.{limit, Small}
 use Rattle.refusal.specs.declared.Refusal.{Refusal}

@@ -9,7 +9,7 @@ use native.Mathlib.Decide.{ℕ-discrete}
 use native.Mathlib.Omega.{arith}
 use lib.IntN.{ℤ, pos, negsuc, natAbs}
 use lib.ListN.{length, replicate}
-use Rattle.integers.specs.Divides.{_∣ℤ_}
+use Rattle.integers.specs.Division.{_∣ℤ_}
 use Rattle.integers.specs.Floor.{dvd-iff-modulo}
 use Rattle.matrices.specs.Matrix.{Matrix}
 use Rattle.matrices.specs.Operation.{subtract}

@@ -5,7 +5,7 @@ use Prim.Native.Nat.{ℕ, _+_, _≤_}
 use lib.IntN.{ℤ, pos, natAbs}
 use lib.Signed.{_<ℤ_}
 use mir.Syntax.{w64}
-use Rattle.integers.specs.Floor.{floor}
+use Rattle.integers.specs.Division.{floor}
 use Rattle.reduction_laws.specs.Letters.{ReadyC}
 use Rattle.lines.specs.Slice.{limit, lineAt, Small}
 use Rattle.lines.specs.Matrices.{contents}

@@ -8,8 +8,7 @@ use Rattle.matrices.specs.Matrix.{Matrix}
 use Rattle.reduction_steps.specs.Table.{entry}
 use Rattle.reduction_steps.specs.State.{Outcome, made, tooWide}
 use Rattle.reduction_steps.specs.Pivot.{release1}
-use Rattle.reduction_steps.specs.Step.{Machine, at, done, wide, a, bring, rowPass, columnPass, reduce}
-use Rattle.reduction_laws.specs.Run.{Reaches}
+use Rattle.reduction_steps.specs.Step.{Machine, at, done, wide, a, bring, rowPass, columnPass, reduce, Reaches}
 use Rattle.reduction_laws.specs.StageLaws as stage-laws
 use Rattle.reduction_laws.specs.Letters.{ReadyC, ReadyD}
 use Rattle.lines.specs.Slice.{limit, Small}

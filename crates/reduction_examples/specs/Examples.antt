@@ -4,8 +4,7 @@ use mathlib.Core.List.{List, _++_}
 use lib.Dec.{T}
 use Rattle.lists.specs.Tabulate.{tabulate}
 use Rattle.lists.specs.Same.{every, sameNumber, sameList}
-use Rattle.integers.specs.Floor.{floor}
-use Rattle.integers.specs.Divides.{divides}
+use Rattle.integers.specs.Division.{floor, divides}
 use Rattle.matrices.specs.Matrix.{identity}
 use Rattle.matrices.specs.Operation.{onRows, onColumns, inverse}
 use Rattle.reduction_steps.specs.Table.{table, rowWithin, tableWithin}

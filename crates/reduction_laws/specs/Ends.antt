@@ -6,8 +6,8 @@ use Prim.Native.Nat.{ℕ, zero, suc, _+_, _*_, min}
 use native.Mathlib.Omega.{arith}
 use Rattle.reduction_steps.specs.State.{Sizes, State, within}
 use Rattle.reduction_steps.specs.Pivot.{Rule, IsRule}
-use Rattle.reduction_steps.specs.Step.{Letter, Machine, at, done, wide, enough, reduce}
-use Rattle.reduction_laws.specs.Run.{Ended, run-more, Reaches, reaches-unique, Comes, comes-now, comes-more, comes-then}
+use Rattle.reduction_steps.specs.Step.{Letter, Machine, at, done, wide, enough, reduce, Ended, Reaches}
+use Rattle.reduction_laws.specs.Run.{run-more, reaches-unique, Comes, comes-now, comes-more, comes-then}
 use Rattle.reduction_laws.specs.Shape.{Shaped}
 use Rattle.reduction_laws.specs.Stage.{Stage, stage-start}
 use Rattle.reduction_laws.specs.Descent.{Onward, further, finished, stopped, leaves-stage}

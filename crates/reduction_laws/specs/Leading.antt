@@ -7,7 +7,7 @@ use native.Mathlib.Omega.{arith}
 use native.Mathlib.Decide.{ℕ-discrete}
 use lib.IntN.{ℤ, pos}
 use lib.Signed.{_<ℤ_}
-use Rattle.integers.specs.Divides.{_∣ℤ_}
+use Rattle.integers.specs.Division.{_∣ℤ_}
 use Rattle.matrices.specs.Matrix.{Matrix, transpose}
 use Rattle.matrices.specs.Operation.{Operation, onRows, onColumns}
 use Rattle.matrices.specs.Within.{Within}

@@ -12,8 +12,8 @@ use lib.IntN.{ℤ, pos, negsuc, natAbs, _+ℤ_, _-ℤ_, _*ℤ_}
 use lib.Signed.{_<ℤ_}
 use Rattle.integers.specs.Ring as Ring
 use Rattle.integers.specs.Solve.{solve, terms}
-use Rattle.integers.specs.Divides.{_∣ℤ_}
-use Rattle.integers.specs.Floor.{modulo, natAbs-modulo}
+use Rattle.integers.specs.Division.{_∣ℤ_, modulo}
+use Rattle.integers.specs.Floor.{natAbs-modulo}
 use Rattle.matrices.specs.Matrix.{Matrix, transpose}
 use Rattle.matrices.specs.Operation.{subtract, onRows}
 use Rattle.matrices.specs.OperationLaws.{onRows-subtract-at, onRows-subtract-other}

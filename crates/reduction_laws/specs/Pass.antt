@@ -6,7 +6,8 @@ use Prim.Native.Nat.{ℕ, zero, suc, _+_, _≤_, _<_}
 use native.Mathlib.Omega.{arith}
 use native.Mathlib.Decide.{ℕ-discrete}
 use lib.IntN.{_-ℤ_, _*ℤ_}
-use Rattle.integers.specs.Floor.{floor, modulo, modulo-is}
+use Rattle.integers.specs.Floor.{modulo-is}
+use Rattle.integers.specs.Division.{floor, modulo}
 use Rattle.matrices.specs.Matrix.{Matrix}
 use Rattle.matrices.specs.Operation.{Operation, subtract, onRows}
 use Rattle.matrices.specs.OperationLaws.{onRows-subtract-at, onRows-subtract-other}

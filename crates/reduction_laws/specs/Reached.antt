@@ -5,8 +5,8 @@ use mathlib.Core.Bool.{true}
 use Prim.Native.Nat.{ℕ, zero, suc}
 use Rattle.reduction_steps.specs.State.{Sizes, State, within}
 use Rattle.reduction_steps.specs.Pivot.{Rule, IsRule}
-use Rattle.reduction_steps.specs.Step.{Letter, Machine, at, done, wide, step, run}
-use Rattle.reduction_laws.specs.Run.{run-suc, Reaches}
+use Rattle.reduction_steps.specs.Step.{Letter, Machine, at, done, wide, step, run, Reaches}
+use Rattle.reduction_laws.specs.Run.{run-suc}
 use Rattle.reduction_laws.specs.Shape.{Shaped}
 use Rattle.reduction_laws.specs.Letters.{ReadyC, ReadyD, ReadyE}
 use Rattle.reduction_laws.specs.Stage.{Stage, Finished, stage-start}

@@ -8,13 +8,7 @@ use native.Mathlib.Decide.{decLe}
 use native.Mathlib.Omega.{arith}
 use Rattle.reduction_steps.specs.State.{Sizes}
 use Rattle.reduction_steps.specs.Pivot.{Rule}
-use Rattle.reduction_steps.specs.Step.{Machine, at, done, wide, step, run}
-
--- the machine has ended: done, or too wide
-abbrev pub Ended : Machine → Type 0
-Ended (at l k s) = ⊥
-Ended (done r s) = Unit {0}
-Ended wide = Unit {0}
+use Rattle.reduction_steps.specs.Step.{Machine, at, done, wide, Ended, step, run, Reaches}
 
 module _ (limit : ℕ) (z : Sizes) (rule : Rule) where
   -- ---- runs
@@ -52,31 +46,26 @@ module _ (limit : ℕ) (z : Sizes) (rule : Rule) where
 
   -- ---- what is reached
 
-  -- finitely many steps lead from x to y
-  pub record Reaches (x y : Machine) : Type 0 where
-    pub steps : ℕ
-    pub leads : run limit z rule steps x ≡ y
-
-  pub reaches-refl : (x : Machine) → Reaches x x
+  pub reaches-refl : (x : Machine) → Reaches limit z rule x x
   unfolding run
   reaches-refl x = record { steps = 0; leads = refl }
 
-  pub reaches-step : (x : Machine) → Reaches x (step limit z rule x)
+  pub reaches-step : (x : Machine) → Reaches limit z rule x (step limit z rule x)
   unfolding run
   reaches-step x = record { steps = 1; leads = run-suc 0 x }
 
-  pub reaches-trans : {x y w : Machine} → Reaches x y → Reaches y w → Reaches x w
+  pub reaches-trans : {x y w : Machine} → Reaches limit z rule x y → Reaches limit z rule y w → Reaches limit z rule x w
   reaches-trans {x} {y} {w} p q = record {
     steps = p .steps + q .steps;
     leads = run-add (p .steps) (q .steps) x ∙ ap (λ (v : Machine). run limit z rule (q .steps) v) (p .leads) ∙ q .leads;
   }
 
   -- the machine that a step leads to
-  pub reaches-next : {x y : Machine} → step limit z rule x ≡ y → Reaches x y
-  reaches-next {x} {y} e = subst (λ (v : Machine). Reaches x v) e (reaches-step x)
+  pub reaches-next : {x y : Machine} → step limit z rule x ≡ y → Reaches limit z rule x y
+  reaches-next {x} {y} e = subst (λ (v : Machine). Reaches limit z rule x v) e (reaches-step x)
 
   -- ended machines that are reached from one start are equal
-  pub reaches-unique : {x y w : Machine} → Reaches x y → Reaches x w → Ended y → Ended w → y ≡ w
+  pub reaches-unique : {x y w : Machine} → Reaches limit z rule x y → Reaches limit z rule x w → Ended y → Ended w → y ≡ w
   reaches-unique {x} {y} {w} p q e f = go (decLe (p .steps) (q .steps))
     where
       ended-p : Ended (run limit z rule (p .steps) x)

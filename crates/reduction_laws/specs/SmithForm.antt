@@ -9,7 +9,8 @@ use native.Mathlib.Decide.{decLt, ℕ-discrete}
 use lib.IntN.{ℤ, pos}
 use lib.Signed.{_≤ℤ_, _<ℤ_, <ℤ-irrefl}
 use Rattle.integers.specs.Order.{le-of-lt, le-refl}
-use Rattle.integers.specs.Divides.{_∣ℤ_, dvd-zero}
+use Rattle.integers.specs.Divides.{dvd-zero}
+use Rattle.integers.specs.Division.{_∣ℤ_}
 use Rattle.matrices.specs.Matrix.{Matrix, Eq, mul, transpose}
 use Rattle.matrices.specs.Product.{Eq-sym, Eq-trans}
 use Rattle.smith.specs.Certificate.{Smith, diagonal}

@@ -3,7 +3,7 @@ use mathlib.Core.Path.{_≡_, refl, sym, _∙_, subst}
 use mathlib.Core.Bool.{Bool, true, false}
 use Prim.Native.Nat.{ℕ, suc, _-_, _<_}
 use lib.IntN.{negsuc, natAbs}
-use Rattle.integers.specs.Divides.{_∣ℤ_}
+use Rattle.integers.specs.Division.{_∣ℤ_}
 use Rattle.integers.specs.Floor.{dvd-iff-modulo}
 use Rattle.matrices.specs.Operation.{subtract}
 use Rattle.reduction_steps.specs.Table.{entry}

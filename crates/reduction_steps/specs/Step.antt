@@ -1,11 +1,11 @@
 -- The steps a to e of document 01, "The reduction", as a machine: one step for each letter.
 use mathlib.Core.Bool.{Bool, true, false, cond, not, _||_}
+use mathlib.Core.Path.{_≡_}
 use Prim.Native.Nat.{ℕ, zero, suc, _+_, _-_, _*_, min}
 use lib.Dec.{eqb}
 use lib.IntN.{ℤ, pos, negsuc, natAbs}
 use lib.Signed.{nonNeg}
-use Rattle.integers.specs.Floor.{floor}
-use Rattle.integers.specs.Divides.{divides}
+use Rattle.integers.specs.Division.{floor, divides}
 use Rattle.matrices.specs.Matrix.{Matrix}
 use Rattle.matrices.specs.Operation.{Operation, subtract, swap, negate}
 use Rattle.reduction_steps.specs.Table.{entry}
@@ -46,6 +46,12 @@ unfoldable pub firstIndivisible : Matrix → ℤ → ℕ → ℕ → ℕ → ℕ
 firstIndivisible A pivot j across zero i = noRow
 firstIndivisible A pivot j across (suc more) i =
     elim (rowIndivisible A pivot i across j) [ true ↦ row i | false ↦ firstIndivisible A pivot j across more (suc i) ]
+
+-- the machine has ended: done, or too wide
+abbrev pub Ended : Machine → Type 0
+Ended (at l k s) = ⊥
+Ended (done r s) = Unit {0}
+Ended wide = Unit {0}
 
 module _ (limit : ℕ) (z : Sizes) where
   -- row k is negated where its pivot is negative
@@ -101,6 +107,11 @@ module _ (limit : ℕ) (z : Sizes) where
   run rule (suc n) (at l k s) = run rule n (step rule (at l k s))
   run rule (suc n) (done r s) = done r s
   run rule (suc n) wide = wide
+
+  -- finitely many steps lead from x to y
+  pub record Reaches (rule : Rule) (x y : Machine) : Type 0 where
+    pub steps : ℕ
+    pub leads : run rule steps x ≡ y
 
   -- steps enough for every start within the limit: a stage meets a pivot of each size once, and a pivot takes five letters at most
   abbrev pub enough : ℕ

@@ -5,7 +5,7 @@ use Prim.Native.Nat.{ℕ, zero, suc, _-_}
 use lib.Dec.{eqb}
 use lib.ListN.{length, getD}
 use lib.IntN.{ℤ, pos, natAbs, _*ℤ_}
-use Rattle.integers.specs.Floor.{modulo}
+use Rattle.integers.specs.Division.{modulo}
 use Rattle.lists.specs.Tabulate.{tabulate}
 use Rattle.matrices.specs.Vector.{apply}
 use Rattle.reduction_steps.specs.Table.{Table, entry}

@@ -26,8 +26,7 @@ use Rattle.sheet_format.specs.CheckLaws.{
   cellsFall-false,
   faceMissing-false,
 }
-use Rattle.sheet_format.specs.SheetLaws.{countAt-in, countAt-out, countAt-below, count-beyond, count-below, length-sectionsOf, count-sectionsOf, cell-sectionsOf}
-use Rattle.sheet_format.specs.SheetLaws.{length-cellOf, getD-cellOf, start-ext, start-mono, fieldAt-lt}
+use Rattle.sheet_format.specs.SheetLaws.{countAt-in, countAt-out, countAt-below, count-beyond, count-below, length-sectionsOf, count-sectionsOf, cell-sectionsOf, length-cellOf, getD-cellOf, start-ext, start-mono, fieldAt-lt}
 use Rattle.sheet_format.specs.Pieces.{holds-self, holds-all}
 use Rattle.sheet_format.specs.LayoutLaws.{Reads, length-layout, bytes-layout, holds-layout}
 

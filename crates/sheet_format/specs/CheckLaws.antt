@@ -17,8 +17,7 @@ use Rattle.complexes.specs.Cell.{Cell, without, rises, precedes, listed, Listed
 use Rattle.complexes.specs.Complex.{Sections, section, count, cell}
 use Rattle.complexes.specs.CellLaws.{listed-true, Listed-listed}
 use Rattle.sheet_format.specs.Layout.{top, headerLength}
-use Rattle.sheet_format.specs.Check.{countAt, offsetAt, startAt, sectionsOf, some, refuse, refusal}
-use Rattle.sheet_format.specs.Check.{tooShort, countExceeds, offsetDiffers, lengthDiffers, verticesFall, cellsFall, faceMissing}
+use Rattle.sheet_format.specs.Check.{countAt, offsetAt, startAt, sectionsOf, some, refuse, refusal, tooShort, countExceeds, offsetDiffers, lengthDiffers, verticesFall, cellsFall, faceMissing}
 
 -- ---- some
 

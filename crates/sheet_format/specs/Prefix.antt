@@ -1,5 +1,5 @@
 -- A sheet longer than the longest that can be accepted is settled by its first bytes.
---     longest          no accepted sheet is longer at a count limit (accepted-length): 976 bytes at 48
+--     accepted-length  no accepted sheet is longer than `longest`: 976 bytes at 48
 --     refusal-long     a longer sheet is refused with 2, 3 or 4
 --     refusal-take     the refusal of a sheet is that of its first n bytes, for every n above `longest`
 use mathlib.Core.Path.{_≡_, refl, sym, ap, _∙_, ap₂}
@@ -13,13 +13,10 @@ use lib.Dec.{eqb, ltb}
 use lib.ListN.{length, take}
 use lib.Seq.{length-take-le, take-all, getD-take}
 use borrow.Author.Tests.{le-ltb, ne-eqb}
-use Rattle.sheet_format.specs.Layout.{top, headerLength}
+use Rattle.sheet_format.specs.Layout.{top, headerLength, longest}
 use Rattle.sheet_format.specs.Check.{fieldAt, countAt, offsetAt, startAt, countExceeds, offsetDiffers, lengthDiffers, refuse, refusal}
 use Rattle.sheet_format.specs.CheckLaws.{some-ext, countExceeds-false, lengthDiffers-false, refusal-zero}
-use Rattle.sheet_format.specs.SheetLaws.{countAt-in, countAt-out, start-ext, start-le, triangle}
-
-abbrev pub longest : ℕ → ℕ
-longest limit = headerLength + 2 * (limit * triangle (suc top))
+use Rattle.sheet_format.specs.SheetLaws.{countAt-in, countAt-out, start-ext, start-le}
 
 -- ---- a longer sheet
 

@@ -12,7 +12,7 @@ use lib.ListN.{length, getD, List·getD-eq-default}
 use borrow.Author.Tests.{le-leb, lt-leb}
 use Rattle.complexes.specs.Cell.{Cell}
 use Rattle.complexes.specs.Complex.{Sections, section, count, cell}
-use Rattle.sheet_format.specs.Layout.{top, headerLength, start}
+use Rattle.sheet_format.specs.Layout.{top, headerLength, start, triangle}
 use Rattle.sheet_format.specs.Check.{fieldAt, countAt, startAt, cellOf, cellsOf, sectionsOf}
 use Rattle.sheet_format.specs.Sheet.{Bytes}
 use Rattle.lists.specs.TabulateLaws.{length-tabulate, getD-tabulate}
@@ -95,11 +95,6 @@ start-add n p (suc k) = rw (add-suc p k) (le-trans (start-add n p k) (le-add-rig
 
 pub start-mono : (n : ℕ → ℕ) (p q : ℕ) → p ≤ q → start n p ≤ start n q
 start-mono n p q h = subst (λ (r : ℕ). start n p ≤ start n r) (add-sub-of-le h) (start-add n p (q - p))
-
--- the vertex numbers in one cell of each dimension below p: 1 + .. + p
-abbrev pub triangle : ℕ → ℕ
-triangle zero = zero
-triangle (suc p) = triangle p + suc p
 
 pub start-le : (n : ℕ → ℕ) (limit p : ℕ) → ((q : ℕ) → q < p → n q ≤ limit) → start n p ≤ headerLength + 2 * (limit * triangle p)
 unfolding start

@@ -6,7 +6,8 @@ use native.Mathlib.Decide.{decLt}
 use lib.IntN.{ℤ, pos}
 use lib.Signed.{_≤ℤ_}
 use Rattle.integers.specs.Order.{nonneg-is}
-use Rattle.integers.specs.Divides.{_∣ℤ_, dvd-refl, dvd-trans, dvd-add, dvd-zero, dvd-antisymm}
+use Rattle.integers.specs.Divides.{dvd-refl, dvd-trans, dvd-add, dvd-zero, dvd-antisymm}
+use Rattle.integers.specs.Division.{_∣ℤ_}
 use Rattle.matrices.specs.Sum.{sum}
 
 pub dvd-sum : (n : ℕ) (e : ℤ) (f : ℕ → ℤ) → ((i : ℕ) → i < n → e ∣ℤ f i) → e ∣ℤ sum n f

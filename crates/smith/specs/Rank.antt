@@ -10,7 +10,8 @@ use mathlib.Core.Logic.{_≢_}
 use lib.IntN.{ℤ, pos, negsuc, natAbs, ℤ-discrete}
 use lib.Signed.{_≤ℤ_, _<ℤ_}
 use Rattle.integers.specs.Order.{lt-pos, nonneg-is}
-use Rattle.integers.specs.Divides.{_∣ℤ_, zero-dvd, dvd-one}
+use Rattle.integers.specs.Divides.{zero-dvd, dvd-one}
+use Rattle.integers.specs.Division.{_∣ℤ_}
 use Rattle.matrices.specs.Matrix.{Matrix}
 use Rattle.smith.specs.Certificate.{Smith}
 

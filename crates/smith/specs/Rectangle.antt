@@ -8,7 +8,8 @@ use native.Mathlib.Decide.{ℕ-discrete}
 use lib.IntN.{ℤ, pos, _+ℤ_, _-ℤ_, _*ℤ_}
 use Rattle.integers.specs.Ring.{add-zero, zero-mul, mul-one, mul-assoc as mul-assoc-ℤ, mul-left-comm}
 use Rattle.integers.specs.Solve.{solve, terms}
-use Rattle.integers.specs.Divides.{_∣ℤ_, dvd-add, dvd-mul}
+use Rattle.integers.specs.Divides.{dvd-add, dvd-mul}
+use Rattle.integers.specs.Division.{_∣ℤ_}
 use Rattle.matrices.specs.Sum.{sum}
 use Rattle.matrices.specs.SumLaws.{sum-ext, sum-zero, sum-mul-left, sum-split}
 use Rattle.matrices.specs.Matrix.{Matrix, mul, identity}

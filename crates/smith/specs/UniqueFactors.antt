@@ -7,7 +7,8 @@ use native.Mathlib.Omega.{arith}
 use native.Mathlib.Decide.{decLt}
 use lib.IntN.{ℤ, pos, _-ℤ_, _*ℤ_}
 use Rattle.integers.specs.Ring.{mul-zero, mul-assoc as mul-assoc-ℤ, sub-self}
-use Rattle.integers.specs.Divides.{_∣ℤ_, dvd-mul, dvd-zero}
+use Rattle.integers.specs.Divides.{dvd-mul, dvd-zero}
+use Rattle.integers.specs.Division.{_∣ℤ_}
 use Rattle.matrices.specs.Sum.{sum}
 use Rattle.matrices.specs.SumLaws.{sum-zero, sum-single}
 use Rattle.matrices.specs.Matrix.{Matrix, mul, identity}

@@ -2,8 +2,7 @@
 -- document 01. By `good-eq` of `Case`, a good case has exactly the answer, the output slice and the work slice expected.
 use mathlib.Core.List.{List, _++_}
 use lib.Dec.{T}
-use Rattle.integers.specs.Floor.{floor, modulo}
-use Rattle.integers.specs.Divides.{divides}
+use Rattle.integers.specs.Division.{floor, modulo, divides}
 use Rattle.lists.specs.Tabulate.{tabulate}
 use Rattle.matrices.specs.Sum.{sum}
 use Rattle.matrices.specs.Matrix.{mul, identity, null}

@@ -12,7 +12,8 @@ use mir.Syntax.{w64}
 use mir.Val.{SFits, ofZ, toZ}
 use mir.Facts.{toZ-ofZ}
 use Rattle.integers.specs.Order.{natAbs-neg, natAbs-sub, pos-lt}
-use Rattle.integers.specs.Floor.{floor, natAbs-floor}
+use Rattle.integers.specs.Floor.{natAbs-floor}
+use Rattle.integers.specs.Division.{floor}
 use Rattle.integers.specs.Truncate.{floor-quotZ, floor-quotZ-pred}
 use Rattle.lines.specs.Slice.{limit}
 use Rattle.lines.proofs.Words.{read, sfits-below}

@@ -15,7 +15,7 @@ use mir.Syntax.{w64}
 use mir.Val.{SFits, ofZ}
 use mir.Facts.{toZ-ofZ}
 use Rattle.integers.specs.Order.{natAbs-zero}
-use Rattle.integers.specs.Divides.{divides}
+use Rattle.integers.specs.Division.{divides}
 use Rattle.integers.specs.Truncate.{natAbs-remZ}
 use Rattle.matrices.specs.Matrix.{Matrix}
 use Rattle.lines.proofs.Words.{read}

@@ -3,7 +3,7 @@ ghost use mathlib.Core.Path.{_≡_};
 ghost use Prim.Native.Nat.{_≤_};
 ghost use lib.IntN.{pos, natAbs};
 ghost use lib.Signed.{_<ℤ_};
-ghost use Rattle.integers.specs.Floor.{floor};
+ghost use Rattle.integers.specs.Division.{floor};
 ghost use Rattle.lines.specs.Slice.{limit};
 
 // x divided by the positive d, rounded towards minus infinity.

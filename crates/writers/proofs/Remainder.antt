@@ -6,7 +6,8 @@ use lib.IntN.{ℤ, pos, _+ℤ_, _-ℤ_, _*ℤ_}
 use lib.Signed.{_≤ℤ_, _<ℤ_, quotZ, remZ}
 use Rattle.integers.specs.Ring.{mul-zero, add-zero}
 use Rattle.integers.specs.Solve.{solve, terms}
-use Rattle.integers.specs.Floor.{floor, modulo, modulo-is}
+use Rattle.integers.specs.Floor.{modulo-is}
+use Rattle.integers.specs.Division.{floor, modulo}
 use Rattle.integers.specs.Truncate.{quotZ-remZ, floor-quotZ, floor-quotZ-pred}
 
 pub modulo-zero : (a : ℤ) → modulo a (pos 0) ≡ a

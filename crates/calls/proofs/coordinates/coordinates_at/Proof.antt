@@ -17,8 +17,7 @@ use Rattle.boundaries.specs.Face.{Accepted}
 use Rattle.calls.specs.Slices.{ReducedTwice}
 use Rattle.calls.proofs.Sheet.{counted, sheet-complex, accepted-library, slots-of}
 use Rattle.calls.proofs.Outcomes.{twice-done, twice-refused}
-use Rattle.calls.proofs.Refusals.{sheet-refused, dimension-refused, output-short, work-short}
-use Rattle.calls.proofs.Refusals.{length-differs, coefficient-beyond, boundary-nonzero, chain-passed, coefficients-small}
+use Rattle.calls.proofs.Refusals.{sheet-refused, dimension-refused, output-short, work-short, length-differs, coefficient-beyond, boundary-nonzero, chain-passed, coefficients-small}
 use Rattle.calls.proofs.Writing.{can-coordinate}
 use Rattle.calls.proofs.CoordinateAnswers.{coordinates-refuse, chain-refuses, coordinates-wide, coordinates-done}
 use Rattle.calls.proofs.coordinates.coordinates_at.Statement.{statement}

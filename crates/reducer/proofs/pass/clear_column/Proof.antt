@@ -4,7 +4,7 @@ use mathlib.Core.Path.{_≡_, _∙_}
 use Prim.Native.Nat.{_-_}
 use native.Mathlib.Omega.{arith}
 use mir.Syntax.{w64}
-use Rattle.integers.specs.Floor.{floor}
+use Rattle.integers.specs.Division.{floor}
 use Rattle.lines.specs.Matrices.{contents}
 use Rattle.lines.proofs.Words.{read}
 use Rattle.reducer.proofs.States.{held-matrix, operated-done, operated-wide}

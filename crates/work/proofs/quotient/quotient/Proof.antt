@@ -3,7 +3,7 @@
 use mathlib.Core.Path.{sym, ap, _∙_}
 use Prim.Native.Nat.{zero-le}
 use lib.IntN.{ℤ}
-use Rattle.integers.specs.Floor.{floor}
+use Rattle.integers.specs.Division.{floor}
 use Rattle.work.proofs.Division.{floor-zero, of-bits, positive-bits, quotient-fits, pred-fits, rounded-down, rounded-down-pred, floor-small}
 use Rattle.work.proofs.quotient.quotient.Statement.{statement}
 use Rattle.work.proofs.quotient.quotient.Tie as tie

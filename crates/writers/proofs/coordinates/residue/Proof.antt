@@ -12,7 +12,8 @@ use mir.Syntax.{w64}
 use mir.Val.{SFits, ofZ, hbits}
 use mir.Facts.{toZ-ofZ}
 use Rattle.integers.specs.Order.{lt-pos}
-use Rattle.integers.specs.Floor.{modulo, natAbs-modulo}
+use Rattle.integers.specs.Floor.{natAbs-modulo}
+use Rattle.integers.specs.Division.{modulo}
 use Rattle.lines.proofs.Words.{read, sfits-below, zero-of-bits}
 use Rattle.work.proofs.Division.{quotient-fits, remainder-read}
 use Rattle.writers.proofs.Remainder.{modulo-zero, modulo-remZ, modulo-remZ-add}

@@ -11,7 +11,7 @@ use lib.Signed.{_≤ℤ_}
 use mir.Syntax.{w64}
 use mir.Val.{ofZ}
 use mir.Facts.{toZ-ofZ}
-use Rattle.integers.specs.Floor.{modulo}
+use Rattle.integers.specs.Division.{modulo}
 use Rattle.matrices.specs.Vector.{apply}
 use Rattle.reduction_steps.specs.Table.{entry}
 use Rattle.reports.specs.Report.{kept, torsionCount, coordinateAt, coordinateList}
