@@ -19,7 +19,7 @@ use Rattle.complexes.specs.CellLaws.{eq-same, ne-same}
 use Rattle.complexes.specs.FaceLaws.{without-injective}
 use Rattle.complexes.specs.OrderLaws.{ordered-unique}
 use Rattle.complexes.specs.Complex.{section, count, cell, Complex}
-use Rattle.complexes.specs.Boundary.{sign, coefficient, rowCells, boundary}
+use Rattle.complexes.specs.Boundary.{sign, coefficient, boundary}
 use Rattle.sheet_format.specs.Check.{sectionsOf}
 use Rattle.boundaries.specs.Face.{IsFace}
 
@@ -65,5 +65,5 @@ module _ (b : List ℕ) {top limit : ℕ} (complex : Complex top limit (sections
             omega arith
 
   pub part-all : (i : ℕ) → boundary (sectionsOf b) (suc p) i j ≡ entry b p j (suc (suc p)) i
-  unfolding boundary rowCells coefficient
+  unfolding boundary coefficient
   part-all i = ap (λ (n : ℕ). part (cell (sectionsOf b) (suc p) j) n (cell (sectionsOf b) p i)) (complex .sized (suc p) j below)

@@ -8,7 +8,7 @@ use native.Mathlib.Omega.{arith}
 use Rattle.complexes.specs.Cell.{without}
 use Rattle.complexes.specs.Complex.{count, cell, section, Complex}
 use Rattle.sheet_format.specs.Layout.{top}
-use Rattle.sheet_format.specs.Check.{countAt, startAt, cellOf, cellsOf, sectionsOf}
+use Rattle.sheet_format.specs.Check.{countField, startAt, cellOf, cellsOf, sectionsOf}
 use Rattle.sheet_format.specs.Sheet.{Bytes}
 use Rattle.sheet_format.specs.Accept.{accepted-complex}
 use Rattle.sheet_format.specs.SheetLaws.{section-sectionsOf, count-sectionsOf, cell-sectionsOf}
@@ -34,7 +34,7 @@ pub record Looked (b : List ℕ) (p j a n at many : ℕ) : Type 0 where
   pub cell-starts : a ≡ startAt b (suc p) + 2 * (suc (suc p) * j)
   pub vertices : n ≡ suc p
   pub starts : at ≡ startAt b p
-  pub cells : many ≡ countAt b p
+  pub cells : many ≡ countField b p
 
 module _ {b : List ℕ} (bytes : Bytes b) (accepted : Accepted b) where
   pub complex : Complex top libraryLimit (sectionsOf b)

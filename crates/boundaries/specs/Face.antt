@@ -14,8 +14,8 @@ use Rattle.reports.specs.Call.{libraryLimit}
 use Rattle.lines.specs.Slice.{limit, at, Small}
 use Rattle.lines.specs.Matrices.{contents, Off}
 use Rattle.lines.specs.declared.matrix.Matrix.{Matrix}
-use Rattle.lines.specs.declared.line.Written.{Written}
-use Rattle.lines.specs.declared.line.Written.the-variants.{Done, TooWide}
+use Rattle.lines.specs.declared.line.Effect.{Effect}
+use Rattle.lines.specs.declared.line.Effect.the-variants.{Done, TooWide}
 
 -- the sheet is accepted at the library's limit
 pub record Accepted (b : List ℕ) : Type 0 where
@@ -46,7 +46,7 @@ pub record ColumnExceeds (M : Matrix) (w : List ℤ) (A : theory.Matrix) (j : �
   pub beyond : limit < natAbs (A line j)
   pub small : Small w′
 
-abbrev pub ColumnBecame : Matrix → List ℤ → theory.Matrix → ℕ → Written → List ℤ → Type 0
+abbrev pub ColumnBecame : Matrix → List ℤ → theory.Matrix → ℕ → Effect → List ℤ → Type 0
 ColumnBecame M w A j Done w′ = ColumnFilled M w A j w′
 ColumnBecame M w A j TooWide w′ = ColumnExceeds M w A j w′
 

@@ -16,7 +16,7 @@ ghost use Rattle.boundaries.specs.Face.{Accepted, ColumnBecame};
 use crate::face::FACES;
 use crate::face::face_places;
 use crate::face::sign;
-use lines::line::Written;
+use lines::line::Effect;
 use lines::matrix::Matrix;
 
 // The sum of sign t times the entry at places[t] of a line, over t below `faces`.
@@ -36,7 +36,7 @@ fn line_product(w: &[i32], line: usize, width: usize, places: [usize; FACES], fa
 }
 
 // Column j of the product.
-fn multiply_column(s: &[u8], p: usize, q: Matrix, m: Matrix, w: &mut [i32], j: usize) -> Written
+fn multiply_column(s: &[u8], p: usize, q: Matrix, m: Matrix, w: &mut [i32], j: usize) -> Effect
     requires { ⌜ Accepted (now s) × (p < top) ⌝ }
     requires { ⌜ (q .width ≡ count (sectionsOf (now s)) p) × (m .width ≡ count (sectionsOf (now s)) (suc p)) × (m .lines ≡ q .lines) × (j < m .width) ⌝ }
     requires { ⌜ Held (length (now w)) q × (end m ≤ q .at) × Small (now w) ⌝ }
@@ -49,20 +49,20 @@ fn multiply_column(s: &[u8], p: usize, q: Matrix, m: Matrix, w: &mut [i32], j: u
     while i < lines {
         let v = line_product(w, q.line(i), width, places, p + 2);
         if v < -Matrix::ENTRY_LIMIT {
-            return Written::TooWide;
+            return Effect::TooWide;
         }
         if Matrix::ENTRY_LIMIT < v {
-            return Written::TooWide;
+            return Effect::TooWide;
         }
         let at = m.line(i) + j;
         w[at] = v as i32;
         i = i + 1;
     }
-    Written::Done
+    Effect::Done
 }
 
 // Makes of m the product of q and the boundary matrix of dimension p + 1.
-pub fn multiply(s: &[u8], p: usize, q: Matrix, m: Matrix, w: &mut [i32]) -> Written
+pub fn multiply(s: &[u8], p: usize, q: Matrix, m: Matrix, w: &mut [i32]) -> Effect
     requires { ⌜ Accepted (now s) ⌝ }
     requires { ⌜ (q .width ≡ count (sectionsOf (now s)) p) × (m .width ≡ count (sectionsOf (now s)) (suc p)) × (m .lines ≡ q .lines) ⌝ }
     requires { ⌜ Held (length (now w)) q × (end m ≤ q .at) × Small (now w) ⌝ }
@@ -71,10 +71,10 @@ pub fn multiply(s: &[u8], p: usize, q: Matrix, m: Matrix, w: &mut [i32]) -> Writ
     let mut j: usize = 0;
     let columns = m.width;
     while j < columns {
-        let Written::Done = multiply_column(s, p, q, m, w, j) else {
-            return Written::TooWide;
+        let Effect::Done = multiply_column(s, p, q, m, w, j) else {
+            return Effect::TooWide;
         };
         j = j + 1;
     }
-    Written::Done
+    Effect::Done
 }

@@ -13,7 +13,7 @@ use Rattle.matrices.specs.Matrix.{Eq, mul}
 use Rattle.matrices.specs.Matrix as theory
 use Rattle.matrices.specs.Product.{Eq-refl, mul-ext}
 use Rattle.complexes.specs.Complex.{count}
-use Rattle.complexes.specs.Boundary.{rowCells, boundary}
+use Rattle.complexes.specs.Boundary.{countBelow, boundary}
 use Rattle.sheet_format.specs.Check.{sectionsOf}
 use Rattle.reduction_steps.specs.Table.{entry, table, tableWithin}
 use Rattle.reduction_laws.specs.Tables.{entry-table, table-ext, tableWithin-table, tableWithin-false}
@@ -24,9 +24,9 @@ use Rattle.demands.specs.Starts.{second-shaped, entry-drop}
 use Rattle.lines.specs.Slice.{lineAt}
 use Rattle.lines.specs.Matrices.{contents, Holds, Exceeds}
 use Rattle.lines.specs.declared.matrix.Matrix.{Matrix}
-use Rattle.work.specs.Layout.{Laid, linesOf, stateOf}
-use Rattle.work.proofs.Regions.{lines-off, lines-on}
-use Rattle.calls.specs.Slices.{matrixAt, firstWork, secondWork, firstWorkOf, secondWorkOf}
+use Rattle.operations.specs.Laid.{Laid, linesOf, stateOf}
+use Rattle.operations.proofs.Regions.{lines-off, lines-on}
+use Rattle.calls.specs.Slices.{matrixAt, firstLayout, secondLayout, firstLayoutOf, secondLayoutOf}
 use Rattle.calls.proofs.Places.{second-laid, matrix-row-inverse, matrix-row-follower}
 use Rattle.calls.proofs.Filling.{state-is, lines-absent}
 
@@ -42,32 +42,32 @@ later-lines at lines width r w = record {
 }
 
 module _ (b : List ℕ) (p n r : ℕ) (slots : workSlots (sectionsOf b) p ≤ n) (within : r ≤ count (sectionsOf b) p) (w : List ℤ)
-    (shaped : Shaped (firstSizes (sectionsOf b) p) (stateOf (firstWorkOf b p) w)) where
+    (shaped : Shaped (firstSizes (sectionsOf b) p) (stateOf (firstLayoutOf b p) w)) where
   -- Q times the boundary matrix of dimension p + 1
   abbrev pub multiplied : theory.Matrix
-  multiplied = mul (count (sectionsOf b) p) (contents (secondWorkOf b p r .«row_follower») w) (boundary (sectionsOf b) (suc p))
+  multiplied = mul (count (sectionsOf b) p) (contents (secondLayoutOf b p r .«row_follower») w) (boundary (sectionsOf b) (suc p))
 
-  pub laid-second : Laid n (secondWorkOf b p r)
+  pub laid-second : Laid n (secondLayoutOf b p r)
   laid-second =
-      second-laid (count (sectionsOf b) p) (length (rowCells (sectionsOf b) p)) (count (sectionsOf b) (suc p)) slots r within
+      second-laid (count (sectionsOf b) p) (countBelow (sectionsOf b) p) (count (sectionsOf b) (suc p)) slots r within
 
-  Q-is : Eq (count (sectionsOf b) p - r) (count (sectionsOf b) p) (contents (secondWorkOf b p r .«row_follower») w)
-      (entry (drop r (stateOf (firstWorkOf b p) w .columnInverse)))
-  unfolding firstWork secondWork stateOf
+  Q-is : Eq (count (sectionsOf b) p - r) (count (sectionsOf b) p) (contents (secondLayoutOf b p r .«row_follower») w)
+      (entry (drop r (stateOf (firstLayoutOf b p) w .columnInverse)))
+  unfolding firstLayout secondLayout stateOf
   Q-is = later-lines _ (count (sectionsOf b) p) (count (sectionsOf b) p) r w
 
-  G-is : Eq (count (sectionsOf b) p - r) (count (sectionsOf b) p) (contents (secondWorkOf b p r .«row_inverse») w)
-      (entry (drop r (stateOf (firstWorkOf b p) w .columnFollower)))
-  unfolding firstWork secondWork stateOf
+  G-is : Eq (count (sectionsOf b) p - r) (count (sectionsOf b) p) (contents (secondLayoutOf b p r .«row_inverse») w)
+      (entry (drop r (stateOf (firstLayoutOf b p) w .columnFollower)))
+  unfolding firstLayout secondLayout stateOf
   G-is = later-lines _ (count (sectionsOf b) p) (count (sectionsOf b) p) r w
 
-  product-is : table (count (sectionsOf b) p - r) (count (sectionsOf b) (suc p)) multiplied ≡ product (sectionsOf b) p r (stateOf (firstWorkOf b p) w)
+  product-is : table (count (sectionsOf b) p - r) (count (sectionsOf b) (suc p)) multiplied ≡ product (sectionsOf b) p r (stateOf (firstLayoutOf b p) w)
   unfolding product
   product-is = table-ext (mul-ext Q-is (Eq-refl (count (sectionsOf b) p) (count (sectionsOf b) (suc p)) (boundary (sectionsOf b) (suc p))))
 
-  module _ {w′ : List ℤ} (h : Holds (secondWorkOf b p r .matrix) w multiplied w′) where
-    pub second-state : stateOf (secondWorkOf b p r) w′ ≡ secondStart (sectionsOf b) p r (stateOf (firstWorkOf b p) w)
-    unfolding stateOf linesOf secondWork secondStart
+  module _ {w′ : List ℤ} (h : Holds (secondLayoutOf b p r .matrix) w multiplied w′) where
+    pub second-state : stateOf (secondLayoutOf b p r) w′ ≡ secondStart (sectionsOf b) p r (stateOf (firstLayoutOf b p) w)
+    unfolding stateOf linesOf secondLayout secondStart
     second-state =
         state-is
         (lines-on h ∙ product-is)
@@ -76,22 +76,22 @@ module _ (b : List ℕ) (p n r : ℕ) (slots : workSlots (sectionsOf b) p ≤ n)
         (lines-absent end (count (sectionsOf b) (suc p)) w′)
         (lines-absent end (count (sectionsOf b) (suc p)) w′)
       where
-        later : Shaped (secondSizes (sectionsOf b) p r) (secondStart (sectionsOf b) p r (stateOf (firstWorkOf b p) w))
-        later = second-shaped (sectionsOf b) p r (stateOf (firstWorkOf b p) w) shaped
+        later : Shaped (secondSizes (sectionsOf b) p r) (secondStart (sectionsOf b) p r (stateOf (firstLayoutOf b p) w))
+        later = second-shaped (sectionsOf b) p r (stateOf (firstLayoutOf b p) w) shaped
 
         end : ℕ
-        end = secondWorkOf b p r .«column_follower» .at
+        end = secondLayoutOf b p r .«column_follower» .at
 
-    pub product-narrow : tableWithin entryLimit (product (sectionsOf b) p r (stateOf (firstWorkOf b p) w)) ≡ true
-    unfolding secondWork
+    pub product-narrow : tableWithin entryLimit (product (sectionsOf b) p r (stateOf (firstLayoutOf b p) w)) ≡ true
+    unfolding secondLayout
     product-narrow =
         rw (← product-is)
         (tableWithin-table entryLimit (count (sectionsOf b) p - r) (count (sectionsOf b) (suc p)) multiplied .1
         (λ i j s t. subst (λ (x : ℤ). natAbs x ≤ entryLimit) (h .on .at i j s t) (h .small .bound (lineAt 0 (count (sectionsOf b) (suc p)) i + j))))
 
-  pub product-beyond : {w′ : List ℤ} → Exceeds (secondWorkOf b p r .matrix) w multiplied w′
-      → tableWithin entryLimit (product (sectionsOf b) p r (stateOf (firstWorkOf b p) w)) ≡ false
-  unfolding secondWork
+  pub product-beyond : {w′ : List ℤ} → Exceeds (secondLayoutOf b p r .matrix) w multiplied w′
+      → tableWithin entryLimit (product (sectionsOf b) p r (stateOf (firstLayoutOf b p) w)) ≡ false
+  unfolding secondLayout
   product-beyond h =
       rw (← product-is)
       (tableWithin-false entryLimit (table (count (sectionsOf b) p - r) (count (sectionsOf b) (suc p)) multiplied) (h .line) (h .place)

@@ -17,7 +17,7 @@ use Rattle.refusal.specs.declared.Refusal.the-variants as refusal
 use Rattle.writers.specs.Written.{WroteCoordinates}
 use Rattle.writers.specs.declared.reduced.Counts.{Counts}
 use Rattle.writers.specs.declared.reduced.Reduced.{Reduced}
-use Rattle.work.specs.Layout.{stateOf}
+use Rattle.operations.specs.Laid.{stateOf}
 use Rattle.calls.specs.Answer.{CallAnswers}
 use Rattle.calls.specs.Slices.{ReducedTwice, TwiceReduced}
 use Rattle.calls.specs.declared.answer.Answer.the-variants.{Done, Refused}
@@ -66,6 +66,6 @@ module _ (limit : ℕ) (b : List ℕ) (p : ℕ) (z coordinates work : List ℤ) 
       coordinates-done complex {x} {w} h k e =
           is-done before-reductions (reductionsOf b p) numbers coordinates work (chain-next ∙ chain) (h .is) (k .free) (k .torsion)
           (k .is
-          ∙ ap (λ (cells : ℕ). written (coordinateList cells (x .work .matrix .lines) (stateOf (x .work) w) z) coordinates)
+          ∙ ap (λ (cells : ℕ). written (coordinateList cells (x .layout .matrix .lines) (stateOf (x .layout) w) z) coordinates)
           (follower-width complex (passed .work-slots) h))
           (e ∙ ap (λ (m : ℕ). replicate m (pos 0)) (h .kept .same-length))

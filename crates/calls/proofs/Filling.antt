@@ -8,7 +8,7 @@ use lib.ListN.{length, getD, replicate, length-replicate}
 use Rattle.matrices.specs.Matrix.{Eq, identity, null}
 use Rattle.matrices.specs.Matrix as theory
 use Rattle.complexes.specs.Complex.{count}
-use Rattle.complexes.specs.Boundary.{rowCells, boundary}
+use Rattle.complexes.specs.Boundary.{countBelow, boundary}
 use Rattle.sheet_format.specs.Check.{sectionsOf}
 use Rattle.reduction_steps.specs.Table.{Table}
 use Rattle.reduction_steps.specs.State.{State}
@@ -18,10 +18,10 @@ use Rattle.reports.specs.Call.{workSlots}
 use Rattle.lines.specs.Slice.{lineAt, Small}
 use Rattle.lines.specs.Matrices.{contents, Held, Holds}
 use Rattle.lines.specs.declared.matrix.Matrix.{Matrix}
-use Rattle.work.specs.Layout.{Laid, linesOf, stateOf}
-use Rattle.work.specs.declared.operations.Work.{Work}
-use Rattle.work.proofs.Regions.{disjoint-sym, contents-off, lines-off, lines-on}
-use Rattle.calls.specs.Slices.{firstWork, firstWorkOf, Filled, matrixAt}
+use Rattle.operations.specs.Laid.{Laid, linesOf, stateOf}
+use Rattle.operations.specs.declared.layout.Layout.{Layout}
+use Rattle.operations.proofs.Regions.{disjoint-sym, contents-off, lines-off, lines-on}
+use Rattle.calls.specs.Slices.{firstLayout, firstLayoutOf, Filled, matrixAt}
 use Rattle.calls.proofs.Places.{first-laid, held-column-follower, held-column-inverse, matrix-column-follower, matrix-column-inverse, column-follower-inverse}
 
 -- ---- a slice of zeros
@@ -62,38 +62,38 @@ CanFill M w = Held (length w) M × Small w × (M .lines ≡ M .width) × Eq (M .
 
 module _ (b : List ℕ) (p n : ℕ) (slots : workSlots (sectionsOf b) p ≤ n) where
   -- the slice of zeros, and what is written in it by one call after another
-  pub record Written (W : Work) (w₁ w₂ w₃ : List ℤ) : Type 0 where
+  pub record Written (W : Layout) (w₁ w₂ w₃ : List ℤ) : Type 0 where
     pub matrix : Holds (W .matrix) (replicate n (pos 0)) (boundary (sectionsOf b) p) w₁
     pub follower : Holds (W .«column_follower») w₁ identity w₂
     pub inverse : Holds (W .«column_inverse») w₂ identity w₃
 
-  first-laid-of : Laid n (firstWorkOf b p)
-  first-laid-of = first-laid (count (sectionsOf b) p) (length (rowCells (sectionsOf b) p)) (count (sectionsOf b) (suc p)) slots
+  first-laid-of : Laid n (firstLayoutOf b p)
+  first-laid-of = first-laid (count (sectionsOf b) p) (countBelow (sectionsOf b) p) (count (sectionsOf b) (suc p)) slots
 
-  first-state : {w₁ w₂ w₃ : List ℤ} → Written (firstWorkOf b p) w₁ w₂ w₃ → stateOf (firstWorkOf b p) w₃ ≡ firstStart (sectionsOf b) p
-  unfolding stateOf firstStart firstWork
+  first-state : {w₁ w₂ w₃ : List ℤ} → Written (firstLayoutOf b p) w₁ w₂ w₃ → stateOf (firstLayoutOf b p) w₃ ≡ firstStart (sectionsOf b) p
+  unfolding stateOf firstStart firstLayout
   first-state {w₃} h =
       state-is
       (lines-off (disjoint-sym (matrix-column-inverse first-laid-of)) (h .inverse) ∙ lines-off (disjoint-sym (matrix-column-follower first-laid-of)) (h .follower) ∙ lines-on (h .matrix))
-      (lines-absent room (length (rowCells (sectionsOf b) p)) w₃)
-      (lines-absent room (length (rowCells (sectionsOf b) p)) w₃)
+      (lines-absent room (countBelow (sectionsOf b) p) w₃)
+      (lines-absent room (countBelow (sectionsOf b) p) w₃)
       (lines-off (disjoint-sym (column-follower-inverse first-laid-of)) (h .inverse) ∙ lines-on (h .follower))
       (lines-on (h .inverse))
     where
       room : ℕ
-      room = count (sectionsOf b) p * max (length (rowCells (sectionsOf b) p)) (count (sectionsOf b) (suc p))
+      room = count (sectionsOf b) p * max (countBelow (sectionsOf b) p) (count (sectionsOf b) (suc p))
 
-  module _ (W : Work) (is : W ≡ firstWorkOf b p) where
+  module _ (W : Layout) (is : W ≡ firstLayoutOf b p) where
     pub laid : Laid n W
     laid = rw is first-laid-of
 
     -- the matrix has the rows and columns of the boundary matrix
-    pub matrix-rows : W .matrix .lines ≡ length (rowCells (sectionsOf b) p)
-    unfolding firstWork
+    pub matrix-rows : W .matrix .lines ≡ countBelow (sectionsOf b) p
+    unfolding firstLayout
     matrix-rows = rw is refl
 
     pub matrix-columns : W .matrix .width ≡ count (sectionsOf b) p
-    unfolding firstWork
+    unfolding firstLayout
     matrix-columns = rw is refl
 
     pub filled : {w₁ w₂ w₃ : List ℤ} → Written W w₁ w₂ w₃ → Filled b p n w₃
@@ -106,7 +106,7 @@ module _ (b : List ℕ) (p n : ℕ) (slots : workSlots (sectionsOf b) p ≤ n) w
     }
 
     pub follower-fills : {w : List ℤ} {A : theory.Matrix} → Holds (W .matrix) (replicate n (pos 0)) A w → CanFill (W .«column_follower») w
-    unfolding firstWork
+    unfolding firstLayout
     follower-fills {w} h = (
       rw (h .same-length, length-replicate) (held-column-follower laid),
       h .small,
@@ -119,7 +119,7 @@ module _ (b : List ℕ) (p n : ℕ) (slots : workSlots (sectionsOf b) p ≤ n) w
 
     pub inverse-fills : {w w′ : List ℤ} {A B : theory.Matrix} → Holds (W .matrix) (replicate n (pos 0)) A w → Holds (W .«column_follower») w B w′
         → CanFill (W .«column_inverse») w′
-    unfolding firstWork
+    unfolding firstLayout
     inverse-fills {w} {w′} h k = (
       rw (k .same-length, h .same-length, length-replicate) (held-column-inverse laid),
       k .small,

@@ -11,7 +11,7 @@ use lib.ListN.{length, replicate, length-replicate}
 use Rattle.matrices.specs.Matrix.{mul}
 use Rattle.matrices.specs.Matrix as theory
 use Rattle.complexes.specs.Complex.{Complex, count}
-use Rattle.complexes.specs.Boundary.{rowCells, boundary}
+use Rattle.complexes.specs.Boundary.{countBelow, boundary}
 use Rattle.sheet_format.specs.Layout.{top}
 use Rattle.sheet_format.specs.Check.{sectionsOf}
 use Rattle.reduction_steps.specs.Table.{tableWithin}
@@ -27,17 +27,17 @@ use Rattle.reports.specs.Call.{workSlots, entryLimit, libraryLimit, reductionsO
 use Rattle.demands.specs.TwoReductions.{first-reduced, reductions-right}
 use Rattle.lines.specs.Matrices.{contents, Held, Holds, Exceeds, Became}
 use Rattle.lines.specs.declared.matrix.Matrix.{Matrix}
-use Rattle.lines.specs.declared.line.Written.{Written}
-use Rattle.lines.specs.declared.line.Written.the-variants as written
+use Rattle.lines.specs.declared.line.Effect.{Effect}
+use Rattle.lines.specs.declared.line.Effect.the-variants as written
 use Rattle.refusal.specs.declared.Refusal.{Refusal}
 use Rattle.refusal.specs.declared.Refusal.the-variants as refusal
-use Rattle.work.specs.Layout.{Laid, stateOf}
-use Rattle.work.specs.declared.operations.Work.{Work}
-use Rattle.reducer.specs.Answer.{Cleared, Kept, Reduces, ReductionDone, ReductionRefused, reductionOf}
+use Rattle.operations.specs.Laid.{Laid, stateOf}
+use Rattle.operations.specs.declared.layout.Layout.{Layout}
+use Rattle.reducer.specs.Answer.{Cleared, StillSmall, Reduces, ReductionDone, ReductionRefused, reductionOf}
 use Rattle.reducer.specs.declared.reduction.Reduction.{Reduction}
 use Rattle.reducer.specs.declared.reduction.Reduction.the-variants as reduction
 use Rattle.writers.specs.declared.reduced.Reduced.{Reduced}
-use Rattle.calls.specs.Slices.{firstWork, secondWork, firstWorkOf, secondWorkOf, Filled, TwiceReduced, ReducedTwice}
+use Rattle.calls.specs.Slices.{firstLayout, secondLayout, firstLayoutOf, secondLayoutOf, Filled, TwiceReduced, ReducedTwice}
 use Rattle.calls.specs.declared.reductions.Reductions.{Reductions}
 use Rattle.calls.specs.declared.reductions.Reductions.the-variants.{Done, Refused}
 use Rattle.calls.proofs.Places.{held-row-follower}
@@ -52,7 +52,7 @@ cleared-length {n} h = ap length (h .zeros) ∙ length-replicate n (pos 0)
 
 -- ---- the case that a call answered
 
-module _ (W : Work) {y : Machine} {n : ℕ} {w : List ℤ} (x : Reduction) where
+module _ (W : Layout) {y : Machine} {n : ℕ} {w : List ℤ} (x : Reduction) where
   pub reduces-done : {r : ℕ} → x ≡ reduction.Done r → Reduces W y n x w → ReductionDone W y n r w
   reduces-done e h = subst (λ (z : Reduction). Reduces W y n z w) e h
 
@@ -66,34 +66,34 @@ module _ (b : List ℕ) (p : ℕ) (y : reports.Reductions) {n : ℕ} {w : List �
   pub twice-refused : {z : Refusal} → x ≡ Refused z → TwiceReduced b p y n x w → (y ≡ reports.tooWide) × Cleared n z w
   twice-refused e h = subst (λ (z : Reductions). TwiceReduced b p y n z w) e h
 
-module _ {M : Matrix} {w w′ : List ℤ} {A : theory.Matrix} (x : Written) where
+module _ {M : Matrix} {w w′ : List ℤ} {A : theory.Matrix} (x : Effect) where
   pub became-done : x ≡ written.Done → Became M w A x w′ → Holds M w A w′
-  became-done e h = subst (λ (z : Written). Became M w A z w′) e h
+  became-done e h = subst (λ (z : Effect). Became M w A z w′) e h
 
   pub became-wide : x ≡ written.TooWide → Became M w A x w′ → Exceeds M w A w′
-  became-wide e h = subst (λ (z : Written). Became M w A z w′) e h
+  became-wide e h = subst (λ (z : Effect). Became M w A z w′) e h
 
 module _ (b : List ℕ) (p n : ℕ) (complex : Complex top libraryLimit (sectionsOf b)) (slots : workSlots (sectionsOf b) p ≤ n) where
   -- the first reduction is done with rank r, and the slice holds the state that it leaves
   pub record FirstDone (r : ℕ) (w : List ℤ) : Type 0 where
-    pub outcome : reduce entryLimit (firstSizes (sectionsOf b) p) release1 (firstStart (sectionsOf b) p) ≡ done r (stateOf (firstWorkOf b p) w)
+    pub outcome : reduce entryLimit (firstSizes (sectionsOf b) p) release1 (firstStart (sectionsOf b) p) ≡ done r (stateOf (firstLayoutOf b p) w)
     pub rank-within : r ≤ count (sectionsOf b) p
-    pub shaped : Shaped (firstSizes (sectionsOf b) p) (stateOf (firstWorkOf b p) w)
-    pub kept : Kept n w
+    pub shaped : Shaped (firstSizes (sectionsOf b) p) (stateOf (firstLayoutOf b p) w)
+    pub kept : StillSmall n w
 
   -- the product lies within the limit, and the slice holds the start of the second reduction
   pub record SecondStarted (r : ℕ) (w w′ : List ℤ) : Type 0 where
     pub first : FirstDone r w
-    pub state : stateOf (secondWorkOf b p r) w′ ≡ secondStart (sectionsOf b) p r (stateOf (firstWorkOf b p) w)
-    pub narrow : tableWithin entryLimit (product (sectionsOf b) p r (stateOf (firstWorkOf b p) w)) ≡ true
-    pub kept : Kept n w′
+    pub state : stateOf (secondLayoutOf b p r) w′ ≡ secondStart (sectionsOf b) p r (stateOf (firstLayoutOf b p) w)
+    pub narrow : tableWithin entryLimit (product (sectionsOf b) p r (stateOf (firstLayoutOf b p) w)) ≡ true
+    pub kept : StillSmall n w′
 
   -- ---- the first reduction
 
-  module _ (W : Work) (is : W ≡ firstWorkOf b p) {w : List ℤ} (f : Filled b p n w) where
+  module _ (W : Layout) (is : W ≡ firstLayoutOf b p) {w : List ℤ} (f : Filled b p n w) where
     -- it starts as the definition's
     starts : reductionOf W w ≡ reduce entryLimit (firstSizes (sectionsOf b) p) release1 (firstStart (sectionsOf b) p)
-    unfolding firstWork
+    unfolding firstLayout
     starts = rw is (ap (reduce entryLimit (firstSizes (sectionsOf b) p) release1) (f .state))
 
     pub first-refused : {x : Refusal} {w′ : List ℤ} → ReductionRefused (reductionOf W w) (length w) x w′
@@ -107,30 +107,30 @@ module _ (b : List ℕ) (p n : ℕ) (complex : Complex top libraryLimit (section
     pub first-done : {r : ℕ} {w′ : List ℤ} → ReductionDone W (reductionOf W w) (length w) r w′ → FirstDone r w′
     first-done {r} {w′} h = record {
       outcome = outcome;
-      rank-within = le-trans (right .bound) (min-le-right (length (rowCells (sectionsOf b) p)) (count (sectionsOf b) p));
+      rank-within = le-trans (right .bound) (min-le-right (countBelow (sectionsOf b) p) (count (sectionsOf b) p));
       shaped = right .shaped;
       kept = record { same-length = h .kept .same-length ∙ f .kept .same-length; small = h .kept .small };
     }
       where
-        outcome : reduce entryLimit (firstSizes (sectionsOf b) p) release1 (firstStart (sectionsOf b) p) ≡ done r (stateOf (firstWorkOf b p) w′)
-        outcome = sym starts ∙ h .outcome ∙ ap (λ (X : Work). done r (stateOf X w′)) is
+        outcome : reduce entryLimit (firstSizes (sectionsOf b) p) release1 (firstStart (sectionsOf b) p) ≡ done r (stateOf (firstLayoutOf b p) w′)
+        outcome = sym starts ∙ h .outcome ∙ ap (λ (X : Layout). done r (stateOf X w′)) is
 
-        right : machine.Reduced entryLimit (firstSizes (sectionsOf b) p) (firstStart (sectionsOf b) p) r (stateOf (firstWorkOf b p) w′)
-        right = first-reduced complex release1 release1-is-rule entryLimit p (omega arith) r (stateOf (firstWorkOf b p) w′) outcome
+        right : machine.Reduced entryLimit (firstSizes (sectionsOf b) p) (firstStart (sectionsOf b) p) r (stateOf (firstLayoutOf b p) w′)
+        right = first-reduced complex release1 release1-is-rule entryLimit p (omega arith) r (stateOf (firstLayoutOf b p) w′) outcome
 
   -- ---- the product
 
-  module _ {r : ℕ} {w : List ℤ} (f : FirstDone r w) (W : Work) (is : W ≡ secondWorkOf b p r) where
+  module _ {r : ℕ} {w : List ℤ} (f : FirstDone r w) (W : Layout) (is : W ≡ secondLayoutOf b p r) where
     pub laid-then : Laid n W
     laid-then = rw is (laid-second b p n r slots (f .rank-within) w (f .shaped))
 
     -- what `multiply` asks of Q and of the matrix
     pub Q-width : W .«row_follower» .width ≡ count (sectionsOf b) p
-    unfolding secondWork
+    unfolding secondLayout
     Q-width = rw is refl
 
     pub product-width : W .matrix .width ≡ count (sectionsOf b) (suc p)
-    unfolding secondWork
+    unfolding secondLayout
     product-width = rw is refl
 
     pub Q-held : Held (length w) (W .«row_follower»)
@@ -141,13 +141,13 @@ module _ (b : List ℕ) (p n : ℕ) (complex : Complex top libraryLimit (section
     asked = mul (W .«row_follower» .width) (contents (W .«row_follower») w) (boundary (sectionsOf b) (suc p))
 
     pub product-refused : {w′ : List ℤ} → Exceeds (W .matrix) w asked w′ → reductionsOf b p ≡ reports.tooWide
-    unfolding reductionsOf secondWork
+    unfolding reductionsOf secondLayout
     product-refused {w′} h =
-        product-wide release1 entryLimit (sectionsOf b) p r (stateOf (firstWorkOf b p) w) (f .outcome)
+        product-wide release1 entryLimit (sectionsOf b) p r (stateOf (firstLayoutOf b p) w) (f .outcome)
         (product-beyond b p n r slots (f .rank-within) w (f .shaped) (rw is at h))
 
     pub second-started : {w′ : List ℤ} → Holds (W .matrix) w asked w′ → SecondStarted r w w′
-    unfolding secondWork
+    unfolding secondLayout
     second-started {w′} h = record {
       first = f;
       state = second-state b p n r slots (f .rank-within) w (f .shaped) (rw is at h);
@@ -157,26 +157,26 @@ module _ (b : List ℕ) (p n : ℕ) (complex : Complex top libraryLimit (section
 
   -- ---- the second reduction
 
-  module _ {r : ℕ} {w w′ : List ℤ} (s : SecondStarted r w w′) (W : Work) (is : W ≡ secondWorkOf b p r) where
-    starts-again : reductionOf W w′ ≡ reduce entryLimit (secondSizes (sectionsOf b) p r) release1 (secondStart (sectionsOf b) p r (stateOf (firstWorkOf b p) w))
-    unfolding secondWork
+  module _ {r : ℕ} {w w′ : List ℤ} (s : SecondStarted r w w′) (W : Layout) (is : W ≡ secondLayoutOf b p r) where
+    starts-again : reductionOf W w′ ≡ reduce entryLimit (secondSizes (sectionsOf b) p r) release1 (secondStart (sectionsOf b) p r (stateOf (firstLayoutOf b p) w))
+    unfolding secondLayout
     starts-again = rw is (ap (reduce entryLimit (secondSizes (sectionsOf b) p r) release1) (s .state))
 
     pub second-refused : {x : Refusal} {w″ : List ℤ} → ReductionRefused (reductionOf W w′) (length w′) x w″
         → TwiceReduced b p (reductionsOf b p) n (Refused refusal.TooWide) w″
     unfolding reductionsOf
     second-refused h = (
-      second-wide release1 entryLimit (sectionsOf b) p r (stateOf (firstWorkOf b p) w) (s .first .outcome) (s .narrow) (sym starts-again ∙ h .outcome),
+      second-wide release1 entryLimit (sectionsOf b) p r (stateOf (firstLayoutOf b p) w) (s .first .outcome) (s .narrow) (sym starts-again ∙ h .outcome),
       cleared (s .kept .same-length) (h .cleared),
     )
 
     pub second-done : {last : ℕ} {w″ : List ℤ} → ReductionDone W (reductionOf W w′) (length w′) last w″
-        → TwiceReduced b p (reductionsOf b p) n (Done (record { work = W; rank = last })) w″
-    unfolding reductionsOf secondWork afterSecond
+        → TwiceReduced b p (reductionsOf b p) n (Done (record { layout = W; rank = last })) w″
+    unfolding reductionsOf secondLayout afterSecond
     second-done {last} {w″} h = record {
       first-rank = r;
       rank-within = s .first .rank-within;
-      work-is = is;
+      layout-is = is;
       is = outcome;
       rank-below = reductions-right complex release1 release1-is-rule entryLimit p (omega arith) (W .matrix .lines) last (stateOf W w″) outcome .rank-bound;
       kept = record { same-length = h .kept .same-length ∙ s .kept .same-length; small = h .kept .small };
@@ -184,6 +184,6 @@ module _ (b : List ℕ) (p n : ℕ) (complex : Complex top libraryLimit (section
       where
         outcome : reductionsOf b p ≡ reports.reduced (W .matrix .lines) last (stateOf W w″)
         outcome =
-            after-second release1 entryLimit (sectionsOf b) p r (stateOf (firstWorkOf b p) w) (s .first .outcome) (s .narrow)
+            after-second release1 entryLimit (sectionsOf b) p r (stateOf (firstLayoutOf b p) w) (s .first .outcome) (s .narrow)
             (done last (stateOf W w″)) (sym starts-again ∙ h .outcome)
-            ∙ ap (λ (k : ℕ). reports.reduced k last (stateOf W w″)) (sym (ap (λ (X : Work). X .matrix .lines) is))
+            ∙ ap (λ (k : ℕ). reports.reduced k last (stateOf W w″)) (sym (ap (λ (X : Layout). X .matrix .lines) is))

@@ -17,7 +17,7 @@ use Rattle.refusal.specs.declared.Refusal.the-variants as refusal
 use Rattle.writers.specs.Written.{WroteReport}
 use Rattle.writers.specs.declared.reduced.Counts.{Counts}
 use Rattle.writers.specs.declared.reduced.Reduced.{Reduced}
-use Rattle.work.specs.Layout.{stateOf}
+use Rattle.operations.specs.Laid.{stateOf}
 use Rattle.calls.specs.Answer.{CallAnswers}
 use Rattle.calls.specs.Slices.{ReducedTwice, TwiceReduced}
 use Rattle.calls.specs.declared.answer.Answer.the-variants.{Done, Refused}
@@ -55,6 +55,6 @@ module _ (limit : ℕ) (b : List ℕ) (p : ℕ) (report work : List ℤ) where
     report-done complex {x} {w} h k e =
         is-done before-report (reductionsOf b p) numbers report work passes (h .is) (k .free) (k .torsion)
         (k .is
-        ∙ ap (λ (cells : ℕ). written (reportList cells (x .work .matrix .lines) (x .rank) (stateOf (x .work) w)) report)
+        ∙ ap (λ (cells : ℕ). written (reportList cells (x .layout .matrix .lines) (x .rank) (stateOf (x .layout) w)) report)
         (inverse-width complex (passed .work-slots) h))
         (e ∙ ap (λ (m : ℕ). replicate m (pos 0)) (h .kept .same-length))

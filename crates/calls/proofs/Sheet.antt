@@ -9,29 +9,29 @@ use native.Mathlib.Numerals.{add-one}
 use native.Mathlib.Omega.{arith}
 use lib.ListN.{length}
 use Rattle.complexes.specs.Complex.{Sections, Complex, count}
-use Rattle.complexes.specs.Boundary.{rowCells}
+use Rattle.complexes.specs.Boundary.{countBelow}
 use Rattle.sheet_format.specs.Layout.{top}
 use Rattle.sheet_format.specs.Sheet.{Bytes}
 use Rattle.sheet_format.specs.Accept.{accepted-complex}
-use Rattle.sheet_format.specs.Check.{countAt, sectionsOf, refusal}
+use Rattle.sheet_format.specs.Check.{countField, sectionsOf, refusal}
 use Rattle.sheet_format.specs.CheckLaws.{Passes, refusal-zero, countExceeds-false}
 use Rattle.sheet_format.specs.SheetLaws.{count-sectionsOf}
 use Rattle.sheet.specs.Read.{ReadsBelow}
 use Rattle.reports.specs.Call.{libraryLimit, workSlots}
 use Rattle.boundaries.specs.Face.{Accepted}
-use Rattle.calls.specs.Slices.{firstWork, secondWork, firstWorkOf, secondWorkOf}
+use Rattle.calls.specs.Slices.{firstLayout, secondLayout, firstLayoutOf, secondLayoutOf}
 
-pub rows-none : (b : List ℕ) (p : ℕ) → p ≡ 0 → length (rowCells (sectionsOf b) p) ≡ 0
-unfolding rowCells
+pub rows-none : (b : List ℕ) (p : ℕ) → p ≡ 0 → countBelow (sectionsOf b) p ≡ 0
+unfolding countBelow
 rows-none b zero e = refl
 rows-none b (suc p) e = absurd (omega arith)
 
-pub rows-section : (K : Sections) (p : ℕ) → 0 < p → length (rowCells K p) ≡ count K (p - 1)
-unfolding rowCells
+pub rows-section : (K : Sections) (p : ℕ) → 0 < p → countBelow K p ≡ count K (p - 1)
+unfolding countBelow
 rows-section K zero h = absurd (omega arith)
 rows-section K (suc p) h = ap (count K) (omega arith)
 
-pub rows-before : (b : List ℕ) (p : ℕ) → p ≢ 0 → length (rowCells (sectionsOf b) p) ≡ countAt b (p - 1)
+pub rows-before : (b : List ℕ) (p : ℕ) → p ≢ 0 → countBelow (sectionsOf b) p ≡ countField b (p - 1)
 rows-before b p d = rows-section (sectionsOf b) p (pos-of-ne-zero d) ∙ count-sectionsOf b (p - 1)
 
 pub accepted-library : {limit : ℕ} {b : List ℕ} → limit ≤ libraryLimit → refusal limit b ≡ 0 → Accepted b
@@ -54,24 +54,24 @@ pub sheet-complex : {b : List ℕ} → Bytes b → Accepted b → Complex top li
 sheet-complex {b} bytes h = accepted-complex libraryLimit b bytes (h .none-applies)
 
 -- the numbers of cells, rows and columns are those of dimension p
-pub record Counted (b : List ℕ) (p cells rows columns : ℕ) : Type 0 where
+pub record ReducedWith (b : List ℕ) (p cells rows columns : ℕ) : Type 0 where
   pub cells-are : cells ≡ count (sectionsOf b) p
-  pub rows-are : rows ≡ length (rowCells (sectionsOf b) p)
+  pub rows-are : rows ≡ countBelow (sectionsOf b) p
   pub columns-are : columns ≡ count (sectionsOf b) (suc p)
 
-pub counted : {b : List ℕ} {p cells rows columns : ℕ} → ReadsBelow 65536 (countAt b p) cells → ReadsBelow 65536 (length (rowCells (sectionsOf b) p)) rows
-    → ReadsBelow 65536 (countAt b (p + 1)) columns → Counted b p cells rows columns
+pub counted : {b : List ℕ} {p cells rows columns : ℕ} → ReadsBelow 65536 (countField b p) cells → ReadsBelow 65536 (countBelow (sectionsOf b) p) rows
+    → ReadsBelow 65536 (countField b (p + 1)) columns → ReducedWith b p cells rows columns
 counted {b} {p} c r d = record {
   cells-are = c .is ∙ sym (count-sectionsOf b p);
   rows-are = r .is;
-  columns-are = d .is ∙ ap (countAt b) (add-one p) ∙ sym (count-sectionsOf b (suc p));
+  columns-are = d .is ∙ ap (countField b) (add-one p) ∙ sym (count-sectionsOf b (suc p));
 }
 
-module _ {b : List ℕ} {p cells rows columns : ℕ} (c : Counted b p cells rows columns) where
-  pub first-of : firstWork cells rows columns ≡ firstWorkOf b p
+module _ {b : List ℕ} {p cells rows columns : ℕ} (c : ReducedWith b p cells rows columns) where
+  pub first-of : firstLayout cells rows columns ≡ firstLayoutOf b p
   first-of = rw (c .cells-are, c .rows-are, c .columns-are)
 
-  pub second-of : (rank : ℕ) → secondWork cells rows columns rank ≡ secondWorkOf b p rank
+  pub second-of : (rank : ℕ) → secondLayout cells rows columns rank ≡ secondLayoutOf b p rank
   second-of rank = rw (c .cells-are, c .rows-are, c .columns-are)
 
   pub slots-of : cells * (2 * cells + max rows columns) ≡ workSlots (sectionsOf b) p

@@ -7,7 +7,7 @@ use native.Mathlib.Omega.{arith}
 use lib.IntN.{ℤ, natAbs}
 use lib.ListN.{length}
 use Rattle.complexes.specs.Complex.{Complex, count}
-use Rattle.complexes.specs.Boundary.{rowCells}
+use Rattle.complexes.specs.Boundary.{countBelow}
 use Rattle.sheet_format.specs.Layout.{top}
 use Rattle.sheet_format.specs.Check.{sectionsOf}
 use Rattle.reduction_steps.specs.Pivot.{release1}
@@ -15,35 +15,35 @@ use Rattle.reduction_steps.specs.PivotLaws.{release1-is-rule}
 use Rattle.reports.specs.Call.{workSlots, reportSlots, entryLimit, coefficientLimit, libraryLimit, reductionsOf}
 use Rattle.demands.specs.TwoReductions.{Right, reductions-right}
 use Rattle.lines.specs.Slice.{at}
-use Rattle.work.specs.Layout.{Laid, stateOf}
+use Rattle.operations.specs.Laid.{Laid, stateOf}
 use Rattle.writers.specs.Written.{Kinds, CanReport, CanCoordinate}
 use Rattle.writers.specs.declared.reduced.Reduced.{Reduced}
-use Rattle.calls.specs.Slices.{secondWork, ReducedTwice}
+use Rattle.calls.specs.Slices.{secondLayout, ReducedTwice}
 use Rattle.calls.proofs.Places.{second-laid}
 
 module _ {b : List ℕ} {p n : ℕ} {x : Reduced} {w : List ℤ} (complex : Complex top libraryLimit (sectionsOf b)) (slots : workSlots (sectionsOf b) p ≤ n)
     (h : ReducedTwice b p (reductionsOf b p) n x w) where
-  laid : Laid (length w) (x .work)
+  laid : Laid (length w) (x .layout)
   laid =
-      rw (h .kept .same-length, h .work-is)
-      (second-laid (count (sectionsOf b) p) (length (rowCells (sectionsOf b) p)) (count (sectionsOf b) (suc p)) slots (h .first-rank) (h .rank-within))
+      rw (h .kept .same-length, h .layout-is)
+      (second-laid (count (sectionsOf b) p) (countBelow (sectionsOf b) p) (count (sectionsOf b) (suc p)) slots (h .first-rank) (h .rank-within))
 
-  right : Right (sectionsOf b) p (x .work .matrix .lines) (x .rank) (stateOf (x .work) w)
+  right : Right (sectionsOf b) p (x .layout .matrix .lines) (x .rank) (stateOf (x .layout) w)
   unfolding reductionsOf
   right =
-      reductions-right complex release1 release1-is-rule entryLimit p (omega arith) (x .work .matrix .lines) (x .rank) (stateOf (x .work) w) (h .is)
+      reductions-right complex release1 release1-is-rule entryLimit p (omega arith) (x .layout .matrix .lines) (x .rank) (stateOf (x .layout) w) (h .is)
 
-  kinds : Kinds (x .work .matrix) w
+  kinds : Kinds (x .layout .matrix) w
   unfolding stateOf
   kinds = record { nonneg = right .reduced .second .nonneg }
 
-  pub inverse-width : x .work .«row_inverse» .width ≡ count (sectionsOf b) p
-  unfolding secondWork
-  inverse-width = rw (h .work-is) refl
+  pub inverse-width : x .layout .«row_inverse» .width ≡ count (sectionsOf b) p
+  unfolding secondLayout
+  inverse-width = rw (h .layout-is) refl
 
-  pub follower-width : x .work .«row_follower» .width ≡ count (sectionsOf b) p
-  unfolding secondWork
-  follower-width = rw (h .work-is) refl
+  pub follower-width : x .layout .«row_follower» .width ≡ count (sectionsOf b) p
+  unfolding secondLayout
+  follower-width = rw (h .layout-is) refl
 
   pub can-report : {m : ℕ} → reportSlots (sectionsOf b) p ≤ m → CanReport x w m
   can-report {m} room = record {

@@ -5,14 +5,14 @@ use Prim.Native.Nat.{ℕ, suc, _+_, _*_, _-_, _≤_, max}
 use lib.ListN.{length}
 use lib.IntN.{ℤ}
 use Rattle.complexes.specs.Complex.{count}
-use Rattle.complexes.specs.Boundary.{rowCells}
+use Rattle.complexes.specs.Boundary.{countBelow}
 use Rattle.sheet_format.specs.Check.{sectionsOf}
 use Rattle.reports.specs.Reductions as reports
 use Rattle.reports.specs.Reductions.{firstStart}
 use Rattle.lines.specs.declared.matrix.Matrix.{Matrix}
-use Rattle.work.specs.Layout.{stateOf}
-use Rattle.work.specs.declared.operations.Work.{Work}
-use Rattle.reducer.specs.Answer.{Cleared, Kept}
+use Rattle.operations.specs.Laid.{stateOf}
+use Rattle.operations.specs.declared.layout.Layout.{Layout}
+use Rattle.reducer.specs.Answer.{Cleared, StillSmall}
 use Rattle.writers.specs.declared.reduced.Reduced.{Reduced}
 use Rattle.calls.specs.declared.reductions.Reductions.{Reductions}
 use Rattle.calls.specs.declared.reductions.Reductions.the-variants.{Done, Refused}
@@ -22,8 +22,8 @@ use Rattle.calls.specs.declared.reductions.Reductions.the-variants.{Done
 abbrev pub matrixAt : ℕ → ℕ → ℕ → Matrix
 matrixAt at lines width = record { at = at; lines = lines; width = width }
 
-unfoldable pub firstWork : ℕ → ℕ → ℕ → Work
-firstWork cells rows columns =
+unfoldable pub firstLayout : ℕ → ℕ → ℕ → Layout
+firstLayout cells rows columns =
     record {
       matrix = matrixAt 0 rows cells;
       «row_inverse» = matrixAt (cells * max rows columns) rows 0;
@@ -32,8 +32,8 @@ firstWork cells rows columns =
       «column_inverse» = matrixAt (cells * max rows columns + cells * cells) cells cells;
     }
 
-unfoldable pub secondWork : ℕ → ℕ → ℕ → ℕ → Work
-secondWork cells rows columns rank =
+unfoldable pub secondLayout : ℕ → ℕ → ℕ → ℕ → Layout
+secondLayout cells rows columns rank =
     record {
       matrix = matrixAt 0 (cells - rank) columns;
       «row_inverse» = matrixAt (cells * max rows columns + rank * cells) (cells - rank) cells;
@@ -43,25 +43,25 @@ secondWork cells rows columns rank =
     }
 
 -- those of dimension p of the sheet b
-abbrev pub firstWorkOf : List ℕ → ℕ → Work
-firstWorkOf b p = firstWork (count (sectionsOf b) p) (length (rowCells (sectionsOf b) p)) (count (sectionsOf b) (suc p))
+abbrev pub firstLayoutOf : List ℕ → ℕ → Layout
+firstLayoutOf b p = firstLayout (count (sectionsOf b) p) (countBelow (sectionsOf b) p) (count (sectionsOf b) (suc p))
 
-abbrev pub secondWorkOf : List ℕ → ℕ → ℕ → Work
-secondWorkOf b p rank = secondWork (count (sectionsOf b) p) (length (rowCells (sectionsOf b) p)) (count (sectionsOf b) (suc p)) rank
+abbrev pub secondLayoutOf : List ℕ → ℕ → ℕ → Layout
+secondLayoutOf b p rank = secondLayout (count (sectionsOf b) p) (countBelow (sectionsOf b) p) (count (sectionsOf b) (suc p)) rank
 
 -- the slice of length n holds the start of the first reduction
 pub record Filled (b : List ℕ) (p n : ℕ) (w′ : List ℤ) : Type 0 where
-  pub state : stateOf (firstWorkOf b p) w′ ≡ firstStart (sectionsOf b) p
-  pub kept : Kept n w′
+  pub state : stateOf (firstLayoutOf b p) w′ ≡ firstStart (sectionsOf b) p
+  pub kept : StillSmall n w′
 
 -- The two reductions came to x, and the slice holds the state that the second leaves; its matrix has a line for each row of Q.
 pub record ReducedTwice (b : List ℕ) (p : ℕ) (y : reports.Reductions) (n : ℕ) (x : Reduced) (w′ : List ℤ) : Type 0 where
   pub first-rank : ℕ
   pub rank-within : first-rank ≤ count (sectionsOf b) p
-  pub work-is : x .work ≡ secondWorkOf b p first-rank
-  pub is : y ≡ reports.reduced (x .work .matrix .lines) (x .rank) (stateOf (x .work) w′)
-  pub rank-below : x .rank ≤ x .work .matrix .lines
-  pub kept : Kept n w′
+  pub layout-is : x .layout ≡ secondLayoutOf b p first-rank
+  pub is : y ≡ reports.reduced (x .layout .matrix .lines) (x .rank) (stateOf (x .layout) w′)
+  pub rank-below : x .rank ≤ x .layout .matrix .lines
+  pub kept : StillSmall n w′
 
 abbrev pub TwiceReduced : List ℕ → ℕ → reports.Reductions → ℕ → Reductions → List ℤ → Type 0
 TwiceReduced b p y n (Done x) w′ = ReducedTwice b p y n x w′

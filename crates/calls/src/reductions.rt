@@ -2,25 +2,25 @@
 ghost use mathlib.Core.Path.{_≡_};
 ghost use Prim.Native.Nat.{_≤_};
 ghost use lib.ListN.{length};
-ghost use Rattle.complexes.specs.Boundary.{rowCells};
+ghost use Rattle.complexes.specs.Boundary.{countBelow};
 ghost use Rattle.sheet.specs.Read.{ReadsBelow};
 ghost use Rattle.sheet_format.specs.Layout.{top};
 ghost use Rattle.sheet_format.specs.Check.{sectionsOf};
 ghost use Rattle.reports.specs.Call.{workSlots, reductionsOf};
 ghost use Rattle.boundaries.specs.Face.{Accepted};
-ghost use Rattle.calls.specs.Slices.{firstWorkOf, Filled, TwiceReduced};
-use crate::slices::first_work;
-use crate::slices::second_work;
+ghost use Rattle.calls.specs.Slices.{firstLayoutOf, Filled, TwiceReduced};
+use crate::slices::first_layout;
+use crate::slices::second_layout;
 use boundaries::fill::fill_boundary;
 use boundaries::fill::fill_identity;
 use boundaries::product::multiply;
-use lines::line::Written;
+use lines::line::Effect;
 use lines::line::clear;
+use operations::layout::Layout;
 use reducer::reduction::Reduction;
 use reducer::reduction::reduce_matrix;
 use refusal::Refusal;
 use sheet::field::count;
-use work::operations::Work;
 use writers::reduced::Reduced;
 
 pub enum Reductions {
@@ -30,24 +30,24 @@ pub enum Reductions {
 
 // The number of rows of the boundary matrix of dimension p.
 pub fn rows_of(s: &[u8], p: usize) -> usize
-    ensures { λ r. ⌜ ReadsBelow 65536 (length (rowCells (sectionsOf (now (s .entry))) p)) r ⌝ }
+    ensures { λ r. ⌜ ReadsBelow 65536 (countBelow (sectionsOf (now (s .entry))) p) r ⌝ }
 {
     if p == 0 { 0 } else { count(s, p - 1) }
 }
 
 // Sets up the first reduction: the boundary matrix of dimension p, V and its inverse.
-fn fill_first(s: &[u8], p: usize, work: Work, w: &mut [i32])
+fn fill_first(s: &[u8], p: usize, layout: Layout, w: &mut [i32])
     requires { ⌜ Accepted (now s) × (p ≤ top) ⌝ }
     requires { ⌜ workSlots (sectionsOf (now s)) p ≤ length (now w) ⌝ }
-    requires { ⌜ work ≡ firstWorkOf (now s) p ⌝ }
+    requires { ⌜ layout ≡ firstLayoutOf (now s) p ⌝ }
     ensures { λ r. ⌜ Filled (now (s .entry)) p (length (now (w .entry))) (now (w .exit)) ⌝ }
 {
     clear(w);
     if 0 < p {
-        fill_boundary(s, p - 1, work.matrix, w);
+        fill_boundary(s, p - 1, layout.matrix, w);
     }
-    fill_identity(work.column_follower, w);
-    fill_identity(work.column_inverse, w);
+    fill_identity(layout.column_follower, w);
+    fill_identity(layout.column_inverse, w);
 }
 
 // Reduces the boundary matrix of dimension p, then Q times the one of p + 1.
@@ -59,13 +59,13 @@ pub fn reduce_twice(s: &[u8], p: usize, w: &mut [i32]) -> Reductions
     let cells = count(s, p);
     let rows = rows_of(s, p);
     let columns = count(s, p + 1);
-    let first = first_work(cells, rows, columns);
+    let first = first_layout(cells, rows, columns);
     fill_first(s, p, first, w);
     let Reduction::Done(rank) = reduce_matrix(first, w) else {
         return Reductions::Refused(Refusal::TooWide);
     };
-    let second = second_work(cells, rows, columns, rank);
-    let Written::Done = multiply(s, p, second.row_follower, second.matrix, w) else {
+    let second = second_layout(cells, rows, columns, rank);
+    let Effect::Done = multiply(s, p, second.row_follower, second.matrix, w) else {
         clear(w);
         return Reductions::Refused(Refusal::TooWide);
     };
@@ -73,7 +73,7 @@ pub fn reduce_twice(s: &[u8], p: usize, w: &mut [i32]) -> Reductions
         return Reductions::Refused(Refusal::TooWide);
     };
     Reductions::Done(Reduced {
-        work: second,
+        layout: second,
         rank: last,
     })
 }

@@ -3,9 +3,9 @@
 // second reduction takes the lines from the rank on.
 ghost use mathlib.Core.Path.{_≡_};
 ghost use Prim.Native.Nat.{_+_, _*_, _-_, _<_, _≤_, max};
-ghost use Rattle.calls.specs.Slices.{firstWork, secondWork};
+ghost use Rattle.calls.specs.Slices.{firstLayout, secondLayout};
 use lines::matrix::Matrix;
-use work::operations::Work;
+use operations::layout::Layout;
 
 pub fn larger(a: usize, b: usize) -> usize
     ensures { λ r. ⌜ r ≡ max a b ⌝ }
@@ -21,12 +21,12 @@ pub fn work_slots(cells: usize, rows: usize, columns: usize) -> usize
     cells * (2 * cells + larger(rows, columns))
 }
 
-pub fn first_work(cells: usize, rows: usize, columns: usize) -> Work
+pub fn first_layout(cells: usize, rows: usize, columns: usize) -> Layout
     requires { ⌜ (cells < 65536) × (rows < 65536) × (columns < 65536) ⌝ }
-    ensures { λ r. ⌜ r ≡ firstWork cells rows columns ⌝ }
+    ensures { λ r. ⌜ r ≡ firstLayout cells rows columns ⌝ }
 {
     let room = cells * larger(rows, columns);
-    Work {
+    Layout {
         matrix: Matrix {
             at: 0,
             lines: rows,
@@ -55,14 +55,14 @@ pub fn first_work(cells: usize, rows: usize, columns: usize) -> Work
     }
 }
 
-pub fn second_work(cells: usize, rows: usize, columns: usize, rank: usize) -> Work
+pub fn second_layout(cells: usize, rows: usize, columns: usize, rank: usize) -> Layout
     requires { ⌜ (cells < 65536) × (rows < 65536) × (columns < 65536) × (rank ≤ cells) ⌝ }
-    ensures { λ r. ⌜ r ≡ secondWork cells rows columns rank ⌝ }
+    ensures { λ r. ⌜ r ≡ secondLayout cells rows columns rank ⌝ }
 {
     let room = cells * larger(rows, columns);
     let end = room + 2 * (cells * cells);
     let kept = cells - rank;
-    Work {
+    Layout {
         matrix: Matrix {
             at: 0,
             lines: kept,

@@ -4,7 +4,7 @@ use mathlib.Core.Path.{_≡_, sym, ap, _∙_}
 use mathlib.Core.Logic.{_≢_}
 use mathlib.Core.Bool.{true, cond}
 use mathlib.Core.List.{[]}
-use Prim.Native.Nat.{ℕ, suc, _<_, _≤_}
+use Prim.Native.Nat.{ℕ, zero, suc, _<_, _≤_}
 use native.Mathlib.Omega.{arith}
 use native.Mathlib.Decide.{decLt}
 use lib.ListN.{length, getD, List·getD-eq-default}
@@ -17,7 +17,7 @@ use Rattle.complexes.specs.Cell.{Cell, without, same, rises, Listed}
 use Rattle.complexes.specs.CellLaws.{same-refl, ne-same}
 use Rattle.complexes.specs.OrderLaws.{ordered-unique}
 use Rattle.complexes.specs.Complex.{Sections, section, count, cell, Complex}
-use Rattle.complexes.specs.Boundary.{sign, coefficient, rowCells, boundary}
+use Rattle.complexes.specs.Boundary.{sign, coefficient, countBelow, boundary}
 use Rattle.complexes.specs.CoefficientLaws.{coefficient-face, coefficient-other, coefficient-small, faces-cancel}
 
 module _ {top limit : ℕ} {K : Sections} (complex : Complex top limit K) where
@@ -30,7 +30,7 @@ module _ {top limit : ℕ} {K : Sections} (complex : Complex top limit K) where
   -- at the row of the face without vertex i, the column of a cell has sign i
   pub entry-face : (p j i r : ℕ) → j < count K (suc p) → i < suc (suc p) → cell K p r ≡ without i (cell K (suc p) j)
       → boundary K (suc p) r j ≡ sign i
-  unfolding boundary rowCells
+  unfolding boundary
   entry-face p j i r a b e =
       rw e (coefficient-face c i (complex .rising (suc p) j a) (omega (arith, complex .sized (suc p) j a)))
     where
@@ -40,18 +40,19 @@ module _ {top limit : ℕ} {K : Sections} (complex : Complex top limit K) where
   -- at the row of a cell that is no face of it, it has zero
   pub entry-other : (p j r : ℕ) → j < count K (suc p) → ((i : ℕ) → i < suc (suc p) → without i (cell K (suc p) j) ≢ cell K p r)
       → boundary K (suc p) r j ≡ pos 0
-  unfolding boundary rowCells
+  unfolding boundary
   entry-other p j r a h =
       coefficient-other (cell K p r) (cell K (suc p) j) (λ i l. h i (rw (← complex .sized (suc p) j a) l))
 
   -- every entry is 1, -1 or 0
   pub boundary-small : (p r j : ℕ) → natAbs (boundary K p r j) ≤ 1
   unfolding boundary rises
-  boundary-small p r j = coefficient-small (getD (rowCells K p) r []) (cell K p j) (rising (decLt j (count K p)))
+  boundary-small zero r j = omega arith
+  boundary-small (suc p) r j = coefficient-small (cell K p r) (cell K (suc p) j) (rising (decLt j (count K (suc p))))
     where
-      rising : Dec (j < count K p) → rises (cell K p j) ≡ true
-      rising (yes l) = complex .rising p j l
-      rising (no l) = rw (List·getD-eq-default (section K p) [] {n = j} (omega arith))
+      rising : Dec (j < count K (suc p)) → rises (cell K (suc p) j) ≡ true
+      rising (yes l) = complex .rising (suc p) j l
+      rising (no l) = rw (List·getD-eq-default (section K (suc p)) [] {n = j} (omega arith))
 
   -- ---- the boundary of a boundary
 
@@ -59,7 +60,7 @@ module _ {top limit : ℕ} {K : Sections} (complex : Complex top limit K) where
   pub sum-faces : (p j : ℕ) (g : Cell → ℤ) → j < count K (suc p)
       → sum (count K p) (λ k. g (cell K p k) *ℤ boundary K (suc p) k j)
       ≡ sum (length (cell K (suc p) j)) (λ t. g (without t (cell K (suc p) j)) *ℤ sign t)
-  unfolding boundary rowCells coefficient
+  unfolding boundary coefficient
   sum-faces p j g a =
       sum-ext n (λ k. g (cell K p k) *ℤ sum m (λ t. at t k)) (λ k. sum m (λ t. g (cell K p k) *ℤ at t k)) distribute
       ∙ sum-swap n m (λ k t. g (cell K p k) *ℤ at t k)
@@ -96,11 +97,9 @@ module _ {top limit : ℕ} {K : Sections} (complex : Complex top limit K) where
           other k b d = rw (ne-same (without t c) (cell K p k) (differs k b d)) (mul-zero (g (cell K p k)))
 
   pub boundary-boundary : (p : ℕ)
-      → Eq (length (rowCells K p)) (count K (suc p)) (mul (count K p) (boundary K p) (boundary K (suc p))) null
-  unfolding mul null boundary
-  boundary-boundary p = record {
-    at = λ i j a b. sum-faces p j (λ c. coefficient (row i) c) b ∙ faces-cancel (row i) (cell K (suc p) j);
+      → Eq (countBelow K p) (count K (suc p)) (mul (count K p) (boundary K p) (boundary K (suc p))) null
+  unfolding mul null boundary countBelow
+  boundary-boundary zero = record { at = λ i j a b. absurd (omega arith) }
+  boundary-boundary (suc p) = record {
+    at = λ i j a b. sum-faces (suc p) j (λ c. coefficient (cell K p i) c) b ∙ faces-cancel (cell K p i) (cell K (suc (suc p)) j);
   }
-    where
-      row : ℕ → Cell
-      row i = getD (rowCells K p) i []

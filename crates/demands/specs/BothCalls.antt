@@ -16,7 +16,7 @@ use Rattle.reports.specs.Report.{reportList, coordinateList}
 use Rattle.reports.specs.ReportLaws.{report-fits, coordinates-fit}
 use Rattle.reports.specs.Call.{Called, done, refused, written, orElse, refusalBefore, chainRefusal, reportSlots, coordinateSlots, reductionsOf, reportCall, coordinateCall}
 use Rattle.reports.specs.RefusalLaws.{orElse-zero, orElse-le, refusalBefore-le, chainRefusal-le, refusalBefore-zero}
-use Rattle.reports.specs.CallLaws.{Counted, call-done, call-output, told-earlier}
+use Rattle.reports.specs.CallLaws.{ReducedWith, call-done, call-output, told-earlier}
 use Rattle.demands.specs.Written.{chainOf, cells, IsCycle}
 use Rattle.demands.specs.Claims.{IsDone, GoesWide}
 use Rattle.demands.specs.Slices.{LeftAlone, Filled}
@@ -41,7 +41,7 @@ module _ (limit : ℕ) (b : List ℕ) (p : ℕ) (report work : List ℤ) where
   report-complex : Bytes b → reportBefore ≡ 0 → Complex top limit (sectionsOf b)
   report-complex bytes = passed-complex limit b p reportSlots (length report) (length work) bytes
 
-  pub report-counted : (f t : ℕ) → reported .answer ≡ done f t → Counted (reductionsOf b p) f t
+  pub report-counted : (f t : ℕ) → reported .answer ≡ done f t → ReducedWith (reductionsOf b p) f t
   unfolding reportCall
   report-counted f t e = call-done reportBefore (reductionsOf b p) reportNumbers report work f t e .counted
 
@@ -49,7 +49,7 @@ module _ (limit : ℕ) (b : List ℕ) (p : ℕ) (report work : List ℤ) where
   unfolding reportCall
   report-answered bytes = answered b p reportBefore (report-complex bytes) reportNumbers report work
 
-  pub report-output : reportBefore ≡ 0 → {f t : ℕ} (c : Counted (reductionsOf b p) f t) → reported .output ≡ written (reportList (cells b p) (c .rows) (c .rank) (c .state)) report
+  pub report-output : reportBefore ≡ 0 → {f t : ℕ} (c : ReducedWith (reductionsOf b p) f t) → reported .output ≡ written (reportList (cells b p) (c .rows) (c .rank) (c .state)) report
   unfolding reportCall
   report-output e c = call-output reportBefore (reductionsOf b p) reportNumbers report work e (c .rows) (c .rank) (c .state) (c .reductions)
 
@@ -76,7 +76,7 @@ module _ (limit : ℕ) (b : List ℕ) (p : ℕ) (report work : List ℤ) where
       d : Answered b p reportBefore f t
       d = report-answered bytes f t e
 
-      c : Counted (reductionsOf b p) f t
+      c : ReducedWith (reductionsOf b p) f t
       c = d .counted
 
       size : length (reportList (cells b p) (c .rows) (c .rank) (c .state)) ≡ 2 + t + (t + f) * cells b p
@@ -116,7 +116,7 @@ module _ (limit : ℕ) (b : List ℕ) (p : ℕ) (z coordinates work : List ℤ) 
   pub chain-cycle : coordinatesBefore ≡ 0 → IsCycle b p (chainOf z)
   chain-cycle e = chain-passes b p z (coordinates-passed .0 e .1) .cycle
 
-  pub coordinates-counted : (f t : ℕ) → called .answer ≡ done f t → Counted (reductionsOf b p) f t
+  pub coordinates-counted : (f t : ℕ) → called .answer ≡ done f t → ReducedWith (reductionsOf b p) f t
   unfolding coordinateCall
   coordinates-counted f t e = call-done coordinatesBefore (reductionsOf b p) coordinatesNumbers coordinates work f t e .counted
 
@@ -124,7 +124,7 @@ module _ (limit : ℕ) (b : List ℕ) (p : ℕ) (z coordinates work : List ℤ) 
   unfolding coordinateCall
   coordinates-answered bytes = answered b p coordinatesBefore (coordinates-complex bytes) coordinatesNumbers coordinates work
 
-  pub coordinates-output : coordinatesBefore ≡ 0 → {f t : ℕ} (c : Counted (reductionsOf b p) f t) → called .output ≡ written (coordinateList (cells b p) (c .rows) (c .state) z) coordinates
+  pub coordinates-output : coordinatesBefore ≡ 0 → {f t : ℕ} (c : ReducedWith (reductionsOf b p) f t) → called .output ≡ written (coordinateList (cells b p) (c .rows) (c .state) z) coordinates
   unfolding coordinateCall
   coordinates-output e c = call-output coordinatesBefore (reductionsOf b p) coordinatesNumbers coordinates work e (c .rows) (c .rank) (c .state) (c .reductions)
 
@@ -151,7 +151,7 @@ module _ (limit : ℕ) (b : List ℕ) (p : ℕ) (z coordinates work : List ℤ) 
       d : Answered b p coordinatesBefore f t
       d = coordinates-answered bytes f t e
 
-      c : Counted (reductionsOf b p) f t
+      c : ReducedWith (reductionsOf b p) f t
       c = d .counted
 
       size : length (coordinateList (cells b p) (c .rows) (c .state) z) ≡ t + f

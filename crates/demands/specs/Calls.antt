@@ -18,7 +18,7 @@ use Rattle.reduction_steps.specs.PivotLaws.{release1-is-rule}
 use Rattle.reports.specs.Reductions.{Reductions, reduced}
 use Rattle.reports.specs.Report.{freeRank, torsionCount}
 use Rattle.reports.specs.Call.{done, refused, entryLimit, written, finished, refusalBefore, reductionsOf}
-use Rattle.reports.specs.CallLaws.{call, Counted, CallRefused, earlier, wide, call-done, call-refused, call-wide, call-answer, call-output, call-work}
+use Rattle.reports.specs.CallLaws.{call, ReducedWith, CallRefused, earlier, wide, call-done, call-refused, call-wide, call-answer, call-output, call-work}
 use Rattle.reports.specs.WrittenLaws.{length-written, getD-written-past}
 use Rattle.reports.specs.RefusalLaws.{refusalBefore-zero}
 use Rattle.demands.specs.Claims.{IsDone, GoesWide}
@@ -39,7 +39,7 @@ module _ (b : List ℕ) (p before : ℕ) where
   -- the answer done with f and t: two reductions that are right
   pub record Answered (f t : ℕ) : Type 0 where
     pub passes : before ≡ 0
-    pub counted : Counted (reductionsOf b p) f t
+    pub counted : ReducedWith (reductionsOf b p) f t
     pub right : Right (sectionsOf b) p (counted .rows) (counted .rank) (counted .state)
 
   module _ {limit : ℕ} (complex : before ≡ 0 → Complex top limit (sectionsOf b)) (numbers : ℕ → ℕ → State → List ℤ) (output work : List ℤ) where
@@ -81,7 +81,7 @@ left-alone before R numbers output work k h e = go before R h (call-refused befo
     go (suc n) R h (wide z e t) = absurd (omega arith)
 
 -- after done
-pub filled : (before : ℕ) (R : Reductions) (numbers : ℕ → ℕ → State → List ℤ) (output work : List ℤ) → before ≡ 0 → {f t : ℕ} (c : Counted R f t) (many : ℕ)
+pub filled : (before : ℕ) (R : Reductions) (numbers : ℕ → ℕ → State → List ℤ) (output work : List ℤ) → before ≡ 0 → {f t : ℕ} (c : ReducedWith R f t) (many : ℕ)
     → length (numbers (c .rows) (c .rank) (c .state)) ≡ many → many ≤ length output → Filled many output work (call before R numbers output work)
 filled before R numbers output work z c many e h = record {
   size = ap length is ∙ length-written list output (omega arith);

@@ -13,7 +13,7 @@ use lib.ListN.{length, List·getD-eq-default}
 use lib.IntN.{ℤ, pos, natAbs}
 use Rattle.integers.specs.Order.{natAbs-zero}
 use Rattle.matrices.specs.Vector.{apply}
-use Rattle.complexes.specs.Boundary.{rowCells, boundary}
+use Rattle.complexes.specs.Boundary.{countBelow, boundary}
 use Rattle.sheet_format.specs.Check.{sectionsOf, some, refuse}
 use Rattle.sheet_format.specs.CheckLaws.{some-false}
 use Rattle.reports.specs.Call.{coefficientLimit, chainRefusal, chainLengthDiffers, coefficientExceeds, boundaryNotZero}
@@ -46,7 +46,7 @@ unfolding boundaryNotZero
 cycle-iff b p z = (forward, backward)
   where
     rows : ℕ
-    rows = length (rowCells (sectionsOf b) p)
+    rows = countBelow (sectionsOf b) p
 
     value : ℕ → ℤ
     value i = apply (cells b p) (boundary (sectionsOf b) p) (chainOf z) i

@@ -9,7 +9,7 @@ use lib.ListN.{length, getD}
 use lib.IntN.{ℤ, pos, natAbs, _-ℤ_}
 use lib.Signed.{_<ℤ_}
 use Rattle.homology_groups.specs.Chain.{Chain, combination}
-use Rattle.homology_groups.specs.Presentation.{IsCounts}
+use Rattle.homology_groups.specs.Presentation.{Splits}
 use Rattle.sheet_format.specs.Check.{refusal, sectionsOf}
 use Rattle.sheet_format.specs.Sheet.{Bytes, IsSheet}
 use Rattle.reduction_steps.specs.Table.{tableWithin}
@@ -44,9 +44,9 @@ pub record ReportIsRight (b : List ℕ) (p : ℕ) (report : List ℤ) (f t : ℕ
   pub free-rank : getD report 0 (pos 0) ≡ pos f
   pub orders-count : getD report 1 (pos 0) ≡ pos t
   pub order-above-one : (j : ℕ) → j < t → pos 1 <ℤ orderIn report t j
-  pub only-rank : (k : ℕ) (g : ℕ → Chain) (o : ℕ → ℤ) (t′ f′ : ℕ) → Presents b p k g o → IsCounts k o t′ f′ → f ≡ f′
-  pub only-count : (k : ℕ) (g : ℕ → Chain) (o : ℕ → ℤ) (t′ f′ : ℕ) → Presents b p k g o → IsCounts k o t′ f′ → t ≡ t′
-  pub only-orders : (k : ℕ) (g : ℕ → Chain) (o : ℕ → ℤ) (t′ f′ : ℕ) → Presents b p k g o → IsCounts k o t′ f′ → (j : ℕ) → j < t → orderIn report t j ≡ o j
+  pub only-rank : (k : ℕ) (g : ℕ → Chain) (o : ℕ → ℤ) (t′ f′ : ℕ) → Presents b p k g o → Splits k o t′ f′ → f ≡ f′
+  pub only-count : (k : ℕ) (g : ℕ → Chain) (o : ℕ → ℤ) (t′ f′ : ℕ) → Presents b p k g o → Splits k o t′ f′ → t ≡ t′
+  pub only-orders : (k : ℕ) (g : ℕ → Chain) (o : ℕ → ℤ) (t′ f′ : ℕ) → Presents b p k g o → Splits k o t′ f′ → (j : ℕ) → j < t → orderIn report t j ≡ o j
 
 abbrev pub Reports : Type 0
 Reports =

@@ -8,16 +8,16 @@ use native.Mathlib.Omega.{arith}
 use lib.ListN.{length}
 use lib.IntN.{ℤ}
 use Rattle.complexes.specs.Complex.{count}
-use Rattle.complexes.specs.Boundary.{rowCells}
+use Rattle.complexes.specs.Boundary.{countBelow}
 use Rattle.sheet_format.specs.Layout.{top}
 use Rattle.sheet_format.specs.Check.{sectionsOf, refusal}
 use Rattle.sheet_format.specs.Sheet.{Bytes}
 use Rattle.reports.specs.Report.{kind, torsionCount, reportList, coordinateList}
-use Rattle.reports.specs.ReportLaws.{length-kept-le}
+use Rattle.reports.specs.ReportLaws.{length-reported-le}
 use Rattle.reports.specs.Reductions.{tooWide}
 use Rattle.reports.specs.Call.{done, refused, hostLimit, reportSlots, coordinateSlots, workSlots, refusalBefore, reductionsOf, reportCall, coordinateCall}
 use Rattle.reports.specs.RefusalLaws.{Passed, refusalBefore-zero}
-use Rattle.reports.specs.CallLaws.{Counted, CallRefused, earlier, wide, call-refused}
+use Rattle.reports.specs.CallLaws.{ReducedWith, CallRefused, earlier, wide, call-refused}
 use Rattle.reports.specs.HostCallLaws.{reportRoom, workRoom, counts-within}
 use Rattle.demands.specs.Written.{cells}
 use Rattle.demands.specs.Numbers.{report-length, coordinates-length}
@@ -30,7 +30,7 @@ reportNumbersOf b p f t = 2 + t + (t + f) * cells b p
 
 -- dimension p of the sheet b, which is accepted, gives f free generators and t orders
 pub record Sized (b : List ℕ) (p f t : ℕ) : Type 0 where
-  pub counted : Counted (reductionsOf b p) f t
+  pub counted : ReducedWith (reductionsOf b p) f t
   pub cells-within : cells b p ≤ hostLimit
   pub total-within : t + f ≤ cells b p
   pub report-size : length (reportList (cells b p) (counted .rows) (counted .rank) (counted .state)) ≡ reportNumbersOf b p f t
@@ -42,7 +42,7 @@ sized b p before f t accepted d =
     let c = d .counted in record {
       counted = c;
       cells-within = counts-within b accepted p;
-      total-within = omega (arith, c .free, c .torsion, length-kept-le (kind (c .state)) (c .rank), d .right .rank-bound, d .right .rows-bound);
+      total-within = omega (arith, c .free, c .torsion, length-reported-le (kind (c .state)) (c .rank), d .right .rank-bound, d .right .rows-bound);
       report-size = cc (report-length (d .right), c .torsion, c .free);
       coordinates-size = λ z. cc (coordinates-length (d .right) z, c .torsion, c .free);
     }
@@ -94,15 +94,15 @@ pub record WentWide (b : List ℕ) (p k : ℕ) : Type 0 where
   pub number-is : k ≡ 13
 
 module _ (b : List ℕ) (accepted : refusal hostLimit b ≡ 0) where
-  rows-within : (p : ℕ) → length (rowCells (sectionsOf b) p) ≤ hostLimit
-  unfolding rowCells
+  rows-within : (p : ℕ) → countBelow (sectionsOf b) p ≤ hostLimit
+  unfolding countBelow
   rows-within zero = omega arith
   rows-within (suc p) = counts-within b accepted p
 
   work-within : (p : ℕ) → workSlots (sectionsOf b) p ≤ workRoom
   work-within p = mul-le-mul (counts-within b accepted p) beside
     where
-      beside : 2 * count (sectionsOf b) p + max (length (rowCells (sectionsOf b) p)) (count (sectionsOf b) (suc p)) ≤ 3 * hostLimit
+      beside : 2 * count (sectionsOf b) p + max (countBelow (sectionsOf b) p) (count (sectionsOf b) (suc p)) ≤ 3 * hostLimit
       beside = omega (arith, counts-within b accepted p, max-le (rows-within p) (counts-within b accepted (suc p)))
 
   module _ (p : ℕ) (dimension : p ≤ top) (report work : List ℤ) (size : length report ≡ reportRoom) (space : length work ≡ workRoom) where

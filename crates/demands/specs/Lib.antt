@@ -4,7 +4,7 @@ pub mod Written
 pub mod Claims
 pub mod Slices
 pub mod ChainChecks
-pub mod KeptPlaces
+pub mod ReportedPlaces
 pub mod Starts
 pub mod TwoReductions
 pub mod Wide

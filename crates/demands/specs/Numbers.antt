@@ -14,7 +14,7 @@ use Rattle.reduction_steps.specs.State.{State}
 use Rattle.reports.specs.Report.{kind, freeRank, torsionCount, reportList, coordinateAt, coordinateList}
 use Rattle.reports.specs.ReportLaws.{length-reportList, getD-report-order, getD-report-generator, length-coordinateList, getD-coordinateList}
 use Rattle.demands.specs.Written.{chainOf}
-use Rattle.demands.specs.KeptPlaces.{Places, kept-places}
+use Rattle.demands.specs.ReportedPlaces.{Places, reported-places}
 use Rattle.demands.specs.TwoReductions.{Right}
 
 module _ {K : Sections} {p s r : ℕ} {x : State} (R : Right K p s r x) where
@@ -33,10 +33,10 @@ module _ {K : Sections} {p s r : ℕ} {x : State} (R : Right K p s r x) where
   ones-bound = ones-rank is-ones (R .rank)
 
   places : Places (kind x) s ones
-  places = kept-places (kind x) (R .reduced .second .nonneg) s ones is-ones
+  places = reported-places (kind x) (R .reduced .second .nonneg) s ones is-ones
 
   order-places : Places (kind x) r ones
-  order-places = kept-places (kind x) (R .reduced .second .nonneg) r ones (record {
+  order-places = reported-places (kind x) (R .reduced .second .nonneg) r ones (record {
     bound = ones-bound;
     ones = is-ones .ones;
     others = λ i a b. is-ones .others i a (omega (arith, R .rank-bound));

@@ -13,7 +13,7 @@ use Rattle.reduction_steps.specs.State.{State}
 use Rattle.reports.specs.Report.{freeRank, torsionCount, reportList, coordinateList}
 use Rattle.reports.specs.Call.{written, chainRefusal, coordinateSlots, reductionsOf, reportCall, coordinateCall}
 use Rattle.reports.specs.RefusalLaws.{orElse-above, refusalBefore-le}
-use Rattle.reports.specs.CallLaws.{Counted, counted-unique}
+use Rattle.reports.specs.CallLaws.{ReducedWith, reducedWith-unique}
 use Rattle.demands.specs.Written.{chainOf, cells, IsCycle, IsBoundary, generatorIn}
 use Rattle.demands.specs.Claims.{Acceptance, Reports, TooWide, ReportDone, CoordinatesDecide, CoordinatesCombine, SameCounts, NotACycle, CoordinatesDone, CoordinatesTooWide, ReportIsRight, Counts, by-report, by-coordinates}
 use Rattle.demands.specs.ChainChecks.{not-a-cycle-iff}
@@ -91,9 +91,9 @@ coordinatesCombine limit b p z coordinates report w₁ w₂ bytes f t f′ t′ 
     go s r x R o₁ o₂ ef et cz = rw (ef, et, o₁, o₂) (coordinates-combine b p R z coordinates report cz)
 
 pub sameCounts : SameCounts
-sameCounts limit b p f t f′ t′ c d = counted-unique (counted f t c) (counted f′ t′ d)
+sameCounts limit b p f t f′ t′ c d = reducedWith-unique (counted f t c) (counted f′ t′ d)
   where
-    counted : (f t : ℕ) → Counts limit b p f t → Counted (reductionsOf b p) f t
+    counted : (f t : ℕ) → Counts limit b p f t → ReducedWith (reductionsOf b p) f t
     counted f t (by-report report work e) = report-counted limit b p report work f t e
     counted f t (by-coordinates z coordinates work e) = coordinates-counted limit b p z coordinates work f t e
 

@@ -15,8 +15,8 @@ use Rattle.smith.specs.Rank.{order-above-one}
 use Rattle.homology_groups.specs.Chain.{Chain, Same}
 use Rattle.homology_groups.specs.Presents.{generator, presentation}
 use Rattle.homology_groups.specs.PresentationLaws.{presentation-ext}
-use Rattle.homology_groups.specs.Counts.{SameReport, report-unique}
-use Rattle.homology_groups.specs.Presentation.{IsCounts}
+use Rattle.homology_groups.specs.Splits.{SameReport, report-unique}
+use Rattle.homology_groups.specs.Presentation.{Splits}
 use Rattle.sheet_format.specs.Check.{sectionsOf}
 use Rattle.reduction_steps.specs.Table.{entry}
 use Rattle.reduction_steps.specs.State.{State}
@@ -76,14 +76,14 @@ module _ (b : List ℕ) (p : ℕ) {s r : ℕ} {x : State} (R : Right (sectionsOf
       presentation-ext written-generator (λ j h. order-is j)
       (subst (λ (k : ℕ). Presents b p k (generator u (transpose (entry (x .rowInverse)))) (λ j. kind x (u + j))) (sym (total R)) (presentation (R .reduced) (is-ones R)))
 
-  counts : IsCounts (t + f) (orderIn out t) t f
+  counts : Splits (t + f) (orderIn out t) t f
   counts = record {
     total = refl;
     torsion = λ j h e. R .rank .nonzero (u + j) (omega (arith, torsion-is R)) (order-is j ∙ e);
     free = λ j h l. written-free j h;
   }
 
-  unique : (k : ℕ) (g : ℕ → Chain) (o : ℕ → ℤ) (t′ f′ : ℕ) → Presents b p k g o → IsCounts k o t′ f′ → SameReport t f (orderIn out t) t′ f′ o
+  unique : (k : ℕ) (g : ℕ → Chain) (o : ℕ → ℤ) (t′ f′ : ℕ) → Presents b p k g o → Splits k o t′ f′ → SameReport t f (orderIn out t) t′ f′ o
   unique k g o t′ f′ P c = report-unique presents counts P c
 
   pub report-is-right : ReportIsRight b p out f t

@@ -13,7 +13,7 @@ use Rattle.lists.specs.Tabulate.{tabulate}
 use Rattle.matrices.specs.Matrix.{mul, identity, null}
 use Rattle.matrices.specs.Product.{identity-at, identity-other}
 use Rattle.complexes.specs.Complex.{Sections, count, Complex}
-use Rattle.complexes.specs.Boundary.{rowCells, boundary}
+use Rattle.complexes.specs.Boundary.{countBelow, boundary}
 use Rattle.complexes.specs.BoundaryLaws.{boundary-small}
 use Rattle.reduction_steps.specs.Table.{Table, entry, table, tableWithin}
 use Rattle.reduction_steps.specs.State.{State, within}
@@ -58,9 +58,9 @@ identity-small i j = go (ℕ-discrete i j)
 pub first-shaped : (K : Sections) (p : ℕ) → Shaped (firstSizes K p) (firstStart K p)
 unfolding firstStart
 first-shaped K p = record {
-  matrix = sym (table-entry (length (rowCells K p)) (count K p) (boundary K p));
-  rowFollower = sym (table-entry (length (rowCells K p)) 0 null);
-  rowInverse = sym (table-entry (length (rowCells K p)) 0 null);
+  matrix = sym (table-entry (countBelow K p) (count K p) (boundary K p));
+  rowFollower = sym (table-entry (countBelow K p) 0 null);
+  rowInverse = sym (table-entry (countBelow K p) 0 null);
   columnFollower = sym (table-entry (count K p) (count K p) identity);
   columnInverse = sym (table-entry (count K p) (count K p) identity);
 }
@@ -68,9 +68,9 @@ first-shaped K p = record {
 pub first-within : {top most : ℕ} {K : Sections} → Complex top most K → (limit p : ℕ) → 1 ≤ limit → within limit (firstStart K p) ≡ true
 unfolding firstStart
 first-within {K} complex limit p h = within-iff limit (firstStart K p) .1 (record {
-  matrix = tableWithin-table limit (length (rowCells K p)) (count K p) (boundary K p) .1 (λ i j a b. le-trans (boundary-small complex p i j) h);
-  rowFollower = absent-within limit (length (rowCells K p));
-  rowInverse = absent-within limit (length (rowCells K p));
+  matrix = tableWithin-table limit (countBelow K p) (count K p) (boundary K p) .1 (λ i j a b. le-trans (boundary-small complex p i j) h);
+  rowFollower = absent-within limit (countBelow K p);
+  rowInverse = absent-within limit (countBelow K p);
   columnFollower = unit;
   columnInverse = unit;
 })

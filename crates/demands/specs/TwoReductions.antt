@@ -11,7 +11,7 @@ use Rattle.smith.specs.CertificateLaws.{smith-ext}
 use Rattle.smith.specs.Rank.{IsRank}
 use Rattle.homology_groups.specs.Reduced.{Reduced, kernelBasis, kernelRows}
 use Rattle.complexes.specs.Complex.{Sections, count, Complex}
-use Rattle.complexes.specs.Boundary.{rowCells, boundary}
+use Rattle.complexes.specs.Boundary.{countBelow, boundary}
 use Rattle.complexes.specs.BoundaryLaws.{boundary-boundary}
 use Rattle.reduction_steps.specs.Table.{Table, entry, table}
 use Rattle.reduction_steps.specs.State.{State, within}
@@ -27,7 +27,7 @@ use Rattle.demands.specs.Starts.{first-shaped, first-within, second-shap
 
 -- s rows of Q, rank r and the state x are right for dimension p of K
 pub record Right (K : Sections) (p s r : ℕ) (x : State) : Type 0 where
-  pub reduced : Reduced (length (rowCells K p)) (count K p) (count K (suc p)) (boundary K p) (boundary K (suc p)) s (kind x) (transpose (entry (x .rowInverse))) (entry (x .rowFollower))
+  pub reduced : Reduced (countBelow K p) (count K p) (count K (suc p)) (boundary K p) (boundary K (suc p)) s (kind x) (transpose (entry (x .rowInverse))) (entry (x .rowFollower))
   pub rank : IsRank (kind x) r
   pub rank-bound : r ≤ s
   pub rows-bound : s ≤ count K p
@@ -68,7 +68,7 @@ module _ {n : ℕ} (r : ℕ) (T : Table) {C : Matrix} where
 
 module _ {top most : ℕ} {K : Sections} (complex : Complex top most K) (rule : Rule) (is : IsRule rule) (limit p : ℕ) (one : 1 ≤ limit) where
   abbrev m : ℕ
-  m = length (rowCells K p)
+  m = countBelow K p
 
   abbrev n : ℕ
   n = count K p

@@ -6,7 +6,7 @@ use lib.Dec.{ltb}
 use lib.ListN.{length, getD}
 use lib.IntN.{ℤ, pos}
 use Rattle.complexes.specs.Complex.{count}
-use Rattle.complexes.specs.Boundary.{rowCells, boundary}
+use Rattle.complexes.specs.Boundary.{countBelow, boundary}
 use Rattle.sheet_format.specs.Check.{sectionsOf}
 use Rattle.homology_groups.specs.Chain.{Chain, Cycle, Boundary}
 use Rattle.homology_groups.specs.Presentation.{Presentation}
@@ -23,7 +23,7 @@ cells b p = count (sectionsOf b) p
 
 -- z has no nonzero boundary
 abbrev pub IsCycle : List ℕ → ℕ → Chain → Type 0
-IsCycle b p z = Cycle (length (rowCells (sectionsOf b) p)) (cells b p) (boundary (sectionsOf b) p) z
+IsCycle b p z = Cycle (countBelow (sectionsOf b) p) (cells b p) (boundary (sectionsOf b) p) z
 
 -- z is the boundary of some chain of dimension p + 1 with whole coefficients, however large
 abbrev pub IsBoundary : List ℕ → ℕ → Chain → Type 0
@@ -32,7 +32,7 @@ IsBoundary b p z = Boundary (cells b p) (cells b (suc p)) (boundary (sectionsOf 
 -- k generators g with orders o (0: free) present the homology group
 abbrev pub Presents : List ℕ → ℕ → ℕ → (ℕ → Chain) → (ℕ → ℤ) → Type 0
 Presents b p k g o =
-    Presentation (length (rowCells (sectionsOf b) p)) (cells b p) (cells b (suc p)) (boundary (sectionsOf b) p) (boundary (sectionsOf b) (suc p)) k g o
+    Presentation (countBelow (sectionsOf b) p) (cells b p) (cells b (suc p)) (boundary (sectionsOf b) p) (boundary (sectionsOf b) (suc p)) k g o
 
 -- ---- of a report slice with t orders, for n cells
 

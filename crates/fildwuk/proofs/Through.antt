@@ -8,7 +8,7 @@ use lib.ListN.{length, take, drop}
 use lib.Seq.{take-append-le}
 use lib.IntN.{ℤ}
 use Rattle.complexes.specs.Complex.{count}
-use Rattle.sheet_format.specs.Check.{sectionsOf, countAt}
+use Rattle.sheet_format.specs.Check.{sectionsOf, countField}
 use Rattle.sheet_format.specs.Sheet.{Bytes}
 use Rattle.sheet_format.specs.SheetLaws.{count-sectionsOf}
 use Rattle.refusal.specs.declared.Refusal.{Refusal}
@@ -49,7 +49,7 @@ module _ (limit : ℕ) (host : limit ≡ hostLimit) (b : List ℕ) (p : ℕ) (ou
     pub report-sizes : ReportSized b p slots (x .free) (x .torsion)
     report-sizes = report-sized b bytes p slots work (x .free) (x .torsion) (rw host at (sym (a .answer)))
 
-    module _ (cells many : ℕ) (is : cells ≡ countAt b p) (all : many ≡ 2 + x .torsion + (x .torsion + x .free) * cells) where
+    module _ (cells many : ℕ) (is : cells ≡ countField b p) (all : many ≡ 2 + x .torsion + (x .torsion + x .free) * cells) where
       cells-is : many ≡ 2 + x .torsion + (x .torsion + x .free) * count (sectionsOf b) p
       cells-is = cc (all, is, count-sectionsOf b p)
 

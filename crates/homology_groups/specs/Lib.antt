@@ -14,4 +14,4 @@ pub mod Presents
 pub mod CoordinateList
 pub mod BoundaryLaws
 pub mod Unique
-pub mod Counts
+pub mod Splits

@@ -25,7 +25,7 @@ pub record Presentation (m n l : ℕ) (A B : Matrix) (k : ℕ) (g : ℕ → Chai
   pub chain : (j : ℕ) → suc j < k → o j ∣ℤ o (suc j)
 
 -- of k generators with the orders o, the first t have an order that is not 0 and the other b are free
-pub record IsCounts (k : ℕ) (o : ℕ → ℤ) (t b : ℕ) : Type 0 where
+pub record Splits (k : ℕ) (o : ℕ → ℤ) (t b : ℕ) : Type 0 where
   pub total : t + b ≡ k
   pub torsion : (j : ℕ) → j < t → o j ≢ pos 0
   pub free : (j : ℕ) → t ≤ j → j < k → o j ≡ pos 0

@@ -10,8 +10,8 @@ use Rattle.matrices.specs.Matrix as theory
 use Rattle.lines.specs.Slice.{limit, at, lineAt, Off, difference, LineSet, Beyond, Subtracted, Negated, LinesSwapped}
 use Rattle.lines.specs.Matrices.{contents, Holds, Exceeds, Became}
 use Rattle.lines.specs.declared.matrix.Matrix.{Matrix}
-use Rattle.lines.specs.declared.line.Written.{Written}
-use Rattle.lines.specs.declared.line.Written.the-variants.{Done, TooWide}
+use Rattle.lines.specs.declared.line.Effect.{Effect}
+use Rattle.lines.specs.declared.line.Effect.the-variants.{Done, TooWide}
 use Rattle.lines.proofs.Spans.{Span, On, on-or-off, span-at, span-off, span-outside}
 
 pub holds-trans : {M : Matrix} {w w′ w″ : List ℤ} {B A : theory.Matrix} → Holds M w B w′ → Holds M w′ A w″ → Holds M w A w″
@@ -54,25 +54,25 @@ module _ {M : Matrix} {w w′ : List ℤ} {start i j n : ℕ} {line : ℕ → �
 
 pub subtracted-became : {M : Matrix} {target source i j k l n : ℕ} → Span M target i j n → Span M source k l n → (w w′ : List ℤ) (q : ℤ)
     (A : theory.Matrix) → ((t : ℕ) → t < n → A i (j + t) ≡ contents M w i (j + t) -ℤ q *ℤ contents M w k (l + t)) → SameOff M w i j n A
-    → (r : Written) → Subtracted w target source n q r w′ → Became M w A r w′
+    → (r : Effect) → Subtracted w target source n q r w′ → Became M w A r w′
 subtracted-became {M} {target} {source} {i} {j} {k} {l} {n} s u w w′ q A on same = by-result
   where
     on′ : (t : ℕ) → t < n → A i (j + t) ≡ difference w target source q t
     on′ t h = rw (span-at s w t, span-at u w t) (on t h)
 
-    by-result : (r : Written) → Subtracted w target source n q r w′ → Became M w A r w′
+    by-result : (r : Effect) → Subtracted w target source n q r w′ → Became M w A r w′
     by-result Done h = lineSet-holds s A on′ h same
     by-result TooWide h = beyond-exceeds s A on′ h
 
 pub negated-became : {M : Matrix} {target i j n : ℕ} → Span M target i j n → (w w′ : List ℤ)
     (A : theory.Matrix) → ((t : ℕ) → t < n → A i (j + t) ≡ negℤ (contents M w i (j + t))) → SameOff M w i j n A
-    → (r : Written) → Negated w target n r w′ → Became M w A r w′
+    → (r : Effect) → Negated w target n r w′ → Became M w A r w′
 negated-became {M} {target} {i} {j} {n} s w w′ A on same = by-result
   where
     on′ : (t : ℕ) → t < n → A i (j + t) ≡ negℤ (at w (target + t))
     on′ t h = rw (span-at s w t) (on t h)
 
-    by-result : (r : Written) → Negated w target n r w′ → Became M w A r w′
+    by-result : (r : Effect) → Negated w target n r w′ → Became M w A r w′
     by-result Done h = lineSet-holds s A on′ h same
     by-result TooWide h = absurd h
 

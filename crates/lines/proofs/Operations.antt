@@ -18,26 +18,26 @@ use Rattle.matrices.specs.OperationLaws.{onRows-subtract-at, onRows-subtract-ot
 use Rattle.lines.specs.Slice.{Off, Subtracted, Negated, Swapped, LinesSwapped}
 use Rattle.lines.specs.Matrices.{contents, Holds, Became}
 use Rattle.lines.specs.declared.matrix.Matrix.{Matrix}
-use Rattle.lines.specs.declared.line.Written.{Written}
-use Rattle.lines.specs.declared.line.Written.the-variants.{Done, TooWide}
+use Rattle.lines.specs.declared.line.Effect.{Effect}
+use Rattle.lines.specs.declared.line.Effect.the-variants.{Done, TooWide}
 use Rattle.lines.proofs.Spans.{Span, off-line}
 use Rattle.lines.proofs.Holding.{subtracted-became, negated-became, swapped-holds, holds-trans}
 
 -- ---- whole lines
 
 pub subtract-lines : {M : Matrix} {target source i k : ℕ} → Span M target i 0 (M .width) → Span M source k 0 (M .width) → (w w′ : List ℤ) (q : ℤ)
-    (r : Written) → Subtracted w target source (M .width) q r w′ → Became M w (onRows (subtract i k q) (contents M w)) r w′
+    (r : Effect) → Subtracted w target source (M .width) q r w′ → Became M w (onRows (subtract i k q) (contents M w)) r w′
 subtract-lines {M} {target} {source} {i} {k} s u w w′ q =
     subtracted-became s u w w′ q (onRows (subtract i k q) (contents M w)) (λ t l. onRows-subtract-at i k q (contents M w) (0 + t))
     (λ a b x y o. onRows-subtract-other i k q (contents M w) a b (off-line (M .width) i a b y o))
 
-pub negate-line : {M : Matrix} {start k : ℕ} → Span M start k 0 (M .width) → (w w′ : List ℤ) (r : Written) → Negated w start (M .width) r w′
+pub negate-line : {M : Matrix} {start k : ℕ} → Span M start k 0 (M .width) → (w w′ : List ℤ) (r : Effect) → Negated w start (M .width) r w′
     → Became M w (onRows (negate k) (contents M w)) r w′
 negate-line {M} {start} {k} s w w′ =
     negated-became s w w′ (onRows (negate k) (contents M w)) (λ t l. onRows-negate-at k (contents M w) (0 + t))
     (λ a b x y o. onRows-negate-other k (contents M w) a b (off-line (M .width) k a b y o))
 
-pub swap-lines : {M : Matrix} {first second i k : ℕ} → Span M first i 0 (M .width) → Span M second k 0 (M .width) → (w w′ : List ℤ) (r : Written)
+pub swap-lines : {M : Matrix} {first second i k : ℕ} → Span M first i 0 (M .width) → Span M second k 0 (M .width) → (w w′ : List ℤ) (r : Effect)
     → Swapped w first second (M .width) r w′ → Became M w (onRows (swap i k) (contents M w)) r w′
 swap-lines {M} {first} {second} {i} {k} s u w w′ Done h =
     swapped-holds s u (onRows (swap i k) (contents M w)) (λ t l. onRows-swap-first i k (contents M w) (0 + t))
@@ -56,7 +56,7 @@ off-one j b = ⊎-elim (λ h. λ e. omega arith) (λ h. λ e. omega arith)
 
 pub subtract-entries : {M : Matrix} {target source i j k : ℕ} → Span M target i j 1 → Span M source i k 1 → (w w′ : List ℤ) (q : ℤ)
     → ((a : ℕ) → a < M .lines → a ≢ i → contents M w a k ≡ pos 0)
-    → (r : Written) → Subtracted w target source 1 q r w′ → Became M w (onColumns (subtract j k q) (contents M w)) r w′
+    → (r : Effect) → Subtracted w target source 1 q r w′ → Became M w (onColumns (subtract j k q) (contents M w)) r w′
 unfolding onColumns
 subtract-entries {M} {target} {source} {i} {j} {k} s u w w′ q zero =
     subtracted-became s u w w′ q (onColumns (subtract j k q) C)

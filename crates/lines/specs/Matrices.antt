@@ -9,8 +9,8 @@ use Rattle.matrices.specs.Matrix.{Eq}
 use Rattle.matrices.specs.Matrix as theory
 use Rattle.lines.specs.Slice.{limit, at, lineAt, Small}
 use Rattle.lines.specs.declared.matrix.Matrix.{Matrix}
-use Rattle.lines.specs.declared.line.Written.{Written}
-use Rattle.lines.specs.declared.line.Written.the-variants.{Done, TooWide}
+use Rattle.lines.specs.declared.line.Effect.{Effect}
+use Rattle.lines.specs.declared.line.Effect.the-variants.{Done, TooWide}
 
 -- one past the last place of the matrix
 abbrev pub end : Matrix → ℕ
@@ -46,6 +46,6 @@ pub record Exceeds (M : Matrix) (w : List ℤ) (A : theory.Matrix) (w′ : List 
   pub small : Small w′
 
 -- what an operation that makes A of the matrix answers and leaves
-abbrev pub Became : Matrix → List ℤ → theory.Matrix → Written → List ℤ → Type 0
+abbrev pub Became : Matrix → List ℤ → theory.Matrix → Effect → List ℤ → Type 0
 Became M w A Done w′ = Holds M w A w′
 Became M w A TooWide w′ = Exceeds M w A w′

@@ -6,8 +6,8 @@ use mathlib.Core.List.{List}
 use Prim.Native.Nat.{ℕ, _+_, _*_, _<_, _≤_}
 use lib.ListN.{length, getD}
 use lib.IntN.{ℤ, pos, negℤ, natAbs, _-ℤ_, _*ℤ_}
-use Rattle.lines.specs.declared.line.Written.{Written}
-use Rattle.lines.specs.declared.line.Written.the-variants.{Done, TooWide}
+use Rattle.lines.specs.declared.line.Effect.{Effect}
+use Rattle.lines.specs.declared.line.Effect.the-variants.{Done, TooWide}
 
 -- the greatest absolute value of an entry: document 01's W
 abbrev pub limit : ℕ
@@ -53,7 +53,7 @@ abbrev pub difference : List ℤ → ℕ → ℕ → ℤ → ℕ → ℤ
 difference w target source q t = at w (target + t) -ℤ q *ℤ at w (source + t)
 
 -- q times the line at `source` is taken from the line at `target`
-abbrev pub Subtracted : List ℤ → ℕ → ℕ → ℕ → ℤ → Written → List ℤ → Type 0
+abbrev pub Subtracted : List ℤ → ℕ → ℕ → ℕ → ℤ → Effect → List ℤ → Type 0
 Subtracted w target source width q Done w′ = LineSet w target width (difference w target source q) w′
 Subtracted w target source width q TooWide w′ = Beyond w width (difference w target source q) w′
 
@@ -65,11 +65,11 @@ pub record LinesSwapped (w : List ℤ) (first second width : ℕ) (w′ : List �
   pub off : (i : ℕ) → Off first width i → Off second width i → at w′ i ≡ at w i
   pub small : Small w′
 
-abbrev pub Swapped : List ℤ → ℕ → ℕ → ℕ → Written → List ℤ → Type 0
+abbrev pub Swapped : List ℤ → ℕ → ℕ → ℕ → Effect → List ℤ → Type 0
 Swapped w first second width Done w′ = LinesSwapped w first second width w′
 Swapped w first second width TooWide w′ = ⊥
 
-abbrev pub Negated : List ℤ → ℕ → ℕ → Written → List ℤ → Type 0
+abbrev pub Negated : List ℤ → ℕ → ℕ → Effect → List ℤ → Type 0
 Negated w target width Done w′ = LineSet w target width (λ t. negℤ (at w (target + t))) w′
 Negated w target width TooWide w′ = ⊥
 

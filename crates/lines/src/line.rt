@@ -9,13 +9,13 @@ ghost use Rattle.lines.specs.Slice.{limit, Small, Apart, Subtracted, Swa
 use crate::matrix::Matrix;
 
 // What an operation answers.
-pub enum Written {
+pub enum Effect {
     Done,
     TooWide,
 }
 
 // Takes q times the line at `source` from the line at `target`.
-pub fn subtract(w: &mut [i32], target: usize, source: usize, width: usize, q: i64) -> Written
+pub fn subtract(w: &mut [i32], target: usize, source: usize, width: usize, q: i64) -> Effect
     requires { ⌜ (target + width ≤ length (now w)) × (source + width ≤ length (now w)) ⌝ }
     requires { ⌜ Apart target source width ⌝ }
     requires { ⌜ Small (now w) ⌝ }
@@ -23,7 +23,7 @@ pub fn subtract(w: &mut [i32], target: usize, source: usize, width: usize, q: i6
     ensures { λ r. ⌜ Subtracted (now (w .entry)) target source width q r (now (w .exit)) ⌝ }
 {
     if q == 0 {
-        return Written::Done;
+        return Effect::Done;
     }
     let mut t: usize = 0;
     while t < width {
@@ -31,19 +31,19 @@ pub fn subtract(w: &mut [i32], target: usize, source: usize, width: usize, q: i6
         let y = w[source + t] as i64;
         let v = x - q * y;
         if v < -Matrix::ENTRY_LIMIT {
-            return Written::TooWide;
+            return Effect::TooWide;
         }
         if Matrix::ENTRY_LIMIT < v {
-            return Written::TooWide;
+            return Effect::TooWide;
         }
         w[target + t] = v as i32;
         t = t + 1;
     }
-    Written::Done
+    Effect::Done
 }
 
 // Exchanges the lines at `first` and `second`, which are one line or apart.
-pub fn swap(w: &mut [i32], first: usize, second: usize, width: usize) -> Written
+pub fn swap(w: &mut [i32], first: usize, second: usize, width: usize) -> Effect
     requires { ⌜ (first + width ≤ length (now w)) × (second + width ≤ length (now w)) ⌝ }
     requires { ⌜ (first ≡ second) ⊎ Apart first second width ⌝ }
     requires { ⌜ Small (now w) ⌝ }
@@ -56,11 +56,11 @@ pub fn swap(w: &mut [i32], first: usize, second: usize, width: usize) -> Written
         w[second + t] = x;
         t = t + 1;
     }
-    Written::Done
+    Effect::Done
 }
 
 // Negates the line at `at`.
-pub fn negate(w: &mut [i32], at: usize, width: usize) -> Written
+pub fn negate(w: &mut [i32], at: usize, width: usize) -> Effect
     requires { ⌜ at + width ≤ length (now w) ⌝ }
     requires { ⌜ Small (now w) ⌝ }
     ensures { λ r. ⌜ Negated (now (w .entry)) at width r (now (w .exit)) ⌝ }
@@ -70,7 +70,7 @@ pub fn negate(w: &mut [i32], at: usize, width: usize) -> Written
         w[at + t] = -w[at + t];
         t = t + 1;
     }
-    Written::Done
+    Effect::Done
 }
 
 // Sets every entry of the slice to 0.

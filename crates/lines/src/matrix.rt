@@ -9,7 +9,7 @@ ghost use Rattle.matrices.specs.Operation.{onRows, onColumns};
 ghost use Rattle.lines.specs.Slice.{limit, Small, lineAt};
 ghost use Rattle.lines.specs.Matrices.{Held, contents, Became};
 use crate::line;
-use crate::line::Written;
+use crate::line::Effect;
 
 pub struct Matrix {
     pub at: usize,
@@ -40,7 +40,7 @@ impl Matrix {
     }
 
     // Takes q times line k from line i.
-    pub fn subtract_line(self, w: &mut [i32], i: usize, k: usize, q: i64) -> Written
+    pub fn subtract_line(self, w: &mut [i32], i: usize, k: usize, q: i64) -> Effect
         requires { ⌜ Held (length (now w)) self ⌝ }
         requires { ⌜ Small (now w) ⌝ }
         requires { ⌜ (i < self .lines) × (k < self .lines) × (i ≢ k) × (natAbs q ≤ limit) ⌝ }
@@ -50,7 +50,7 @@ impl Matrix {
     }
 
     // Exchanges lines i and k.
-    pub fn swap_lines(self, w: &mut [i32], i: usize, k: usize) -> Written
+    pub fn swap_lines(self, w: &mut [i32], i: usize, k: usize) -> Effect
         requires { ⌜ Held (length (now w)) self ⌝ }
         requires { ⌜ Small (now w) ⌝ }
         requires { ⌜ (i < self .lines) × (k < self .lines) ⌝ }
@@ -60,7 +60,7 @@ impl Matrix {
     }
 
     // Negates line k.
-    pub fn negate_line(self, w: &mut [i32], k: usize) -> Written
+    pub fn negate_line(self, w: &mut [i32], k: usize) -> Effect
         requires { ⌜ Held (length (now w)) self ⌝ }
         requires { ⌜ Small (now w) ⌝ }
         requires { ⌜ k < self .lines ⌝ }
@@ -70,7 +70,7 @@ impl Matrix {
     }
 
     // Exchanges places j and k of every line.
-    pub fn swap_places(self, w: &mut [i32], j: usize, k: usize) -> Written
+    pub fn swap_places(self, w: &mut [i32], j: usize, k: usize) -> Effect
         requires { ⌜ Held (length (now w)) self ⌝ }
         requires { ⌜ Small (now w) ⌝ }
         requires { ⌜ (j < self .width) × (k < self .width) ⌝ }
@@ -80,16 +80,16 @@ impl Matrix {
         let lines = self.lines;
         while i < lines {
             let at = self.line(i);
-            let Written::Done = line::swap(w, at + j, at + k, 1) else {
-                return Written::TooWide;
+            let Effect::Done = line::swap(w, at + j, at + k, 1) else {
+                return Effect::TooWide;
             };
             i = i + 1;
         }
-        Written::Done
+        Effect::Done
     }
 
     // Takes q times place k from place j in every line, where line i alone has a nonzero entry at k.
-    pub fn subtract_place(self, w: &mut [i32], i: usize, j: usize, k: usize, q: i64) -> Written
+    pub fn subtract_place(self, w: &mut [i32], i: usize, j: usize, k: usize, q: i64) -> Effect
         requires { ⌜ Held (length (now w)) self ⌝ }
         requires { ⌜ Small (now w) ⌝ }
         requires { ⌜ (i < self .lines) × (j < self .width) × (k < self .width) × (j ≢ k) × (natAbs q ≤ limit) ⌝ }

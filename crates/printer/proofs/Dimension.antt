@@ -8,15 +8,15 @@ use lib.ListN.{length, drop}
 use lib.IntN.{ℤ}
 use Rattle.complexes.specs.Complex.{count}
 use Rattle.sheet_format.specs.Layout.{top}
-use Rattle.sheet_format.specs.Check.{sectionsOf, countAt, refusal}
+use Rattle.sheet_format.specs.Check.{sectionsOf, countField, refusal}
 use Rattle.sheet_format.specs.Sheet.{Bytes}
 use Rattle.sheet_format.specs.SheetLaws.{count-sectionsOf}
 use Rattle.refusal.specs.declared.Refusal.{Refusal}
 use Rattle.refusal.specs.Number.{numberOf}
-use Rattle.reports.specs.Report.{kind, kept, torsionCount, reportList}
+use Rattle.reports.specs.Report.{kind, reported, torsionCount, reportList}
 use Rattle.reports.specs.ReportLaws.{length-coordinateList}
 use Rattle.reports.specs.Call.{hostLimit, reductionsOf, reportCall}
-use Rattle.reports.specs.CallLaws.{Counted}
+use Rattle.reports.specs.CallLaws.{ReducedWith}
 use Rattle.reports.specs.HostCallLaws.{reportRoom, workRoom}
 use Rattle.reports.specs.Text.{refusalLine, dimensionText, reportText}
 use Rattle.reports.specs.TextLaws.{reportText-reportList}
@@ -60,7 +60,7 @@ module _ (limit : ℕ) (host : limit ≡ hostLimit) (b : List ℕ) (accepted : r
     pub total-within : x .torsion + x .free ≤ hostLimit
     total-within = omega (arith, sizes .is-sized .total-within, sizes .is-sized .cells-within)
 
-    pub done-room : (cells : ℕ) → cells ≡ countAt b p → ReportRoom cells (x .torsion) (x .free) report
+    pub done-room : (cells : ℕ) → cells ≡ countField b p → ReportRoom cells (x .torsion) (x .free) report
     done-room cells is =
         rw (is ∙ sym (count-sectionsOf b p)) (record {
           cells-within = sizes .is-sized .cells-within;
@@ -69,14 +69,14 @@ module _ (limit : ℕ) (host : limit ≡ hostLimit) (b : List ℕ) (accepted : r
           report-within = sizes .fits;
         })
 
-    pub done-text : (cells r : ℕ) (out′ : List ℕ) → cells ≡ countAt b p
+    pub done-text : (cells r : ℕ) (out′ : List ℕ) → cells ≡ countField b p
         → PutsWithin 60000 (reportText p cells (x .torsion) (x .torsion + x .free) after) at out r out′ → PutsWithin 60000 (textOf b p) at out r out′
     done-text cells r out′ is puts = subst (λ (text : List ℕ). PutsWithin 60000 text at out r out′) same puts
       where
         s : Sized b p (x .free) (x .torsion)
         s = sizes .is-sized
 
-        c : Counted (reductionsOf b p) (x .free) (x .torsion)
+        c : ReducedWith (reductionsOf b p) (x .free) (x .torsion)
         c = s .counted
 
         n : ℕ
@@ -91,7 +91,7 @@ module _ (limit : ℕ) (host : limit ≡ hostLimit) (b : List ℕ) (accepted : r
             ∙ ap (λ (l : ℕ). reportCall l b p report work .output) host
             ∙ report-output hostLimit b p report work (accepted-passes b accepted p dimension report work size space) c
 
-        total : x .torsion + x .free ≡ length (kept (kind (c .state)) (c .rows))
+        total : x .torsion + x .free ≡ length (reported (kind (c .state)) (c .rows))
         total = sym (s .coordinates-size report) ∙ length-coordinateList n (c .rows) (c .state) report
 
         cells-are : cells ≡ n
@@ -102,6 +102,6 @@ module _ (limit : ℕ) (host : limit ≡ hostLimit) (b : List ℕ) (accepted : r
             ap (λ (k : ℕ). reportText p k (x .torsion) (x .torsion + x .free) after) cells-are
             ∙ ap (λ (t : ℕ). reportText p n t (x .torsion + x .free) after) (c .torsion)
             ∙ ap (λ (g : ℕ). reportText p n (torsionCount (c .rank) (c .state)) g after) total
-            ∙ ap (λ (l : List ℤ). reportText p n (torsionCount (c .rank) (c .state)) (length (kept (kind (c .state)) (c .rows))) l) left
+            ∙ ap (λ (l : List ℤ). reportText p n (torsionCount (c .rank) (c .state)) (length (reported (kind (c .state)) (c .rows))) l) left
             ∙ reportText-reportList p n (c .rows) (c .rank) (c .state) rest
             ∙ ap (dimensionText p n) (sym (c .reductions))

@@ -15,8 +15,8 @@ use Rattle.reduction_steps.specs.Step.{positive, bring}
 use Rattle.lines.specs.Slice.{Small}
 use Rattle.lines.specs.Matrices.{contents}
 use Rattle.lines.proofs.Words.{read}
-use Rattle.work.specs.Layout.{stateOf}
-use Rattle.work.specs.declared.operations.Work.{Work}
+use Rattle.operations.specs.Laid.{stateOf}
+use Rattle.operations.specs.declared.layout.Layout.{Layout}
 use Rattle.reducer.proofs.States.{entry-state}
 use Rattle.reducer.proofs.Words.{read-entry}
 
@@ -52,7 +52,7 @@ sign-taken (pos n) e = absurd (omega (arith, ltb-true n 0 e))
 sign-taken (negsuc n) e = refl
 
 -- x holds the pivot of the slice w
-module _ (limit : ℕ) (z : Sizes) (W : Work) (k : ℕ) (w : List ℤ) (small : Small w) (row : k < W .matrix .lines) (column : k < W .matrix .width) {x : ℤ} (x-is : x ≡ contents (W .matrix) w k k) where
+module _ (limit : ℕ) (z : Sizes) (W : Layout) (k : ℕ) (w : List ℤ) (small : Small w) (row : k < W .matrix .lines) (column : k < W .matrix .width) {x : ℤ} (x-is : x ≡ contents (W .matrix) w k k) where
   read-pivot : entry (stateOf W w .matrix) k k ≡ read w64 x
   read-pivot = entry-state W w k k row column ∙ sym (read-entry (W .matrix) small k k x x-is)
 

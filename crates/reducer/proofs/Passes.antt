@@ -22,8 +22,8 @@ use Rattle.reduction_laws.specs.Letters.{ReadyC}
 use Rattle.reduction_laws.specs.Led.{Led, led-row, led-column}
 use Rattle.lines.specs.Slice.{limit, Small}
 use Rattle.lines.specs.Matrices.{contents}
-use Rattle.work.specs.Layout.{Laid, sizesOf, stateOf}
-use Rattle.work.specs.declared.operations.Work.{Work}
+use Rattle.operations.specs.Laid.{Laid, sizesOf, stateOf}
+use Rattle.operations.specs.declared.layout.Layout.{Layout}
 use Rattle.refusal.specs.declared.Refusal.the-variants as Refusal
 use Rattle.reducer.specs.Answer.{Placed, ColumnClear, rowPassOf, columnPassOf, PassMade, PassRefused}
 use Rattle.reducer.proofs.States.{entry-state, shaped-state, rowsDone-moves}
@@ -49,7 +49,7 @@ module _ (limit : ℕ) (z : Sizes) (k more i : ℕ) (s : State) where
 
 -- the quotient of the pass, read from the slice
 quotient-state :
-    (W : Work) (w : List ℤ) (k i j : ℕ) → i < W .matrix .lines → j < W .matrix .width → k < W .matrix .lines → k < W .matrix .width
+    (W : Layout) (w : List ℤ) (k i j : ℕ) → i < W .matrix .lines → j < W .matrix .width → k < W .matrix .lines → k < W .matrix .width
     → floor (contents (W .matrix) w i j) (contents (W .matrix) w k k) ≡ quotient limit (sizesOf W) k (stateOf W w) i j
 unfolding quotient
 quotient-state W w k i j a b c d = cc (entry-state W w i j a b, entry-state W w k k c d)
@@ -61,7 +61,7 @@ pass-refused w e z l = record { outcome = e; cleared = record { number = refl; z
 -- ---- step c
 
 -- before row i
-pub record RowPassing (W : Work) (k : ℕ) (w₀ : List ℤ) (i : ℕ) (w : List ℤ) : Type 0 where
+pub record RowPassing (W : Layout) (k : ℕ) (w₀ : List ℤ) (i : ℕ) (w : List ℤ) : Type 0 where
   pub same-length : length w ≡ length w₀
   pub from : k < i
   pub placed : Placed W k w
@@ -69,7 +69,7 @@ pub record RowPassing (W : Work) (k : ℕ) (w₀ : List ℤ) (i : ℕ) (w : List
       rowPass limit (sizesOf W) k (W .matrix .lines - i) i (stateOf W w)
       ≡ rowPassOf W k w₀
 
-pub rows-start : {W : Work} {k : ℕ} {w : List ℤ} → Placed W k w → RowPassing W k w (k + 1) w
+pub rows-start : {W : Layout} {k : ℕ} {w : List ℤ} → Placed W k w → RowPassing W k w (k + 1) w
 rows-start {W} {k} {w} h = record {
   same-length = refl;
   from = omega arith;
@@ -77,7 +77,7 @@ rows-start {W} {k} {w} h = record {
   rest = rw (add-one k);
 }
 
-module _ {W : Work} {k : ℕ} {w₀ : List ℤ} {i : ℕ} {w : List ℤ} (h : RowPassing W k w₀ i w) (below : i < W .matrix .lines) where
+module _ {W : Layout} {k : ℕ} {w₀ : List ℤ} {i : ℕ} {w : List ℤ} (h : RowPassing W k w₀ i w) (below : i < W .matrix .lines) where
   -- the operation of the pass is the one that the code makes
   row-operation :
       {q : ℤ} → q ≡ floor (contents (W .matrix) w i k) (contents (W .matrix) w k k)
@@ -131,7 +131,7 @@ module _ {W : Work} {k : ℕ} {w₀ : List ℤ} {i : ℕ} {w : List ℤ} (h : Ro
       (row-operation e ∙ o)
 
 -- after the last row
-pub rows-end : {W : Work} {k : ℕ} {w₀ : List ℤ} {i : ℕ} {w : List ℤ} → RowPassing W k w₀ i w → W .matrix .lines ≤ i → PassMade W (rowPassOf W k w₀) (length w₀) w
+pub rows-end : {W : Layout} {k : ℕ} {w₀ : List ℤ} {i : ℕ} {w : List ℤ} → RowPassing W k w₀ i w → W .matrix .lines ≤ i → PassMade W (rowPassOf W k w₀) (length w₀) w
 unfolding rowPass
 rows-end {W} {k} {w₀} {i} {w} h l = record {
   outcome = sym (h .rest) ∙ ap (λ (n : ℕ). rowPass limit (sizesOf W) k n i (stateOf W w)) none-left;
@@ -144,7 +144,7 @@ rows-end {W} {k} {w₀} {i} {w} h l = record {
 -- ---- step d
 
 -- before column j
-pub record ColumnPassing (W : Work) (k : ℕ) (w₀ : List ℤ) (j : ℕ) (w : List ℤ) : Type 0 where
+pub record ColumnPassing (W : Layout) (k : ℕ) (w₀ : List ℤ) (j : ℕ) (w : List ℤ) : Type 0 where
   pub same-length : length w ≡ length w₀
   pub from : k < j
   pub clear : ColumnClear W k w
@@ -152,7 +152,7 @@ pub record ColumnPassing (W : Work) (k : ℕ) (w₀ : List ℤ) (j : ℕ) (w : L
       columnPass limit (sizesOf W) k (W .matrix .width - j) j (stateOf W w)
       ≡ columnPassOf W k w₀
 
-pub columns-start : {W : Work} {k : ℕ} {w : List ℤ} → ColumnClear W k w → ColumnPassing W k w (k + 1) w
+pub columns-start : {W : Layout} {k : ℕ} {w : List ℤ} → ColumnClear W k w → ColumnPassing W k w (k + 1) w
 columns-start {W} {k} {w} h = record {
   same-length = refl;
   from = omega arith;
@@ -161,14 +161,14 @@ columns-start {W} {k} {w} h = record {
 }
 
 -- column k is zero off the pivot
-pub column-zero : {W : Work} {k : ℕ} {w : List ℤ} → ColumnClear W k w → (i : ℕ) → i < W .matrix .lines → i ≢ k → contents (W .matrix) w i k ≡ pos 0
+pub column-zero : {W : Layout} {k : ℕ} {w : List ℤ} → ColumnClear W k w → (i : ℕ) → i < W .matrix .lines → i ≢ k → contents (W .matrix) w i k ≡ pos 0
 column-zero {W} {k} {w} h i below other = sym (entry-state W w i k below (h .ready .ready .column)) ∙ go (decLt i k)
   where
     go : Dec (i < k) → entry (stateOf W w .matrix) i k ≡ pos 0
     go (yes l) = h .rows-done .zero i k l (Nat.le-refl k) (h .ready .ready .column)
     go (no l) = h .ready .below i (omega arith) below
 
-module _ {W : Work} {k : ℕ} {w₀ : List ℤ} {j : ℕ} {w : List ℤ} (h : ColumnPassing W k w₀ j w) (below : j < W .matrix .width) where
+module _ {W : Layout} {k : ℕ} {w₀ : List ℤ} {j : ℕ} {w : List ℤ} (h : ColumnPassing W k w₀ j w) (below : j < W .matrix .width) where
   ready : ReadyC (sizesOf W) k (stateOf W w)
   ready = h .clear .ready .ready
 
@@ -227,7 +227,7 @@ module _ {W : Work} {k : ℕ} {w₀ : List ℤ} {j : ℕ} {w : List ℤ} (h : Co
       (column-operation e ∙ o)
 
 -- after the last column
-pub columns-end : {W : Work} {k : ℕ} {w₀ : List ℤ} {j : ℕ} {w : List ℤ} → ColumnPassing W k w₀ j w → W .matrix .width ≤ j → PassMade W (columnPassOf W k w₀) (length w₀) w
+pub columns-end : {W : Layout} {k : ℕ} {w₀ : List ℤ} {j : ℕ} {w : List ℤ} → ColumnPassing W k w₀ j w → W .matrix .width ≤ j → PassMade W (columnPassOf W k w₀) (length w₀) w
 unfolding columnPass
 columns-end {W} {k} {w₀} {j} {w} h l = record {
   outcome = sym (h .rest) ∙ ap (λ (n : ℕ). columnPass limit (sizesOf W) k n j (stateOf W w)) none-left;

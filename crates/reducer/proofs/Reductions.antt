@@ -13,22 +13,22 @@ use Rattle.reduction_laws.specs.Run.{reaches-refl, reaches-trans}
 use Rattle.reduction_laws.specs.Ends.{reaches-reduce}
 use Rattle.lines.specs.Slice.{limit, Small}
 use Rattle.refusal.specs.declared.Refusal.{Refusal}
-use Rattle.work.specs.Layout.{Laid, sizesOf, stateOf}
-use Rattle.work.specs.declared.operations.Work.{Work}
+use Rattle.operations.specs.Laid.{Laid, sizesOf, stateOf}
+use Rattle.operations.specs.declared.layout.Layout.{Layout}
 use Rattle.reducer.specs.declared.stage.Stage.{Stage}
 use Rattle.reducer.specs.declared.stage.Stage.the-variants as stage
 use Rattle.reducer.specs.Answer.{Begun, reductionOf, Goes, StageCleared, StageExhausted, StageRefused, StageEnds, ReductionDone, ReductionRefused}
 use Rattle.reducer.proofs.States.{shaped-state, within-state}
 
 -- from the slice w₀ the reduction has come to letter a of stage k with the slice w
-pub record Reducing (W : Work) (w₀ : List ℤ) (k : ℕ) (w : List ℤ) : Type 0 where
+pub record Reducing (W : Layout) (w₀ : List ℤ) (k : ℕ) (w : List ℤ) : Type 0 where
   pub laid : Laid (length w₀) W
   pub small : Small w₀
   pub goes : Goes W (at Letter.a 0 (stateOf W w₀)) (at Letter.a k (stateOf W w))
   pub begun : Begun W k w
   pub same-length : length w ≡ length w₀
 
-pub reducing-start : {W : Work} {w : List ℤ} → Laid (length w) W → Small w → Reducing W w 0 w
+pub reducing-start : {W : Layout} {w : List ℤ} → Laid (length w) W → Small w → Reducing W w 0 w
 reducing-start {W} {w} l s = record {
   laid = l;
   small = s;
@@ -38,16 +38,16 @@ reducing-start {W} {w} l s = record {
 }
 
 -- how a stage ended
-pub ends-cleared : {W : Work} {k : ℕ} {x : Machine} {n : ℕ} {r : Stage} {w′ : List ℤ} → r ≡ stage.Cleared → StageEnds W k x n r w′ → StageCleared W k x n w′
+pub ends-cleared : {W : Layout} {k : ℕ} {x : Machine} {n : ℕ} {r : Stage} {w′ : List ℤ} → r ≡ stage.Cleared → StageEnds W k x n r w′ → StageCleared W k x n w′
 ends-cleared {W} {k} {x} {n} {r} {w′} e h = subst (λ (r : Stage). StageEnds W k x n r w′) e h
 
-pub ends-exhausted : {W : Work} {k : ℕ} {x : Machine} {n : ℕ} {r : Stage} {w′ : List ℤ} → r ≡ stage.Exhausted → StageEnds W k x n r w′ → StageExhausted W k x n w′
+pub ends-exhausted : {W : Layout} {k : ℕ} {x : Machine} {n : ℕ} {r : Stage} {w′ : List ℤ} → r ≡ stage.Exhausted → StageEnds W k x n r w′ → StageExhausted W k x n w′
 ends-exhausted {W} {k} {x} {n} {r} {w′} e h = subst (λ (r : Stage). StageEnds W k x n r w′) e h
 
-pub ends-refused : (W : Work) (k : ℕ) {x : Machine} {n : ℕ} {r : Stage} {y : Refusal} {w′ : List ℤ} → r ≡ stage.Refused y → StageEnds W k x n r w′ → StageRefused W x n y w′
+pub ends-refused : (W : Layout) (k : ℕ) {x : Machine} {n : ℕ} {r : Stage} {y : Refusal} {w′ : List ℤ} → r ≡ stage.Refused y → StageEnds W k x n r w′ → StageRefused W x n y w′
 ends-refused W k {x} {n} {r} {y} {w′} e h = subst (λ (r : Stage). StageEnds W k x n r w′) e h
 
-module _ {W : Work} {w₀ : List ℤ} {k : ℕ} {w : List ℤ} (h : Reducing W w₀ k w) where
+module _ {W : Layout} {w₀ : List ℤ} {k : ℕ} {w : List ℤ} (h : Reducing W w₀ k w) where
   pub reducing-next : {w′ : List ℤ} → StageCleared W k (at Letter.a k (stateOf W w)) (length w) w′ → Reducing W w₀ (k + 1) w′
   reducing-next {w′} e = subst (λ (n : ℕ). Reducing W w₀ n w′) (sym (add-one k)) (record {
     laid = h .laid;

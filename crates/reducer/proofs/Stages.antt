@@ -26,8 +26,8 @@ use Rattle.lines.specs.Slice.{limit, Small}
 use Rattle.lines.specs.Matrices.{contents}
 use Rattle.refusal.specs.declared.Refusal.{Refusal}
 use Rattle.refusal.specs.declared.Refusal.the-variants as refusal
-use Rattle.work.specs.Layout.{Laid, sizesOf, stateOf}
-use Rattle.work.specs.declared.operations.Work.{Work}
+use Rattle.operations.specs.Laid.{Laid, sizesOf, stateOf}
+use Rattle.operations.specs.declared.layout.Layout.{Layout}
 use Rattle.reducer.specs.declared.pass.Pass.{Pass}
 use Rattle.reducer.specs.declared.pass.Pass.the-variants as pass
 use Rattle.reducer.specs.declared.stage.Stage.{Stage}
@@ -38,37 +38,37 @@ use Rattle.reducer.proofs.Tests.{columnKeeps-cong, rowKeeps-cong, first
 use Rattle.reducer.proofs.Measures.{choiceMeasure, rowMeasure, columnMeasure, chosen-falls, column-below-row, column-after-add, choice-below-column, choice-below-row}
 
 -- a measure of the matrix that a slice holds
-abbrev pub measured : (ℕ → ℕ → ℕ → Matrix → ℕ) → Work → ℕ → List ℤ → ℕ
+abbrev pub measured : (ℕ → ℕ → ℕ → Matrix → ℕ) → Layout → ℕ → List ℤ → ℕ
 measured μ W k w = μ (W .matrix .lines) (W .matrix .width) k (matrixOf W w)
 
--- From the machine x the work has come to letter l with the slice w′, of which P holds, and the measure μ there lies below the bound.
-pub record Onward (P : Work → ℕ → List ℤ → Type 0) (μ : ℕ → ℕ → ℕ → Matrix → ℕ) (l : Letter) (W : Work) (k : ℕ) (x : Machine) (n bound : ℕ) (w′ : List ℤ) : Type 0 where
+-- From the machine x the layout has come to letter l with the slice w′, of which P holds, and the measure μ there lies below the bound.
+pub record Onward (P : Layout → ℕ → List ℤ → Type 0) (μ : ℕ → ℕ → ℕ → Matrix → ℕ) (l : Letter) (W : Layout) (k : ℕ) (x : Machine) (n bound : ℕ) (w′ : List ℤ) : Type 0 where
   pub holds : P W k w′
   pub falls : measured μ W k w′ < bound
   pub goes : Goes W x (at l k (stateOf W w′))
   pub same-length : length w′ ≡ n
 
 -- from the choice to the row pass
-abbrev pub ToRows : Work → ℕ → List ℤ → List ℤ → Type 0
+abbrev pub ToRows : Layout → ℕ → List ℤ → List ℤ → Type 0
 ToRows W k w w′ = Onward Placed rowMeasure Letter.c W k (at Letter.a k (stateOf W w)) (length w) (measured choiceMeasure W k w) w′
 
 -- from the row pass back to the choice, or to the column pass
-abbrev pub RowsToChoice : Work → ℕ → List ℤ → List ℤ → Type 0
+abbrev pub RowsToChoice : Layout → ℕ → List ℤ → List ℤ → Type 0
 RowsToChoice W k w w′ = Onward Begun choiceMeasure Letter.a W k (at Letter.c k (stateOf W w)) (length w) (measured rowMeasure W k w) w′
 
-abbrev pub RowsToColumns : Work → ℕ → List ℤ → List ℤ → Type 0
+abbrev pub RowsToColumns : Layout → ℕ → List ℤ → List ℤ → Type 0
 RowsToColumns W k w w′ = Onward ColumnClear columnMeasure Letter.d W k (at Letter.c k (stateOf W w)) (length w) (measured rowMeasure W k w) w′
 
 -- from the column pass back to the choice, or to the column pass after step e
-abbrev pub ColumnsToChoice : Work → ℕ → List ℤ → List ℤ → Type 0
+abbrev pub ColumnsToChoice : Layout → ℕ → List ℤ → List ℤ → Type 0
 ColumnsToChoice W k w w′ = Onward Begun choiceMeasure Letter.a W k (at Letter.d k (stateOf W w)) (length w) (measured columnMeasure W k w) w′
 
-abbrev pub ColumnsAgain : Work → ℕ → List ℤ → List ℤ → Type 0
+abbrev pub ColumnsAgain : Layout → ℕ → List ℤ → List ℤ → Type 0
 ColumnsAgain W k w w′ = Onward ColumnClear columnMeasure Letter.d W k (at Letter.d k (stateOf W w)) (length w) (measured columnMeasure W k w) w′
 
 -- a stage that goes on from y ends as one from x that comes to y
 pub stage-after :
-    (W : Work) (k : ℕ) (x y : Machine) (n : ℕ) (w : List ℤ) (r : Stage) (w′ : List ℤ) → Goes W x y → length w ≡ n → StageEnds W k y (length w) r w′
+    (W : Layout) (k : ℕ) (x y : Machine) (n : ℕ) (w : List ℤ) (r : Stage) (w′ : List ℤ) → Goes W x y → length w ≡ n → StageEnds W k y (length w) r w′
     → StageEnds W k x n r w′
 stage-after W k x y n w stage.Cleared w′ g l e = record { goes = reaches-trans limit (sizesOf W) release1 g (e .goes); begun = e .begun; same-length = e .same-length ∙ l }
 stage-after W k x y n w stage.Exhausted w′ g l e = record {
@@ -81,12 +81,12 @@ stage-after W k x y n w (stage.Refused z) w′ g l e = record {
 }
 
 pub onward-ends :
-    {P : Work → ℕ → List ℤ → Type 0} {μ : ℕ → ℕ → ℕ → Matrix → ℕ} {l : Letter} {W : Work} {k : ℕ} {x : Machine} {n bound : ℕ} {w : List ℤ}
+    {P : Layout → ℕ → List ℤ → Type 0} {μ : ℕ → ℕ → ℕ → Matrix → ℕ} {l : Letter} {W : Layout} {k : ℕ} {x : Machine} {n bound : ℕ} {w : List ℤ}
     → Onward P μ l W k x n bound w → (r : Stage) (w′ : List ℤ) → StageEnds W k (at l k (stateOf W w)) (length w) r w′ → StageEnds W k x n r w′
 onward-ends {P} {μ} {l} {W} {k} {x} {n} {bound} {w} o r w′ e = stage-after W k x (at l k (stateOf W w)) n w r w′ (o .goes) (o .same-length) e
 
 -- the layout after an operation or a pass
-pub laid-kept : {W : Work} {n : ℕ} (w′ : List ℤ) → Laid n W → length w′ ≡ n → Laid (length w′) W
+pub laid-kept : {W : Layout} {n : ℕ} (w′ : List ℤ) → Laid n W → length w′ ≡ n → Laid (length w′) W
 laid-kept {W} w′ h l = subst (λ (n : ℕ). Laid n W) (sym l) h
 
 -- a measure below one that is t
@@ -94,12 +94,12 @@ pub below : {m n t : ℕ} → n ≡ t → m < n → m < t
 below {m} e l = subst (λ (n : ℕ). m < n) e l
 
 -- what a pass answered
-pub passed-made : {W : Work} {o : Outcome} {n : ℕ} {r : Pass} {w′ : List ℤ} → r ≡ pass.Made → Passed W o n r w′ → PassMade W o n w′
+pub passed-made : {W : Layout} {o : Outcome} {n : ℕ} {r : Pass} {w′ : List ℤ} → r ≡ pass.Made → Passed W o n r w′ → PassMade W o n w′
 passed-made {W} {o} {n} {r} {w′} e h = subst (λ (x : Pass). Passed W o n x w′) e h
 
 -- a pass that went too wide ends the stage
 pub pass-stops :
-    (W : Work) (x : Machine) {o : Outcome} {n : ℕ} (r : Pass) {y : Refusal} (w′ : List ℤ) → (o ≡ tooWide → Goes W x wide) → r ≡ pass.Refused y → Passed W o n r w′
+    (W : Layout) (x : Machine) {o : Outcome} {n : ℕ} (r : Pass) {y : Refusal} (w′ : List ℤ) → (o ≡ tooWide → Goes W x wide) → r ≡ pass.Refused y → Passed W o n r w′
     → StageRefused W x n refusal.TooWide w′
 pass-stops W x {o} {n} r {y} w′ f e h =
     let p : PassRefused o n y w′ = subst (λ (x : Pass). Passed W o n x w′) e h in
@@ -107,7 +107,7 @@ pass-stops W x {o} {n} r {y} w′ f e h =
 
 -- ---- letter a
 
-module _ (W : Work) (k : ℕ) (w : List ℤ) where
+module _ (W : Layout) (k : ℕ) (w : List ℤ) where
   -- the rule's choice, read from the slice
   choice-state : release1 (W .matrix .lines) (W .matrix .width) k (contents (W .matrix) w) ≡ release1 (W .matrix .lines) (W .matrix .width) k (matrixOf W w)
   choice-state = release1-cong (W .matrix .lines) (W .matrix .width) k (contents (W .matrix) w) (matrixOf W w) (λ i j _ a _ b. sym (entry-state W w i j a b))
@@ -147,7 +147,7 @@ module _ (W : Work) (k : ℕ) (w : List ℤ) where
 
 -- ---- letter c
 
-module _ {W : Work} {k : ℕ} {w : List ℤ} (h : Placed W k w) where
+module _ {W : Layout} {k : ℕ} {w : List ℤ} (h : Placed W k w) where
   pub rows-go : rowPassOf W k w ≡ tooWide → Goes W (at Letter.c k (stateOf W w)) wide
   rows-go o = reaches-next limit (sizesOf W) release1 (step-c-wide limit (sizesOf W) release1 k (stateOf W w) o)
 
@@ -196,7 +196,7 @@ module _ {W : Work} {k : ℕ} {w : List ℤ} (h : Placed W k w) where
 -- ---- letter d
 
 -- after a column pass that has cleared row k: letter e
-pub record RowClear (W : Work) (k : ℕ) (w w′ : List ℤ) : Type 0 where
+pub record RowClear (W : Layout) (k : ℕ) (w w′ : List ℤ) : Type 0 where
   pub laid : Laid (length w′) W
   pub small : Small w′
   pub ready : ReadyE (sizesOf W) k (stateOf W w′)
@@ -206,7 +206,7 @@ pub record RowClear (W : Work) (k : ℕ) (w w′ : List ℤ) : Type 0 where
   pub divided : (j : ℕ) → k < j → j < W .matrix .width → matrixOf W w k k ∣ℤ matrixOf W w k j
   pub same-length : length w′ ≡ length w
 
-module _ {W : Work} {k : ℕ} {w : List ℤ} (h : ColumnClear W k w) where
+module _ {W : Layout} {k : ℕ} {w : List ℤ} (h : ColumnClear W k w) where
   pub columns-go : columnPassOf W k w ≡ tooWide → Goes W (at Letter.d k (stateOf W w)) wide
   columns-go o = reaches-next limit (sizesOf W) release1 (step-d-wide limit (sizesOf W) release1 k (stateOf W w) o)
 
@@ -254,7 +254,7 @@ module _ {W : Work} {k : ℕ} {w : List ℤ} (h : ColumnClear W k w) where
 
 -- ---- letter e
 
-module _ {W : Work} {k : ℕ} {w w′ : List ℤ} (h : RowClear W k w w′) where
+module _ {W : Layout} {k : ℕ} {w w′ : List ℤ} (h : RowClear W k w w′) where
   ready-pivot : ReadyC (sizesOf W) k (stateOf W w′)
   ready-pivot = h .ready .ready .ready
 

@@ -16,14 +16,14 @@ use Rattle.reduction_laws.specs.StageLaws as stage-laws
 use Rattle.lines.specs.Slice.{limit, at, lineAt, Small}
 use Rattle.lines.specs.Matrices.{Held, contents}
 use Rattle.lines.specs.declared.matrix.Matrix.{Matrix}
-use Rattle.lines.specs.declared.line.Written.{Written}
-use Rattle.lines.specs.declared.line.Written.the-variants.{Done, TooWide}
-use Rattle.work.specs.Layout.{Laid, sizesOf, linesOf, stateOf, outcomeOf, Operated}
-use Rattle.work.specs.declared.operations.Work.{Work}
+use Rattle.lines.specs.declared.line.Effect.{Effect}
+use Rattle.lines.specs.declared.line.Effect.the-variants.{Done, TooWide}
+use Rattle.operations.specs.Laid.{Laid, sizesOf, linesOf, stateOf, outcomeOf, Operated}
+use Rattle.operations.specs.declared.layout.Layout.{Layout}
 
 -- ---- the state of a slice
 
-pub entry-state : (W : Work) (w : List ℤ) (i j : ℕ) → i < W .matrix .lines → j < W .matrix .width → entry (stateOf W w .matrix) i j ≡ contents (W .matrix) w i j
+pub entry-state : (W : Layout) (w : List ℤ) (i j : ℕ) → i < W .matrix .lines → j < W .matrix .width → entry (stateOf W w .matrix) i j ≡ contents (W .matrix) w i j
 unfolding stateOf linesOf
 entry-state W w i j a b = entry-table (W .matrix .lines) (W .matrix .width) (contents (W .matrix) w) i j a b
 
@@ -31,7 +31,7 @@ entry-state W w i j a b = entry-table (W .matrix .lines) (W .matrix .width) (con
 table-lines : {m m′ : ℕ} → m ≡ m′ → (n : ℕ) (A : theory.Matrix) → table m n A ≡ table m′ n (entry (table m n A))
 table-lines {m} e n A = sym (table-entry m n A) ∙ ap (λ (x : ℕ). table x n (entry (table m n A))) e
 
-pub shaped-state : {n : ℕ} {W : Work} (w : List ℤ) → Laid n W → Shaped (sizesOf W) (stateOf W w)
+pub shaped-state : {n : ℕ} {W : Layout} (w : List ℤ) → Laid n W → Shaped (sizesOf W) (stateOf W w)
 unfolding stateOf linesOf
 shaped-state {n} {W} w h = record {
   matrix = table-lines refl (W .matrix .width) (contents (W .matrix) w);
@@ -41,7 +41,7 @@ shaped-state {n} {W} w h = record {
   columnInverse = table-lines (h .column-inverse-lines) (W .«column_inverse» .width) (contents (W .«column_inverse») w);
 }
 
-pub within-state : (W : Work) (w : List ℤ) → Small w → within limit (stateOf W w) ≡ true
+pub within-state : (W : Layout) (w : List ℤ) → Small w → within limit (stateOf W w) ≡ true
 unfolding stateOf linesOf
 within-state W w h =
     within-iff limit (stateOf W w) .1
@@ -56,16 +56,16 @@ within-state W w h =
     narrow : (M : Matrix) → tableWithin limit (table (M .lines) (M .width) (contents M w)) ≡ true
     narrow M = tableWithin-table limit (M .lines) (M .width) (contents M w) .1 (λ i j _ _. h .bound (lineAt (M .at) (M .width) i + j))
 
-pub held-matrix : {n : ℕ} {W : Work} → Laid n W → Held n (W .matrix)
+pub held-matrix : {n : ℕ} {W : Layout} → Laid n W → Held n (W .matrix)
 held-matrix h = record { ends = omega (arith, h .after-matrix, h .after-row-inverse, h .after-row-follower, h .after-column-follower, h .after-column-inverse) }
 
 -- ---- what an operation came to
 
-pub operated-done : {W : Work} {o : Outcome} {r : Written} {w′ : List ℤ} → Operated W o r w′ → r ≡ Done → o ≡ made (stateOf W w′)
-operated-done {W} {o} {r} {w′} h e = sym (h .outcome) ∙ ap (λ (x : Written). outcomeOf x (stateOf W w′)) e
+pub operated-done : {W : Layout} {o : Outcome} {r : Effect} {w′ : List ℤ} → Operated W o r w′ → r ≡ Done → o ≡ made (stateOf W w′)
+operated-done {W} {o} {r} {w′} h e = sym (h .outcome) ∙ ap (λ (x : Effect). outcomeOf x (stateOf W w′)) e
 
-pub operated-wide : {W : Work} {o : Outcome} {r : Written} {w′ : List ℤ} → Operated W o r w′ → r ≡ TooWide → o ≡ tooWide
-operated-wide {W} {o} {r} {w′} h e = sym (h .outcome) ∙ ap (λ (x : Written). outcomeOf x (stateOf W w′)) e
+pub operated-wide : {W : Layout} {o : Outcome} {r : Effect} {w′ : List ℤ} → Operated W o r w′ → r ≡ TooWide → o ≡ tooWide
+operated-wide {W} {o} {r} {w′} h e = sym (h .outcome) ∙ ap (λ (x : Effect). outcomeOf x (stateOf W w′)) e
 
 -- ---- what a stage's operations keep
 

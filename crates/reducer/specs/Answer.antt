@@ -14,8 +14,8 @@ use Rattle.reduction_laws.specs.Letters.{ReadyC, ReadyD}
 use Rattle.lines.specs.Slice.{limit, Small}
 use Rattle.refusal.specs.Number.{numberOf}
 use Rattle.refusal.specs.declared.Refusal.{Refusal}
-use Rattle.work.specs.Layout.{Laid, sizesOf, stateOf}
-use Rattle.work.specs.declared.operations.Work.{Work}
+use Rattle.operations.specs.Laid.{Laid, sizesOf, stateOf}
+use Rattle.operations.specs.declared.layout.Layout.{Layout}
 use Rattle.reducer.specs.declared.pass.Pass.{Pass}
 use Rattle.reducer.specs.declared.pass.Pass.the-variants as pass
 use Rattle.reducer.specs.declared.stage.Stage.{Stage}
@@ -26,15 +26,15 @@ use Rattle.reducer.specs.declared.reduction.Reduction.the-variants as re
 -- ---- what a stage starts from
 
 -- the matrix that the slice w holds
-abbrev pub matrixOf : Work → List ℤ → Matrix
+abbrev pub matrixOf : Layout → List ℤ → Matrix
 matrixOf W w = entry (stateOf W w .matrix)
 
 -- the rows above k are finished: they have no nonzero entry from column k on
-abbrev pub RowsDone : Work → ℕ → List ℤ → Type 0
+abbrev pub RowsDone : Layout → ℕ → List ℤ → Type 0
 RowsDone W k w = stage-laws.RowsDone (W .matrix .width) k (matrixOf W w)
 
 -- letter a of stage k
-pub record Begun (W : Work) (k : ℕ) (w : List ℤ) : Type 0 where
+pub record Begun (W : Layout) (k : ℕ) (w : List ℤ) : Type 0 where
   pub laid : Laid (length w) W
   pub small : Small w
   pub row-bound : k ≤ W .matrix .lines
@@ -42,14 +42,14 @@ pub record Begun (W : Work) (k : ℕ) (w : List ℤ) : Type 0 where
   pub rows-done : RowsDone W k w
 
 -- letter c: the pivot is positive
-pub record Placed (W : Work) (k : ℕ) (w : List ℤ) : Type 0 where
+pub record Placed (W : Layout) (k : ℕ) (w : List ℤ) : Type 0 where
   pub laid : Laid (length w) W
   pub small : Small w
   pub ready : ReadyC (sizesOf W) k (stateOf W w)
   pub rows-done : RowsDone W k w
 
 -- letter d: column k is zero off the pivot
-pub record ColumnClear (W : Work) (k : ℕ) (w : List ℤ) : Type 0 where
+pub record ColumnClear (W : Layout) (k : ℕ) (w : List ℤ) : Type 0 where
   pub laid : Laid (length w) W
   pub small : Small w
   pub ready : ReadyD (sizesOf W) k (stateOf W w)
@@ -58,19 +58,19 @@ pub record ColumnClear (W : Work) (k : ℕ) (w : List ℤ) : Type 0 where
 -- ---- what the steps make of the slice w
 
 -- step b, for the entry at (i, j)
-abbrev pub bringOf : Work → ℕ → ℕ → ℕ → List ℤ → Outcome
+abbrev pub bringOf : Layout → ℕ → ℕ → ℕ → List ℤ → Outcome
 bringOf W k i j w = bring limit (sizesOf W) k i j (stateOf W w)
 
 -- step c
-abbrev pub rowPassOf : Work → ℕ → List ℤ → Outcome
+abbrev pub rowPassOf : Layout → ℕ → List ℤ → Outcome
 rowPassOf W k w = rowPass limit (sizesOf W) k (W .matrix .lines - suc k) (suc k) (stateOf W w)
 
 -- step d
-abbrev pub columnPassOf : Work → ℕ → List ℤ → Outcome
+abbrev pub columnPassOf : Layout → ℕ → List ℤ → Outcome
 columnPassOf W k w = columnPass limit (sizesOf W) k (W .matrix .width - suc k) (suc k) (stateOf W w)
 
 -- the whole reduction by the pivot rule of release 1
-abbrev pub reductionOf : Work → List ℤ → Machine
+abbrev pub reductionOf : Layout → List ℤ → Machine
 reductionOf W w = reduce limit (sizesOf W) release1 (stateOf W w)
 
 -- ---- what is answered
@@ -81,57 +81,57 @@ pub record Cleared (n : ℕ) (x : Refusal) (w′ : List ℤ) : Type 0 where
   pub zeros : w′ ≡ replicate n (pos 0)
 
 -- the slice still has its length, and every entry lies within the limit
-pub record Kept (n : ℕ) (w′ : List ℤ) : Type 0 where
+pub record StillSmall (n : ℕ) (w′ : List ℤ) : Type 0 where
   pub same-length : length w′ ≡ n
   pub small : Small w′
 
 -- a pass that comes to the outcome o
-pub record PassMade (W : Work) (o : Outcome) (n : ℕ) (w′ : List ℤ) : Type 0 where
+pub record PassMade (W : Layout) (o : Outcome) (n : ℕ) (w′ : List ℤ) : Type 0 where
   pub outcome : o ≡ made (stateOf W w′)
-  pub kept : Kept n w′
+  pub kept : StillSmall n w′
 
 pub record PassRefused (o : Outcome) (n : ℕ) (x : Refusal) (w′ : List ℤ) : Type 0 where
   pub outcome : o ≡ tooWide
   pub cleared : Cleared n x w′
 
-abbrev pub Passed : Work → Outcome → ℕ → Pass → List ℤ → Type 0
+abbrev pub Passed : Layout → Outcome → ℕ → Pass → List ℤ → Type 0
 Passed W o n pass.Made w′ = PassMade W o n w′
 Passed W o n (pass.Refused x) w′ = PassRefused o n x w′
 
 -- the machine goes from x to y by the steps of document 01 under the pivot rule of release 1
-abbrev pub Goes : Work → Machine → Machine → Type 0
+abbrev pub Goes : Layout → Machine → Machine → Type 0
 Goes W x y = Reaches limit (sizesOf W) release1 x y
 
 -- stage k, entered at the machine x, leads to letter a of the next stage
-pub record StageCleared (W : Work) (k : ℕ) (x : Machine) (n : ℕ) (w′ : List ℤ) : Type 0 where
+pub record StageCleared (W : Layout) (k : ℕ) (x : Machine) (n : ℕ) (w′ : List ℤ) : Type 0 where
   pub goes : Goes W x (at a (suc k) (stateOf W w′))
   pub begun : Begun W (suc k) w′
   pub same-length : length w′ ≡ n
 
--- or the work is done with rank k
-pub record StageExhausted (W : Work) (k : ℕ) (x : Machine) (n : ℕ) (w′ : List ℤ) : Type 0 where
+-- or the layout is done with rank k
+pub record StageExhausted (W : Layout) (k : ℕ) (x : Machine) (n : ℕ) (w′ : List ℤ) : Type 0 where
   pub goes : Goes W x (done k (stateOf W w′))
-  pub kept : Kept n w′
+  pub kept : StillSmall n w′
 
 -- or it goes too wide
-pub record StageRefused (W : Work) (x : Machine) (n : ℕ) (y : Refusal) (w′ : List ℤ) : Type 0 where
+pub record StageRefused (W : Layout) (x : Machine) (n : ℕ) (y : Refusal) (w′ : List ℤ) : Type 0 where
   pub goes : Goes W x wide
   pub cleared : Cleared n y w′
 
-abbrev pub StageEnds : Work → ℕ → Machine → ℕ → Stage → List ℤ → Type 0
+abbrev pub StageEnds : Layout → ℕ → Machine → ℕ → Stage → List ℤ → Type 0
 StageEnds W k x n stage.Cleared w′ = StageCleared W k x n w′
 StageEnds W k x n stage.Exhausted w′ = StageExhausted W k x n w′
 StageEnds W k x n (stage.Refused y) w′ = StageRefused W x n y w′
 
 -- the whole reduction, which ends at the machine y
-pub record ReductionDone (W : Work) (y : Machine) (n r : ℕ) (w′ : List ℤ) : Type 0 where
+pub record ReductionDone (W : Layout) (y : Machine) (n r : ℕ) (w′ : List ℤ) : Type 0 where
   pub outcome : y ≡ done r (stateOf W w′)
-  pub kept : Kept n w′
+  pub kept : StillSmall n w′
 
 pub record ReductionRefused (y : Machine) (n : ℕ) (x : Refusal) (w′ : List ℤ) : Type 0 where
   pub outcome : y ≡ wide
   pub cleared : Cleared n x w′
 
-abbrev pub Reduces : Work → Machine → ℕ → Reduction → List ℤ → Type 0
+abbrev pub Reduces : Layout → Machine → ℕ → Reduction → List ℤ → Type 0
 Reduces W y n (reduction.Done r) w′ = ReductionDone W y n r w′
 Reduces W y n (reduction.Refused x) w′ = ReductionRefused y n x w′

@@ -2,32 +2,32 @@
 ghost use Prim.Native.Nat.{_<_};
 ghost use lib.ListN.{length};
 ghost use Rattle.lines.specs.Slice.{Small};
-ghost use Rattle.work.specs.Layout.{Laid};
+ghost use Rattle.operations.specs.Laid.{Laid};
 ghost use Rattle.reducer.specs.Answer.{bringOf, Passed};
 use crate::pass::Pass;
-use lines::line::Written;
+use lines::line::Effect;
 use lines::line::clear;
+use operations::layout::Layout;
 use refusal::Refusal;
-use work::operations::Work;
 
 // Swaps the entry at (i, j) to place (k, k), and negates row k where that is negative.
-pub fn bring_pivot(work: Work, w: &mut [i32], k: usize, i: usize, j: usize) -> Pass
-    requires { ⌜ Laid (length (now w)) work ⌝ }
+pub fn bring_pivot(layout: Layout, w: &mut [i32], k: usize, i: usize, j: usize) -> Pass
+    requires { ⌜ Laid (length (now w)) layout ⌝ }
     requires { ⌜ Small (now w) ⌝ }
-    requires { ⌜ (k < work .matrix .lines) × (k < work .matrix .width) × (i < work .matrix .lines) × (j < work .matrix .width) ⌝ }
-    ensures { λ r. ⌜ Passed work (bringOf work k i j (now (w .entry))) (length (now (w .entry))) r (now (w .exit)) ⌝ }
+    requires { ⌜ (k < layout .matrix .lines) × (k < layout .matrix .width) × (i < layout .matrix .lines) × (j < layout .matrix .width) ⌝ }
+    ensures { λ r. ⌜ Passed layout (bringOf layout k i j (now (w .entry))) (length (now (w .entry))) r (now (w .exit)) ⌝ }
 {
-    let Written::Done = work.swap_rows(w, i, k) else {
+    let Effect::Done = layout.swap_rows(w, i, k) else {
         clear(w);
         return Pass::Refused(Refusal::TooWide);
     };
-    let Written::Done = work.swap_columns(w, j, k) else {
+    let Effect::Done = layout.swap_columns(w, j, k) else {
         clear(w);
         return Pass::Refused(Refusal::TooWide);
     };
-    let m = work.matrix;
+    let m = layout.matrix;
     if m.entry(w, k, k) < 0 {
-        let Written::Done = work.negate_row(w, k) else {
+        let Effect::Done = layout.negate_row(w, k) else {
             clear(w);
             return Pass::Refused(Refusal::TooWide);
         };

@@ -1,12 +1,12 @@
 // The reduction from stage 0 to its rank.
 ghost use lib.ListN.{length};
 ghost use Rattle.lines.specs.Slice.{Small};
-ghost use Rattle.work.specs.Layout.{Laid};
+ghost use Rattle.operations.specs.Laid.{Laid};
 ghost use Rattle.reducer.specs.Answer.{reductionOf, Reduces};
 use crate::stage::Stage;
 use crate::stage::choose_pivot;
+use operations::layout::Layout;
 use refusal::Refusal;
-use work::operations::Work;
 
 // Done with the rank, or refused.
 pub enum Reduction {
@@ -15,14 +15,14 @@ pub enum Reduction {
 }
 
 // Reduces the matrix, and its companions with it, by the pivot rule of release 1.
-pub fn reduce_matrix(work: Work, w: &mut [i32]) -> Reduction
-    requires { ⌜ Laid (length (now w)) work ⌝ }
+pub fn reduce_matrix(layout: Layout, w: &mut [i32]) -> Reduction
+    requires { ⌜ Laid (length (now w)) layout ⌝ }
     requires { ⌜ Small (now w) ⌝ }
-    ensures { λ r. ⌜ Reduces work (reductionOf work (now (w .entry))) (length (now (w .entry))) r (now (w .exit)) ⌝ }
+    ensures { λ r. ⌜ Reduces layout (reductionOf layout (now (w .entry))) (length (now (w .entry))) r (now (w .exit)) ⌝ }
 {
     let mut k: usize = 0;
     loop {
-        match choose_pivot(work, w, k) {
+        match choose_pivot(layout, w, k) {
             Stage::Cleared => k = k + 1,
             Stage::Exhausted => return Reduction::Done(k),
             Stage::Refused(refusal) => return Reduction::Refused(refusal),

@@ -5,7 +5,7 @@ ghost use lib.ListN.{length};
 ghost use Rattle.lines.specs.Slice.{Small};
 ghost use Rattle.reduction_cases.specs.Layout.{slots, Slotted, LaidOut};
 use lines::matrix::Matrix;
-use work::operations::Work;
+use operations::layout::Layout;
 
 fn byte(s: &[u8], i: usize) -> u32
     requires { ⌜ i < length (now s) ⌝ }
@@ -81,14 +81,14 @@ fn write_identity(m: Matrix, w: &mut [i32])
 }
 
 // Makes every companion an identity.
-pub fn write_identities(work: Work, w: &mut [i32])
-    requires { ⌜ LaidOut work ⌝ }
+pub fn write_identities(layout: Layout, w: &mut [i32])
+    requires { ⌜ LaidOut layout ⌝ }
     requires { ⌜ length (now w) ≡ slots ⌝ }
     requires { ⌜ Small (now w) ⌝ }
     ensures { λ r. ⌜ Small (now (w .exit)) ⌝ }
 {
-    write_identity(work.row_inverse, w);
-    write_identity(work.row_follower, w);
-    write_identity(work.column_follower, w);
-    write_identity(work.column_inverse, w);
+    write_identity(layout.row_inverse, w);
+    write_identity(layout.row_follower, w);
+    write_identity(layout.column_follower, w);
+    write_identity(layout.column_inverse, w);
 }

@@ -2,7 +2,7 @@
 ghost use Prim.Native.Nat.{_≤_};
 ghost use Rattle.reduction_cases.specs.Layout.{side, Companion, LaidOut};
 use lines::matrix::Matrix;
-use work::operations::Work;
+use operations::layout::Layout;
 
 // The most rows or columns.
 pub const SIDE: usize = 8;
@@ -47,11 +47,11 @@ fn companion(at: usize, lines: usize, asked: bool) -> Matrix
 }
 
 // The places of a matrix and its companions.
-pub fn lay_out(rows: usize, columns: usize, asked: Asked) -> Work
+pub fn lay_out(rows: usize, columns: usize, asked: Asked) -> Layout
     requires { ⌜ (rows ≤ side) × (columns ≤ side) ⌝ }
     ensures { λ r. ⌜ LaidOut r ⌝ }
 {
-    Work {
+    Layout {
         matrix: Matrix {
             at: 0,
             lines: rows,

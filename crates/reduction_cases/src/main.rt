@@ -28,14 +28,14 @@ fn answer(rows: usize, columns: usize, companions: u8, entries: &[u8]) -> bool
     requires { ⌜ length (now entries) ≤ 256 ⌝ }
 {
     let asked = asked_for(companions);
-    let work = lay_out(rows, columns, asked);
+    let layout = lay_out(rows, columns, asked);
     let mut w = [0i32; SLOTS];
     if !read_entries(entries, &mut w) {
         return false;
     }
-    write_identities(work, &mut w);
-    match reduce_matrix(work, &mut w) {
-        Reduction::Done(rank) => print_reduced(rank, asked, work, &w),
+    write_identities(layout, &mut w);
+    match reduce_matrix(layout, &mut w) {
+        Reduction::Done(rank) => print_reduced(rank, asked, layout, &w),
         Reduction::Refused(_) => {
             io::write_all(STDOUT_FILENO, b"T\n");
         }

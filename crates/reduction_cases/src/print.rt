@@ -6,7 +6,7 @@ ghost use Rattle.reduction_cases.specs.Layout.{side, slots, Slotted, Lai
 use crate::layout::Asked;
 use libc::STDOUT_FILENO;
 use lines::matrix::Matrix;
-use work::operations::Work;
+use operations::layout::Layout;
 
 // Writes a space and x.
 fn print_number(x: i32) {
@@ -72,24 +72,24 @@ fn print_columns(mark: &[u8], w: &[i32], m: Matrix)
 }
 
 // Writes the rank, the matrix and the companions asked for.
-pub fn print_reduced(rank: usize, asked: Asked, work: Work, w: &[i32])
-    requires { ⌜ LaidOut work ⌝ }
+pub fn print_reduced(rank: usize, asked: Asked, layout: Layout, w: &[i32])
+    requires { ⌜ LaidOut layout ⌝ }
     requires { ⌜ length (now w) ≡ slots ⌝ }
 {
     io::write_all(STDOUT_FILENO, b"D ");
     io::print_decimal(STDOUT_FILENO, rank as u64);
     io::write_all(STDOUT_FILENO, b"\n");
-    print_rows(b"M", w, work.matrix);
+    print_rows(b"M", w, layout.matrix);
     if asked.row_follower {
-        print_rows(b"R", w, work.row_follower);
+        print_rows(b"R", w, layout.row_follower);
     }
     if asked.row_inverse {
-        print_columns(b"r", w, work.row_inverse);
+        print_columns(b"r", w, layout.row_inverse);
     }
     if asked.column_follower {
-        print_columns(b"C", w, work.column_follower);
+        print_columns(b"C", w, layout.column_follower);
     }
     if asked.column_inverse {
-        print_rows(b"c", w, work.column_inverse);
+        print_rows(b"c", w, layout.column_inverse);
     }
 }

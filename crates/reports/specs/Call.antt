@@ -8,7 +8,7 @@ use lib.ListN.{length, getD, drop, replicate}
 use lib.IntN.{ℤ, pos, natAbs}
 use Rattle.matrices.specs.Vector.{apply}
 use Rattle.complexes.specs.Complex.{Sections, count}
-use Rattle.complexes.specs.Boundary.{rowCells, boundary}
+use Rattle.complexes.specs.Boundary.{countBelow, boundary}
 use Rattle.sheet_format.specs.Layout.{top}
 use Rattle.sheet_format.specs.Check.{sectionsOf, some, refuse, refusal}
 use Rattle.reduction_steps.specs.State.{State}
@@ -41,7 +41,7 @@ abbrev pub coordinateSlots : Sections → ℕ → ℕ
 coordinateSlots K p = count K p
 
 abbrev pub workSlots : Sections → ℕ → ℕ
-workSlots K p = count K p * (2 * count K p + max (length (rowCells K p)) (count K (suc p)))
+workSlots K p = count K p * (2 * count K p + max (countBelow K p) (count K (suc p)))
 
 -- ---- the checks 10 to 12 of a chain
 
@@ -56,7 +56,7 @@ coefficientExceeds z = some (length z) (λ i. ltb coefficientLimit (natAbs (getD
 -- 12: the chain has a nonzero boundary
 unfoldable pub boundaryNotZero : Sections → ℕ → List ℤ → Bool
 boundaryNotZero K p z =
-    some (length (rowCells K p)) (λ i. not (eqb (natAbs (apply (count K p) (boundary K p) (λ j. getD z j (pos 0)) i)) 0))
+    some (countBelow K p) (λ i. not (eqb (natAbs (apply (count K p) (boundary K p) (λ j. getD z j (pos 0)) i)) 0))
 
 -- ---- the refusals before the reduction, in document 01's order
 

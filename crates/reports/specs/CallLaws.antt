@@ -25,7 +25,7 @@ abbrev pub call : ℕ → Reductions → (ℕ → ℕ → State → List ℤ) �
 call before R numbers output work = orRefused before output work (finished R numbers output work)
 
 -- the two reductions are done with f free generators and t orders
-pub record Counted (R : Reductions) (f t : ℕ) : Type 0 where
+pub record ReducedWith (R : Reductions) (f t : ℕ) : Type 0 where
   pub rows : ℕ
   pub rank : ℕ
   pub state : State
@@ -33,8 +33,8 @@ pub record Counted (R : Reductions) (f t : ℕ) : Type 0 where
   pub free : f ≡ freeRank rows rank
   pub torsion : t ≡ torsionCount rank state
 
-pub counted-unique : {R : Reductions} {f t f′ t′ : ℕ} → Counted R f t → Counted R f′ t′ → (f ≡ f′) × (t ≡ t′)
-counted-unique {f} {t} {f′} {t′} c d = (free, torsion)
+pub reducedWith-unique : {R : Reductions} {f t f′ t′ : ℕ} → ReducedWith R f t → ReducedWith R f′ t′ → (f ≡ f′) × (t ≡ t′)
+reducedWith-unique {f} {t} {f′} {t′} c d = (free, torsion)
   where
     same : reduced (c .rows) (c .rank) (c .state) ≡ reduced (d .rows) (d .rank) (d .state)
     same = sym (c .reductions) ∙ d .reductions
@@ -48,7 +48,7 @@ counted-unique {f} {t} {f′} {t′} c d = (free, torsion)
 -- nothing was refused, and the two reductions are done
 pub record CallDone (before : ℕ) (R : Reductions) (f t : ℕ) : Type 0 where
   pub passes : before ≡ 0
-  pub counted : Counted R f t
+  pub counted : ReducedWith R f t
 
 -- refused before the reduction, or too wide
 pub data CallRefused (before : ℕ) (R : Reductions) (k : ℕ) : Type 0 where

@@ -12,16 +12,16 @@ use lib.ListN.{length, take, drop}
 use lib.Seq.{take-at}
 use lib.IntN.{ℤ}
 use Rattle.complexes.specs.Complex.{Sections, count}
-use Rattle.complexes.specs.Boundary.{rowCells}
+use Rattle.complexes.specs.Boundary.{countBelow}
 use Rattle.sheet_format.specs.Layout.{top}
 use Rattle.sheet_format.specs.Check.{sectionsOf, refusal}
 use Rattle.sheet_format.specs.CheckLaws.{refusal-zero, countExceeds-false}
-use Rattle.sheet_format.specs.SheetLaws.{count-sectionsOf, countAt-out}
+use Rattle.sheet_format.specs.SheetLaws.{count-sectionsOf, countField-out}
 use Rattle.reduction_steps.specs.State.{State}
 use Rattle.reports.specs.Reductions.{Reductions}
 use Rattle.reports.specs.Report.{reportList, coordinateList}
 use Rattle.reports.specs.Call.{done, refused, hostLimit, orElse, refusalBefore, chainRefusal, reportSlots, coordinateSlots, workSlots, reductionsOf, reportCall, coordinateCall}
-use Rattle.reports.specs.CallLaws.{call, Counted, CallRefused, earlier, wide, call-done, call-refused, call-output}
+use Rattle.reports.specs.CallLaws.{call, ReducedWith, CallRefused, earlier, wide, call-done, call-refused, call-output}
 use Rattle.reports.specs.Host.{HostCalled, numbersBytes, chainFrom, slotsIn, orRefusedWith, finishedWith, hostReport, hostCoordinates}
 
 -- ---- a host call: the refusals before the reduction, then what the reductions come to
@@ -50,7 +50,7 @@ module _ (before : ℕ) (R : Reductions) (numbers : ℕ → ℕ → State → Li
       go zero R (wide z e t) = rw e (record { number-is = sym t; output-is = refl })
       go (suc n) R (wide z e t) = absurd (omega arith)
 
-  host-done : {f t : ℕ} (many : ℕ) → before ≡ 0 → (c : Counted R f t) → length (numbers (c .rows) (c .rank) (c .state)) ≡ many
+  host-done : {f t : ℕ} (many : ℕ) → before ≡ 0 → (c : ReducedWith R f t) → length (numbers (c .rows) (c .rank) (c .state)) ≡ many
       → HostDone (hostCall before R numbers output) many (call before R numbers slots work .output) output
   unfolding finishedWith
   host-done many z c size = record { number-is = rw (z, c .reductions); output-is = bytes }
@@ -84,10 +84,10 @@ module _ (b : List ℕ) (accepted : refusal hostLimit b ≡ 0) where
     where
       go : Dec (p ≤ top) → count (sectionsOf b) p ≤ hostLimit
       go (yes h) = omega (arith, count-sectionsOf b p, countExceeds-false hostLimit b .0 (refusal-zero hostLimit b .0 accepted .counts) p h)
-      go (no h) = omega (arith, count-sectionsOf b p, countAt-out b p (omega arith))
+      go (no h) = omega (arith, count-sectionsOf b p, countField-out b p (omega arith))
 
-  rows-within : (p : ℕ) → length (rowCells (sectionsOf b) p) ≤ hostLimit
-  unfolding rowCells
+  rows-within : (p : ℕ) → countBelow (sectionsOf b) p ≤ hostLimit
+  unfolding countBelow
   rows-within zero = omega arith
   rows-within (suc p) = counts-within p
 
@@ -98,7 +98,7 @@ module _ (b : List ℕ) (accepted : refusal hostLimit b ≡ 0) where
     work-room : workSlots (sectionsOf b) p ≤ workRoom
     work-room = mul-le-mul (counts-within p) beside
       where
-        beside : 2 * count (sectionsOf b) p + max (length (rowCells (sectionsOf b) p)) (count (sectionsOf b) (suc p)) ≤ 3 * hostLimit
+        beside : 2 * count (sectionsOf b) p + max (countBelow (sectionsOf b) p) (count (sectionsOf b) (suc p)) ≤ 3 * hostLimit
         beside = omega (arith, counts-within p, max-le (rows-within p) (counts-within (suc p)))
 
 -- ---- the refusals before the reduction
@@ -149,7 +149,7 @@ module _ (b : List ℕ) (p : ℕ) (output : List ℕ) (slots work : List ℤ) (s
   report-refused k e = rw report-same (host-refused reportBefore (reductionsOf b p) reportNumbers slots work output k e)
 
   -- where the report has `many` numbers
-  pub report-done : {f t : ℕ} (many : ℕ) → reportCall hostLimit b p slots work .answer ≡ done f t → (c : Counted (reductionsOf b p) f t)
+  pub report-done : {f t : ℕ} (many : ℕ) → reportCall hostLimit b p slots work .answer ≡ done f t → (c : ReducedWith (reductionsOf b p) f t)
       → length (reportList (count (sectionsOf b) p) (c .rows) (c .rank) (c .state)) ≡ many
       → HostDone (hostReport b p output) many (reportCall hostLimit b p slots work .output) output
   unfolding reportCall reportBefore reportNumbers
@@ -196,7 +196,7 @@ module _ (b : List ℕ) (p : ℕ) (chain output : List ℕ) (z slots work : List
       rw coordinates-same (host-refused (coordinateBefore z) (reductionsOf b p) (coordinateNumbers z) slots work output k e)
 
   -- where there are `many` coordinates
-  pub coordinates-done : {f t : ℕ} (many : ℕ) → coordinateCall hostLimit b p z slots work .answer ≡ done f t → (c : Counted (reductionsOf b p) f t)
+  pub coordinates-done : {f t : ℕ} (many : ℕ) → coordinateCall hostLimit b p z slots work .answer ≡ done f t → (c : ReducedWith (reductionsOf b p) f t)
       → length (coordinateList (count (sectionsOf b) p) (c .rows) (c .state) z) ≡ many
       → HostDone (hostCoordinates b p chain output) many (coordinateCall hostLimit b p z slots work .output) output
   unfolding coordinateCall answered coordinateBefore sheetBefore coordinateNumbers

@@ -5,7 +5,7 @@ use lib.ListN.{length, drop}
 use lib.IntN.{ℤ, pos}
 use Rattle.matrices.specs.Matrix.{Matrix, mul, identity, null}
 use Rattle.complexes.specs.Complex.{Sections, count}
-use Rattle.complexes.specs.Boundary.{rowCells, boundary}
+use Rattle.complexes.specs.Boundary.{countBelow, boundary}
 use Rattle.reduction_steps.specs.Table.{Table, entry, table, tableWithin}
 use Rattle.reduction_steps.specs.State.{Sizes, State}
 use Rattle.reduction_steps.specs.Pivot.{Rule}
@@ -20,7 +20,7 @@ absent lines = table lines 0 null
 abbrev pub firstSizes : Sections → ℕ → Sizes
 firstSizes K p =
     record {
-      rows = length (rowCells K p);
+      rows = countBelow K p;
       columns = count K p;
       rowFollower = 0;
       rowInverse = 0;
@@ -31,9 +31,9 @@ firstSizes K p =
 unfoldable pub firstStart : Sections → ℕ → State
 firstStart K p =
     record {
-      matrix = table (length (rowCells K p)) (count K p) (boundary K p);
-      rowFollower = absent (length (rowCells K p));
-      rowInverse = absent (length (rowCells K p));
+      matrix = table (countBelow K p) (count K p) (boundary K p);
+      rowFollower = absent (countBelow K p);
+      rowInverse = absent (countBelow K p);
       columnFollower = table (count K p) (count K p) identity;
       columnInverse = table (count K p) (count K p) identity;
     }

@@ -11,7 +11,7 @@ use lib.Dec.{ltb}
 use lib.IntN.{ℤ}
 use Rattle.complexes.specs.Complex.{Sections}
 use Rattle.sheet_format.specs.Layout.{top}
-use Rattle.sheet_format.specs.Check.{refuse, refusal, sectionsOf, tooShort, countExceeds, offsetDiffers, lengthDiffers, verticesFall, cellsFall, faceMissing}
+use Rattle.sheet_format.specs.Check.{refuse, refusal, sectionsOf, tooShort, countExceeds, offsetDiffers, lengthDiffers, verticesDoNotRise, cellsDoNotRise, faceMissing}
 use Rattle.sheet_format.specs.CheckLaws.{refuse-zero}
 use Rattle.reports.specs.Call.{orElse, refusalBefore, chainRefusal, workSlots, chainLengthDiffers, coefficientExceeds, boundaryNotZero}
 
@@ -32,8 +32,8 @@ refusal-le limit b =
     (refuse-le 2 (countExceeds limit b) _ (omega arith)
     (refuse-le 3 (offsetDiffers b) _ (omega arith)
     (refuse-le 4 (lengthDiffers b) _ (omega arith)
-    (refuse-le 5 (verticesFall (sectionsOf b)) _ (omega arith)
-    (refuse-le 6 (cellsFall (sectionsOf b)) _ (omega arith)
+    (refuse-le 5 (verticesDoNotRise (sectionsOf b)) _ (omega arith)
+    (refuse-le 6 (cellsDoNotRise (sectionsOf b)) _ (omega arith)
     (refuse-le 7 (faceMissing (sectionsOf b)) 0 (omega arith) zero-le))))))
 
 pub refusalBefore-le : (limit : ℕ) (b : List ℕ) (p : ℕ) (slots : Sections → ℕ → ℕ) (output work : ℕ) → refusalBefore limit b p slots output work ≤ 9

@@ -16,9 +16,9 @@ abbrev pub kind : State → ℕ → ℤ
 kind x i = entry (x .matrix) i i
 
 -- the places below n whose kind is not 1, in rising order
-unfoldable pub kept : (ℕ → ℤ) → ℕ → List ℕ
-kept e zero = []
-kept e (suc n) = kept e n ++ cond (eqb (natAbs (e n)) 1) [] (n ∷ [])
+unfoldable pub reported : (ℕ → ℤ) → ℕ → List ℕ
+reported e zero = []
+reported e (suc n) = reported e n ++ cond (eqb (natAbs (e n)) 1) [] (n ∷ [])
 
 -- n coefficients of each of these columns of G, one column after another
 unfoldable pub columnsOf : Table → ℕ → List ℕ → List ℤ
@@ -33,12 +33,12 @@ freeRank s r = s - r
 
 -- the number t of orders
 unfoldable pub torsionCount : ℕ → State → ℕ
-torsionCount r x = length (kept (kind x) r)
+torsionCount r x = length (reported (kind x) r)
 
 -- b, t, the t orders in rising place, then the columns of G for the orders and after them the free ones
 unfoldable pub reportList : ℕ → ℕ → ℕ → State → List ℤ
 reportList n s r x =
-    pos (freeRank s r) ∷ pos (torsionCount r x) ∷ (map (kind x) (kept (kind x) r) ++ columnsOf (x .rowInverse) n (kept (kind x) s))
+    pos (freeRank s r) ∷ pos (torsionCount r x) ∷ (map (kind x) (reported (kind x) r) ++ columnsOf (x .rowInverse) n (reported (kind x) s))
 
 -- row i of Q times the chain z, modulo its order into 0 to order - 1; a free row, of order 0, is kept
 unfoldable pub coordinateAt : ℕ → State → List ℤ → ℕ → ℤ
@@ -46,4 +46,4 @@ coordinateAt n x z i = modulo (apply n (entry (x .rowFollower)) (λ j. getD z j 
 
 -- the coordinates of z, in the report's order
 unfoldable pub coordinateList : ℕ → ℕ → State → List ℤ → List ℤ
-coordinateList n s x z = map (coordinateAt n x z) (kept (kind x) s)
+coordinateList n s x z = map (coordinateAt n x z) (reported (kind x) s)

@@ -14,7 +14,7 @@ use Rattle.lists.specs.Tabulate.{tabulate}
 use Rattle.lists.specs.TabulateLaws.{length-tabulate, getD-tabulate}
 use Rattle.reduction_steps.specs.Table.{Table, entry}
 use Rattle.reduction_steps.specs.State.{State}
-use Rattle.reports.specs.Report.{kind, kept, columnsOf, freeRank, torsionCount, reportList, coordinateAt, coordinateList}
+use Rattle.reports.specs.Report.{kind, reported, columnsOf, freeRank, torsionCount, reportList, coordinateAt, coordinateList}
 
 -- place j of a mapped list
 getD-map-below {ℓ ℓ′} : {A : Type ℓ} {B : Type ℓ′} (f : A → B) (l : List A) (j : ℕ) (b : B) (a : A) → j < length l → getD (map f l) j b ≡ f (getD l j a)
@@ -22,13 +22,13 @@ getD-map-below f [] j b a h = absurd (omega arith)
 getD-map-below f (x ∷ l) zero b a h = refl
 getD-map-below f (x ∷ l) (suc j) b a h = getD-map-below f l j b a (omega arith)
 
--- ---- the places that are kept
+-- ---- the places that are reported
 
-pub length-kept-le : (e : ℕ → ℤ) (n : ℕ) → length (kept e n) ≤ n
-unfolding kept
-length-kept-le e zero = omega arith
-length-kept-le e (suc n) =
-    omega (arith, length-kept-le e n, length-append (kept e n) (last (eqb (natAbs (e n)) 1)), one (eqb (natAbs (e n)) 1))
+pub length-reported-le : (e : ℕ → ℤ) (n : ℕ) → length (reported e n) ≤ n
+unfolding reported
+length-reported-le e zero = omega arith
+length-reported-le e (suc n) =
+    omega (arith, length-reported-le e n, length-append (reported e n) (last (eqb (natAbs (e n)) 1)), one (eqb (natAbs (e n)) 1))
   where
     last : Bool → List ℕ
     last b = cond b [] (n ∷ [])
@@ -73,14 +73,14 @@ getD-columnsOf G n (k ∷ l) (suc j) i a b =
 -- ---- the report
 
 pub length-reportList : (n s r : ℕ) (x : State)
-    → length (reportList n s r x) ≡ 2 + (torsionCount r x + length (kept (kind x) s) * n)
+    → length (reportList n s r x) ≡ 2 + (torsionCount r x + length (reported (kind x) s) * n)
 unfolding reportList torsionCount
 length-reportList n s r x =
     omega (
       arith,
-      length-append (map (kind x) (kept (kind x) r)) (columnsOf (x .rowInverse) n (kept (kind x) s)),
-      length-map (kept (kind x) r) (kind x),
-      length-columnsOf (x .rowInverse) n (kept (kind x) s),
+      length-append (map (kind x) (reported (kind x) r)) (columnsOf (x .rowInverse) n (reported (kind x) s)),
+      length-map (reported (kind x) r) (kind x),
+      length-columnsOf (x .rowInverse) n (reported (kind x) s),
     )
 
 pub report-fits : (n s r : ℕ) (x : State) → r ≤ s → s ≤ n → length (reportList n s r x) ≤ 2 + n + n * n
@@ -89,8 +89,8 @@ report-fits n s r x a b =
     omega (
       arith,
       length-reportList n s r x,
-      length-kept-le (kind x) r,
-      mul-le-mul-right n (le-trans (length-kept-le (kind x) s) b),
+      length-reported-le (kind x) r,
+      mul-le-mul-right n (le-trans (length-reported-le (kind x) s) b),
     )
 
 two-more : (j : ℕ) → 2 + j ≡ suc (suc j)
@@ -98,10 +98,10 @@ two-more j = omega arith
 
 module _ (n s r : ℕ) (x : State) where
   orders : List ℤ
-  orders = map (kind x) (kept (kind x) r)
+  orders = map (kind x) (reported (kind x) r)
 
   columns : List ℤ
-  columns = columnsOf (x .rowInverse) n (kept (kind x) s)
+  columns = columnsOf (x .rowInverse) n (reported (kind x) s)
 
   pub getD-report-free : getD (reportList n s r x) 0 (pos 0) ≡ pos (freeRank s r)
   unfolding reportList
@@ -112,35 +112,35 @@ module _ (n s r : ℕ) (x : State) where
   getD-report-torsion = refl
 
   -- order j
-  pub getD-report-order : (j : ℕ) → j < torsionCount r x → getD (reportList n s r x) (2 + j) (pos 0) ≡ kind x (getD (kept (kind x) r) j 0)
+  pub getD-report-order : (j : ℕ) → j < torsionCount r x → getD (reportList n s r x) (2 + j) (pos 0) ≡ kind x (getD (reported (kind x) r) j 0)
   unfolding reportList torsionCount orders columns
   getD-report-order j a =
       ap (λ (t : ℕ). getD (reportList n s r x) t (pos 0)) (two-more j)
-      ∙ List·getD-append orders columns (pos 0) j (omega (arith, length-map (kept (kind x) r) (kind x)))
-      ∙ getD-map-below (kind x) (kept (kind x) r) j (pos 0) 0 a
+      ∙ List·getD-append orders columns (pos 0) j (omega (arith, length-map (reported (kind x) r) (kind x)))
+      ∙ getD-map-below (kind x) (reported (kind x) r) j (pos 0) 0 a
 
   -- coefficient i of generator j
-  pub getD-report-generator : (j i : ℕ) → j < length (kept (kind x) s) → i < n
-      → getD (reportList n s r x) (2 + torsionCount r x + j * n + i) (pos 0) ≡ entry (x .rowInverse) (getD (kept (kind x) s) j 0) i
+  pub getD-report-generator : (j i : ℕ) → j < length (reported (kind x) s) → i < n
+      → getD (reportList n s r x) (2 + torsionCount r x + j * n + i) (pos 0) ≡ entry (x .rowInverse) (getD (reported (kind x) s) j 0) i
   unfolding reportList torsionCount orders columns
   getD-report-generator j i a b =
       ap (λ (t : ℕ). getD (reportList n s r x) t (pos 0)) place
       ∙ getD-append-add orders columns (j * n + i) (pos 0)
-      ∙ getD-columnsOf (x .rowInverse) n (kept (kind x) s) j i a b
+      ∙ getD-columnsOf (x .rowInverse) n (reported (kind x) s) j i a b
     where
       place : 2 + torsionCount r x + j * n + i ≡ suc (suc (length orders + (j * n + i)))
-      place = omega (arith, length-map (kept (kind x) r) (kind x))
+      place = omega (arith, length-map (reported (kind x) r) (kind x))
 
 -- ---- the coordinates
 
-pub length-coordinateList : (n s : ℕ) (x : State) (z : List ℤ) → length (coordinateList n s x z) ≡ length (kept (kind x) s)
+pub length-coordinateList : (n s : ℕ) (x : State) (z : List ℤ) → length (coordinateList n s x z) ≡ length (reported (kind x) s)
 unfolding coordinateList
-length-coordinateList n s x z = length-map (kept (kind x) s) (coordinateAt n x z)
+length-coordinateList n s x z = length-map (reported (kind x) s) (coordinateAt n x z)
 
 pub coordinates-fit : (n s : ℕ) (x : State) (z : List ℤ) → s ≤ n → length (coordinateList n s x z) ≤ n
-coordinates-fit n s x z a = omega (arith, length-coordinateList n s x z, length-kept-le (kind x) s)
+coordinates-fit n s x z a = omega (arith, length-coordinateList n s x z, length-reported-le (kind x) s)
 
-pub getD-coordinateList : (n s : ℕ) (x : State) (z : List ℤ) (j : ℕ) → j < length (kept (kind x) s)
-    → getD (coordinateList n s x z) j (pos 0) ≡ coordinateAt n x z (getD (kept (kind x) s) j 0)
+pub getD-coordinateList : (n s : ℕ) (x : State) (z : List ℤ) (j : ℕ) → j < length (reported (kind x) s)
+    → getD (coordinateList n s x z) j (pos 0) ≡ coordinateAt n x z (getD (reported (kind x) s) j 0)
 unfolding coordinateList
-getD-coordinateList n s x z j a = getD-map-below (coordinateAt n x z) (kept (kind x) s) j (pos 0) 0 a
+getD-coordinateList n s x z j a = getD-map-below (coordinateAt n x z) (reported (kind x) s) j (pos 0) 0 a

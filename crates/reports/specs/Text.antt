@@ -12,7 +12,7 @@ use Rattle.sheet_format.specs.Check.{sectionsOf, refusal}
 use Rattle.reduction_steps.specs.Table.{entry}
 use Rattle.reduction_steps.specs.State.{State}
 use Rattle.reports.specs.Reductions.{Reductions, tooWide, reduced}
-use Rattle.reports.specs.Report.{kind, kept, freeRank, torsionCount}
+use Rattle.reports.specs.Report.{kind, reported, freeRank, torsionCount}
 use Rattle.reports.specs.Call.{hostLimit, reductionsOf}
 
 -- the decimal digits of n, of which it has at most `most`
@@ -47,7 +47,7 @@ generatorLines n x (i ∷ l) = line 71 (tabulate n (λ j. entry (x .rowInverse) 
 unfoldable pub dimensionText : ℕ → ℕ → Reductions → List ℕ
 dimensionText p n tooWide = refusalLine 13
 dimensionText p n (reduced s r x) =
-    line 72 (pos p ∷ pos (freeRank s r) ∷ pos (torsionCount r x) ∷ map (kind x) (kept (kind x) r)) ++ generatorLines n x (kept (kind x) s)
+    line 72 (pos p ∷ pos (freeRank s r) ∷ pos (torsionCount r x) ∷ map (kind x) (reported (kind x) r)) ++ generatorLines n x (reported (kind x) s)
 
 -- `more` dimensions from p on
 unfoldable pub dimensionsText : List ℕ → ℕ → ℕ → List ℕ

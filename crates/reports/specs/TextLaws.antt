@@ -13,7 +13,7 @@ use Rattle.lists.specs.TabulateLaws.{length-tabulate}
 use Rattle.reduction_steps.specs.Table.{entry}
 use Rattle.reduction_steps.specs.State.{State}
 use Rattle.reports.specs.Reductions.{reduced}
-use Rattle.reports.specs.Report.{kind, kept, columnsOf, freeRank, torsionCount, reportList}
+use Rattle.reports.specs.Report.{kind, reported, columnsOf, freeRank, torsionCount, reportList}
 use Rattle.reports.specs.Text.{decimal, spaced, line, generatorLines, generatorsText, dimensionText, reportText}
 
 pub spaced-append : (a b : List ℤ) → spaced (a ++ b) ≡ spaced a ++ spaced b
@@ -62,22 +62,22 @@ generatorsText-columns n x (i ∷ l) rest =
     column = tabulate n (λ j. entry (x .rowInverse) i j)
 
 pub reportText-reportList : (p n s r : ℕ) (x : State) (rest : List ℤ)
-    → reportText p n (torsionCount r x) (length (kept (kind x) s)) (reportList n s r x ++ rest) ≡ dimensionText p n (reduced s r x)
+    → reportText p n (torsionCount r x) (length (reported (kind x) s)) (reportList n s r x ++ rest) ≡ dimensionText p n (reduced s r x)
 unfolding reportText reportList dimensionText torsionCount
 reportText-reportList p n s r x rest =
-    ap₂ (λ (front : List ℤ) (more : List ℤ). line 72 (pos p ∷ front) ++ generatorsText n (length (kept (kind x) s)) more)
+    ap₂ (λ (front : List ℤ) (more : List ℤ). line 72 (pos p ∷ front) ++ generatorsText n (length (reported (kind x) s)) more)
     (ap (λ (all : List ℤ). take (2 + torsionCount r x) all) parts ∙ take-at front (columns ++ rest) (2 + torsionCount r x) length-front)
     (ap (λ (all : List ℤ). drop (2 + torsionCount r x) all) parts ∙ drop-at front (columns ++ rest) (2 + torsionCount r x) length-front)
-    ∙ ap (λ (more : List ℕ). line 72 (pos p ∷ front) ++ more) (generatorsText-columns n x (kept (kind x) s) rest)
+    ∙ ap (λ (more : List ℕ). line 72 (pos p ∷ front) ++ more) (generatorsText-columns n x (reported (kind x) s) rest)
   where
     front : List ℤ
-    front = pos (freeRank s r) ∷ pos (torsionCount r x) ∷ map (kind x) (kept (kind x) r)
+    front = pos (freeRank s r) ∷ pos (torsionCount r x) ∷ map (kind x) (reported (kind x) r)
 
     columns : List ℤ
-    columns = columnsOf (x .rowInverse) n (kept (kind x) s)
+    columns = columnsOf (x .rowInverse) n (reported (kind x) s)
 
     parts : reportList n s r x ++ rest ≡ front ++ (columns ++ rest)
     parts = append-assoc front columns rest
 
     length-front : length front ≡ 2 + torsionCount r x
-    length-front = omega (arith, length-map (kept (kind x) r) (kind x))
+    length-front = omega (arith, length-map (reported (kind x) r) (kind x))

@@ -1,5 +1,5 @@
 -- Loops that look for a number below n for which a test f passes: the invariant is `Passed n f i`, that f failed below i.
---     passed-none, passed-more, passed-all, found     where the loop starts, after a turn, where it ends, where it is left early
+--     passed-none, passed-more, passed-all, some-found     where the loop starts, after a turn, where it ends, where it is left early
 use mathlib.Core.Path.{_≡_, refl, sym, ap, _∙_}
 use mathlib.Core.Bool.{Bool, true, false, _||_}
 use Prim.Native.Nat.{ℕ, _+_, _≤_, _<_}
@@ -24,5 +24,5 @@ passed-more n f i h l e = record { within = add-one-le l; none = rw (add-one i) 
 pub passed-all : (n : ℕ) (f : ℕ → Bool) (i : ℕ) → Passed n f i → n ≤ i → false ≡ some n f
 passed-all n f i h l = rw (le-antisymm l (h .within)) (sym (h .none))
 
-pub found : (n : ℕ) (f : ℕ → Bool) (i : ℕ) → i < n → f i ≡ true → true ≡ some n f
-found n f i l e = sym (some-at n f i l e)
+pub some-found : (n : ℕ) (f : ℕ → Bool) (i : ℕ) → i < n → f i ≡ true → true ≡ some n f
+some-found n f i l e = sym (some-at n f i l e)

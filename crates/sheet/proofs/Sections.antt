@@ -10,7 +10,7 @@ use borrow.Author.Tests.{not-false}
 use Rattle.complexes.specs.Cell.{Cell, without, rises, precedes, listed}
 use Rattle.complexes.specs.Complex.{section, count, cell}
 use Rattle.sheet_format.specs.Layout.{top}
-use Rattle.sheet_format.specs.Check.{countAt, startAt, cellOf, cellsOf, sectionsOf, some, cellsFall}
+use Rattle.sheet_format.specs.Check.{countField, startAt, cellOf, cellsOf, sectionsOf, some, cellsDoNotRise}
 use Rattle.sheet_format.specs.CheckLaws.{some-ext, some-false}
 use Rattle.sheet_format.specs.SheetLaws.{section-sectionsOf, count-sectionsOf, cell-sectionsOf}
 use Rattle.sheet.specs.Read.{Rising}
@@ -20,7 +20,7 @@ pub record Section (b : List ℕ) (p at n many : ℕ) : Type 0 where
   pub inside : p ≤ top
   pub starts : at ≡ startAt b p
   pub vertices : n ≡ suc p
-  pub cells : many ≡ countAt b p
+  pub cells : many ≡ countField b p
 
 module _ {b : List ℕ} {p at n many : ℕ} (s : Section b p at n many) where
   many-count : many ≡ count (sectionsOf b) p
@@ -47,8 +47,8 @@ module _ {b : List ℕ} {p at n many : ℕ} (s : Section b p at n many) where
       (λ i. not (precedes (cell (sectionsOf b) p i) (cell (sectionsOf b) p (suc i))))
       (λ i l. ap₂ (λ (c d : Cell). not (precedes c d)) (cell-is i (omega (arith, sub-one many))) (cell-is (suc i) (omega (arith, sub-one many)))))
 
-  pub rising-section : cellsFall (sectionsOf b) ≡ false → Rising (cellsOf b n many at)
-  unfolding cellsFall
+  pub rising-section : cellsDoNotRise (sectionsOf b) ≡ false → Rising (cellsOf b n many at)
+  unfolding cellsDoNotRise
   rising-section e =
       let K = sectionsOf b in
       rw section-is (record {

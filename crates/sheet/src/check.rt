@@ -6,7 +6,7 @@ ghost use lib.Dec.{eqb, ltb};
 ghost use Rattle.complexes.specs.Cell as spec;
 ghost use Rattle.complexes.specs.Cell.{without, precedes, listed};
 ghost use Rattle.sheet_format.specs.Layout.{top};
-ghost use Rattle.sheet_format.specs.Check.{cellOf, cellsOf, sectionsOf, some, countExceeds, offsetDiffers, verticesFall, cellsFall, faceMissing};
+ghost use Rattle.sheet_format.specs.Check.{cellOf, cellsOf, sectionsOf, some, countExceeds, offsetDiffers, verticesDoNotRise, cellsDoNotRise, faceMissing};
 ghost use Rattle.sheet.specs.Read.{Rising};
 use crate::cell::Order;
 use crate::cell::compare;
@@ -47,7 +47,7 @@ pub fn offset_differs(s: &[u8]) -> bool
 }
 
 // Check 5 in the section of `many` cells of n vertices from byte `at` on.
-fn section_vertices_fall(s: &[u8], at: usize, n: usize, many: usize) -> bool
+fn section_vertices_do_not_rise(s: &[u8], at: usize, n: usize, many: usize) -> bool
     requires { ⌜ (at < 2 ^ 31) × (n ≤ 4) × (many < 65536) ⌝ }
     ensures { λ r. ⌜ r ≡ some many (λ i. not (spec.rises (cellOf (now (s .entry)) n (at + 2 * (n * i))))) ⌝ }
 {
@@ -62,12 +62,12 @@ fn section_vertices_fall(s: &[u8], at: usize, n: usize, many: usize) -> bool
 }
 
 // Check 5.
-pub fn vertices_fall(s: &[u8]) -> bool
-    ensures { λ r. ⌜ r ≡ verticesFall (sectionsOf (now (s .entry))) ⌝ }
+pub fn vertices_do_not_rise(s: &[u8]) -> bool
+    ensures { λ r. ⌜ r ≡ verticesDoNotRise (sectionsOf (now (s .entry))) ⌝ }
 {
     let mut p: usize = 0;
     while p <= TOP {
-        if section_vertices_fall(s, start(s, p), p + 1, count(s, p)) {
+        if section_vertices_do_not_rise(s, start(s, p), p + 1, count(s, p)) {
             return true;
         }
         p = p + 1;
@@ -88,7 +88,7 @@ fn stands_before(s: &[u8], a: usize, b: usize, n: usize) -> bool
 }
 
 // Check 6 in one section.
-fn section_cells_fall(s: &[u8], at: usize, n: usize, many: usize) -> bool
+fn section_cells_do_not_rise(s: &[u8], at: usize, n: usize, many: usize) -> bool
     requires { ⌜ (at < 2 ^ 31) × (n ≤ 4) × (many < 65536) ⌝ }
     ensures { λ r. ⌜ r ≡ some (pred many) (λ i. not (precedes (cellOf (now (s .entry)) n (at + 2 * (n * i))) (cellOf (now (s .entry)) n (at + 2 * (n * suc i))))) ⌝ }
 {
@@ -103,12 +103,12 @@ fn section_cells_fall(s: &[u8], at: usize, n: usize, many: usize) -> bool
 }
 
 // Check 6.
-pub fn cells_fall(s: &[u8]) -> bool
-    ensures { λ r. ⌜ r ≡ cellsFall (sectionsOf (now (s .entry))) ⌝ }
+pub fn cells_do_not_rise(s: &[u8]) -> bool
+    ensures { λ r. ⌜ r ≡ cellsDoNotRise (sectionsOf (now (s .entry))) ⌝ }
 {
     let mut p: usize = 0;
     while p <= TOP {
-        if section_cells_fall(s, start(s, p), p + 1, count(s, p)) {
+        if section_cells_do_not_rise(s, start(s, p), p + 1, count(s, p)) {
             return true;
         }
         p = p + 1;
@@ -150,7 +150,7 @@ fn section_misses(s: &[u8], a: usize, cells: usize, at: usize, n: usize, many: u
 
 // Check 7, on a sheet that passes check 6.
 pub fn face_missing(s: &[u8]) -> bool
-    requires { ⌜ cellsFall (sectionsOf (now s)) ≡ false ⌝ }
+    requires { ⌜ cellsDoNotRise (sectionsOf (now s)) ≡ false ⌝ }
     ensures { λ r. ⌜ r ≡ faceMissing (sectionsOf (now (s .entry))) ⌝ }
 {
     let mut p: usize = 0;

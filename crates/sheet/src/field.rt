@@ -3,7 +3,7 @@ ghost use mathlib.Core.Path.{_≡_};
 ghost use Prim.Native.Nat.{suc, _+_, _*_, _^_, _≤_, _<_};
 ghost use lib.ListN.{getD};
 ghost use Rattle.sheet_format.specs.Layout.{top};
-ghost use Rattle.sheet_format.specs.Check.{fieldAt, countAt, startAt};
+ghost use Rattle.sheet_format.specs.Check.{fieldAt, countField, startAt};
 ghost use Rattle.sheet.specs.Read.{ReadsBelow};
 
 // The highest dimension of a cell.
@@ -32,7 +32,7 @@ pub fn field(s: &[u8], i: usize) -> usize
 
 // The count of dimension p, 0 outside the sheet's dimensions.
 pub fn count(s: &[u8], p: usize) -> usize
-    ensures { λ r. ⌜ ReadsBelow 65536 (countAt (now (s .entry)) p) r ⌝ }
+    ensures { λ r. ⌜ ReadsBelow 65536 (countField (now (s .entry)) p) r ⌝ }
 {
     if p <= TOP { field(s, 4 * p) } else { 0 }
 }

@@ -2,11 +2,11 @@
 ghost use mathlib.Core.Path.{_≡_};
 ghost use Rattle.sheet_format.specs.Check.{refusal};
 ghost use Rattle.sheet.specs.Number.{readingNumber};
-use crate::check::cells_fall;
+use crate::check::cells_do_not_rise;
 use crate::check::count_exceeds;
 use crate::check::face_missing;
 use crate::check::offset_differs;
-use crate::check::vertices_fall;
+use crate::check::vertices_do_not_rise;
 use crate::field::HEADER_LENGTH;
 use crate::field::TOP;
 use crate::field::start;
@@ -61,10 +61,10 @@ impl Sheet {
         if s.len() != start(s, TOP + 1) {
             return Reading::Refused(Refusal::LengthDiffers);
         }
-        if vertices_fall(s) {
+        if vertices_do_not_rise(s) {
             return Reading::Refused(Refusal::VerticesDoNotRise);
         }
-        if cells_fall(s) {
+        if cells_do_not_rise(s) {
             return Reading::Refused(Refusal::CellsDoNotRise);
         }
         if face_missing(s) {

@@ -13,7 +13,7 @@ use lib.Seq.{ext-getD}
 use Rattle.complexes.specs.Cell.{Cell}
 use Rattle.complexes.specs.Complex.{Sections, section, count, cell, Complex}
 use Rattle.sheet_format.specs.Layout.{top, start, layout}
-use Rattle.sheet_format.specs.Check.{fieldAt, countAt, startAt, cellOf, sectionsOf, refusal}
+use Rattle.sheet_format.specs.Check.{fieldAt, countField, startAt, cellOf, sectionsOf, refusal}
 use Rattle.sheet_format.specs.Sheet.{Bytes, IsSheet}
 use Rattle.sheet_format.specs.CheckLaws.{
   Passes,
@@ -22,13 +22,13 @@ use Rattle.sheet_format.specs.CheckLaws.{
   countExceeds-false,
   offsetDiffers-false,
   lengthDiffers-false,
-  verticesFall-false,
-  cellsFall-false,
+  verticesDoNotRise-false,
+  cellsDoNotRise-false,
   faceMissing-false,
 }
-use Rattle.sheet_format.specs.SheetLaws.{countAt-in, countAt-out, countAt-below, count-beyond, count-below, length-sectionsOf, count-sectionsOf, cell-sectionsOf, length-cellOf, getD-cellOf, start-ext, start-mono, fieldAt-lt}
-use Rattle.sheet_format.specs.Pieces.{holds-self, holds-all}
-use Rattle.sheet_format.specs.LayoutLaws.{Reads, length-layout, bytes-layout, holds-layout}
+use Rattle.sheet_format.specs.SheetLaws.{countField-in, countField-out, countField-below, count-beyond, count-below, length-sectionsOf, count-sectionsOf, cell-sectionsOf, length-cellOf, getD-cellOf, start-ext, start-mono, fieldAt-lt}
+use Rattle.sheet_format.specs.Pieces.{carries-self, carries-all}
+use Rattle.sheet_format.specs.LayoutLaws.{Reads, length-layout, bytes-layout, carries-layout}
 
 -- ---- what is read from an accepted sheet
 
@@ -39,20 +39,20 @@ accepted-complex limit b h e = record {
   sized = λ p i l. ap length (at p i l) ∙ length-cellOf b (suc p) (startAt b p + 2 * (suc p * i));
   numbered = λ p i j l m. rw (at p i l, getD-cellOf b (suc p) (startAt b p + 2 * (suc p * i)) j m)
       (fieldAt-lt b h (startAt b p + 2 * (suc p * i) + 2 * j));
-  rising = λ p i l. verticesFall-false (sectionsOf b) .0 (passes .vertices) p i (below p i l) l;
-  ordered = λ p i l. cellsFall-false (sectionsOf b) .0 (passes .cells) p i (below p (suc i) l) l;
+  rising = λ p i l. verticesDoNotRise-false (sectionsOf b) .0 (passes .vertices) p i (below p i l) l;
+  ordered = λ p i l. cellsDoNotRise-false (sectionsOf b) .0 (passes .cells) p i (below p (suc i) l) l;
   closed = λ p i j l m. faceMissing-false (sectionsOf b) .0 (passes .faces) p i j (below (suc p) i l) l m;
 }
   where
     passes : Passes limit b
     passes = refusal-zero limit b .0 e
 
-    within : (p : ℕ) → Dec (p ≤ top) → countAt b p ≤ limit
+    within : (p : ℕ) → Dec (p ≤ top) → countField b p ≤ limit
     within p (yes l) = countExceeds-false limit b .0 (passes .counts) p l
-    within p (no l) = omega (arith, countAt-out b p (omega arith))
+    within p (no l) = omega (arith, countField-out b p (omega arith))
 
     below : (p i : ℕ) → i < count (sectionsOf b) p → p ≤ top
-    below p i l = countAt-below b p i (rw (count-sectionsOf b p) at l)
+    below p i l = countField-below b p i (rw (count-sectionsOf b p) at l)
 
     at : (p i : ℕ) → i < count (sectionsOf b) p → cell (sectionsOf b) p i ≡ cellOf b (suc p) (startAt b p + 2 * (suc p * i))
     at p i l = cell-sectionsOf b p i (below p i l) (rw (count-sectionsOf b p) at l)
@@ -61,16 +61,16 @@ accepted-complex limit b h e = record {
 
 module _ {limit : ℕ} {K : Sections} (complex : Complex top limit K) where
   module _ {b : List ℕ} (r : Reads b K) where
-    reads-count : (p : ℕ) → countAt b p ≡ count K p
+    reads-count : (p : ℕ) → countField b p ≡ count K p
     reads-count p = pick (decLe p top)
       where
-        pick : Dec (p ≤ top) → countAt b p ≡ count K p
-        pick (yes l) = countAt-in b p l ∙ r .counts p l
+        pick : Dec (p ≤ top) → countField b p ≡ count K p
+        pick (yes l) = countField-in b p l ∙ r .counts p l
         pick (no l) =
-            countAt-out b p (omega arith) ∙ sym (count-beyond K p (omega (arith, complex .dimensions)))
+            countField-out b p (omega arith) ∙ sym (count-beyond K p (omega (arith, complex .dimensions)))
 
     reads-start : (p : ℕ) → startAt b p ≡ start (count K) p
-    reads-start p = start-ext (countAt b) (count K) p (λ q l. reads-count q)
+    reads-start p = start-ext (countField b) (count K) p (λ q l. reads-count q)
 
     reads-cell : (p i : ℕ) → i < count K p → cell (sectionsOf b) p i ≡ cell K p i
     reads-cell p i l =
@@ -91,7 +91,7 @@ module _ {limit : ℕ} {K : Sections} (complex : Complex top limit K) where
         same p = count-sectionsOf b p ∙ reads-count p
 
   pub reads-layout : limit ≤ 256 → Reads (layout K) K
-  reads-layout small = holds-layout complex small (layout K) (bytes-layout K) .0 (holds-self (layout K))
+  reads-layout small = carries-layout complex small (layout K) (bytes-layout K) .0 (carries-self (layout K))
 
   pub sections-layout : limit ≤ 256 → sectionsOf (layout K) ≡ K
   sections-layout small = reads-sections (reads-layout small)
@@ -103,8 +103,8 @@ module _ {limit : ℕ} {K : Sections} (complex : Complex top limit K) where
     counts = countExceeds-false limit (layout K) .1 (λ p _. rw (reads-count r p) (complex .within p));
     offsets = offsetDiffers-false (layout K) .1 (λ p l. r .offsets p l ∙ sym (reads-start r p));
     ends = lengthDiffers-false (layout K) .1 (length-layout complex ∙ sym (reads-start r (suc top)));
-    vertices = rw (sections-layout small) (verticesFall-false K .1 (λ p i _ l. complex .rising p i l));
-    cells = rw (sections-layout small) (cellsFall-false K .1 (λ p i _ l. complex .ordered p i l));
+    vertices = rw (sections-layout small) (verticesDoNotRise-false K .1 (λ p i _ l. complex .rising p i l));
+    cells = rw (sections-layout small) (cellsDoNotRise-false K .1 (λ p i _ l. complex .ordered p i l));
     faces = rw (sections-layout small) (faceMissing-false K .1 (λ p i j _ l m. complex .closed p i j l m));
   })
     where
@@ -118,23 +118,23 @@ layout-injective small k l e = sym (sections-layout k small) ∙ ap sectionsOf e
 
 accepted-reads : (limit : ℕ) (b : List ℕ) → refusal limit b ≡ 0 → Reads b (sectionsOf b)
 accepted-reads limit b e = record {
-  counts = λ p l. sym (countAt-in b p l) ∙ sym (count-sectionsOf b p);
+  counts = λ p l. sym (countField-in b p l) ∙ sym (count-sectionsOf b p);
   offsets = λ p l. offsetDiffers-false b .0 (refusal-zero limit b .0 e .offsets) p l ∙ starts p;
   vertices = λ p i j l m.
-      let k : i < countAt b p = rw (count-sectionsOf b p) at l in
+      let k : i < countField b p = rw (count-sectionsOf b p) at l in
       ap (λ (s : ℕ). fieldAt b (s + 2 * (suc p * i) + 2 * j)) (sym (starts p))
       ∙ sym (getD-cellOf b (suc p) (startAt b p + 2 * (suc p * i)) j m)
-      ∙ ap (λ (c : Cell). getD c j 0) (sym (cell-sectionsOf b p i (countAt-below b p i k) k));
+      ∙ ap (λ (c : Cell). getD c j 0) (sym (cell-sectionsOf b p i (countField-below b p i k) k));
 }
   where
     starts : (p : ℕ) → startAt b p ≡ start (count (sectionsOf b)) p
-    starts p = start-ext (countAt b) (count (sectionsOf b)) p (λ q _. sym (count-sectionsOf b q))
+    starts p = start-ext (countField b) (count (sectionsOf b)) p (λ q _. sym (count-sectionsOf b q))
 
 pub layout-sections : (limit : ℕ) → limit ≤ 256 → (b : List ℕ) → Bytes b → refusal limit b ≡ 0 → layout (sectionsOf b) ≡ b
 layout-sections limit small b h e =
-    holds-all b (layout (sectionsOf b)) (holds-layout complex small b h .1 (accepted-reads limit b e))
+    carries-all b (layout (sectionsOf b)) (carries-layout complex small b h .1 (accepted-reads limit b e))
     (length-layout complex
-    ∙ start-ext (count (sectionsOf b)) (countAt b) (suc top) (λ q _. count-sectionsOf b q)
+    ∙ start-ext (count (sectionsOf b)) (countField b) (suc top) (λ q _. count-sectionsOf b q)
     ∙ sym (lengthDiffers-false b .0 (refusal-zero limit b .0 e .ends)))
   where
     complex : Complex top limit (sectionsOf b)

@@ -16,16 +16,16 @@ abbrev pub fieldAt : List ℕ → ℕ → ℕ
 fieldAt b i = getD b i 0 + 256 * getD b (suc i) 0
 
 -- n_p; a count outside the sheet's dimensions is 0
-unfoldable pub countAt : List ℕ → ℕ → ℕ
-countAt b p = cond (leb p top) (fieldAt b (4 * p)) 0
+unfoldable pub countField : List ℕ → ℕ → ℕ
+countField b p = cond (leb p top) (fieldAt b (4 * p)) 0
 
 -- the offset of section p in the header
-unfoldable pub offsetAt : List ℕ → ℕ → ℕ
-offsetAt b p = fieldAt b (4 * p + 2)
+unfoldable pub offsetField : List ℕ → ℕ → ℕ
+offsetField b p = fieldAt b (4 * p + 2)
 
 -- where section p must start
 abbrev pub startAt : List ℕ → ℕ → ℕ
-startAt b p = start (countAt b) p
+startAt b p = start (countField b) p
 
 -- the cell of n vertices at byte `at`
 unfoldable pub cellOf : List ℕ → ℕ → ℕ → Cell
@@ -37,7 +37,7 @@ cellsOf b n many at = tabulate many (λ i. cellOf b n (at + 2 * (n * i)))
 
 -- all the cells of the sheet
 unfoldable pub sectionsOf : List ℕ → Sections
-sectionsOf b = tabulate (suc top) (λ p. cellsOf b (suc p) (countAt b p) (startAt b p))
+sectionsOf b = tabulate (suc top) (λ p. cellsOf b (suc p) (countField b p) (startAt b p))
 
 -- ---- the checks
 
@@ -52,23 +52,23 @@ tooShort b = ltb (length b) headerLength
 
 -- 2: a count exceeds its limit
 abbrev pub countExceeds : ℕ → List ℕ → Bool
-countExceeds limit b = some (suc top) (λ p. ltb limit (countAt b p))
+countExceeds limit b = some (suc top) (λ p. ltb limit (countField b p))
 
 -- 3: an offset differs from the one required
 abbrev pub offsetDiffers : List ℕ → Bool
-offsetDiffers b = some (suc top) (λ p. not (eqb (offsetAt b p) (startAt b p)))
+offsetDiffers b = some (suc top) (λ p. not (eqb (offsetField b p) (startAt b p)))
 
 -- 4: the length differs from the one required
 abbrev pub lengthDiffers : List ℕ → Bool
 lengthDiffers b = not (eqb (length b) (startAt b (suc top)))
 
 -- 5: in some cell the vertices do not rise strictly
-unfoldable pub verticesFall : Sections → Bool
-verticesFall K = some (suc top) (λ p. some (count K p) (λ i. not (rises (cell K p i))))
+unfoldable pub verticesDoNotRise : Sections → Bool
+verticesDoNotRise K = some (suc top) (λ p. some (count K p) (λ i. not (rises (cell K p i))))
 
 -- 6: in some section the cells do not rise strictly
-unfoldable pub cellsFall : Sections → Bool
-cellsFall K = some (suc top) (λ p. some (pred (count K p)) (λ i. not (precedes (cell K p i) (cell K p (suc i)))))
+unfoldable pub cellsDoNotRise : Sections → Bool
+cellsDoNotRise K = some (suc top) (λ p. some (pred (count K p)) (λ i. not (precedes (cell K p i) (cell K p (suc i)))))
 
 -- 7: a face is missing
 unfoldable pub faceMissing : Sections → Bool
@@ -87,6 +87,6 @@ refusal limit b =
     (refuse 2 (countExceeds limit b)
     (refuse 3 (offsetDiffers b)
     (refuse 4 (lengthDiffers b)
-    (refuse 5 (verticesFall (sectionsOf b))
-    (refuse 6 (cellsFall (sectionsOf b))
+    (refuse 5 (verticesDoNotRise (sectionsOf b))
+    (refuse 6 (cellsDoNotRise (sectionsOf b))
     (refuse 7 (faceMissing (sectionsOf b)) 0))))))

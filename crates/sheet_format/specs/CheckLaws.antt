@@ -17,7 +17,7 @@ use Rattle.complexes.specs.Cell.{Cell, without, rises, precedes, listed, Listed
 use Rattle.complexes.specs.Complex.{Sections, section, count, cell}
 use Rattle.complexes.specs.CellLaws.{listed-true, Listed-listed}
 use Rattle.sheet_format.specs.Layout.{top, headerLength}
-use Rattle.sheet_format.specs.Check.{countAt, offsetAt, startAt, sectionsOf, some, refuse, refusal, tooShort, countExceeds, offsetDiffers, lengthDiffers, verticesFall, cellsFall, faceMissing}
+use Rattle.sheet_format.specs.Check.{countField, offsetField, startAt, sectionsOf, some, refuse, refusal, tooShort, countExceeds, offsetDiffers, lengthDiffers, verticesDoNotRise, cellsDoNotRise, faceMissing}
 
 -- ---- some
 
@@ -95,30 +95,30 @@ some-ext (suc n) f g w = ap₂ _||_ (some-ext n f g (λ i h. w i (omega arith)))
 pub tooShort-false : (b : List ℕ) → tooShort b ≡ false ↔ headerLength ≤ length b
 tooShort-false b = (ltb-false (length b) headerLength, le-ltb (length b) headerLength)
 
-pub countExceeds-false : (limit : ℕ) (b : List ℕ) → countExceeds limit b ≡ false ↔ ((p : ℕ) → p ≤ top → countAt b p ≤ limit)
+pub countExceeds-false : (limit : ℕ) (b : List ℕ) → countExceeds limit b ≡ false ↔ ((p : ℕ) → p ≤ top → countField b p ≤ limit)
 countExceeds-false limit b =
-    let each = some-false (suc top) (λ p. ltb limit (countAt b p)) in (
-      λ e p h. ltb-false limit (countAt b p) (each .0 e p (suc-le-suc h)),
-      λ k. each .1 (λ p h. le-ltb limit (countAt b p) (k p (le-of-suc-le-suc h))),
+    let each = some-false (suc top) (λ p. ltb limit (countField b p)) in (
+      λ e p h. ltb-false limit (countField b p) (each .0 e p (suc-le-suc h)),
+      λ k. each .1 (λ p h. le-ltb limit (countField b p) (k p (le-of-suc-le-suc h))),
     )
 
 eqb-not-false : (m n : ℕ) → not (eqb m n) ≡ false ↔ m ≡ n
 eqb-not-false m n = (λ e. eqb-true m n (not-false (eqb m n) e), λ e. ap not (eq-eqb m n e))
 
-pub offsetDiffers-false : (b : List ℕ) → offsetDiffers b ≡ false ↔ ((p : ℕ) → p ≤ top → offsetAt b p ≡ startAt b p)
+pub offsetDiffers-false : (b : List ℕ) → offsetDiffers b ≡ false ↔ ((p : ℕ) → p ≤ top → offsetField b p ≡ startAt b p)
 offsetDiffers-false b =
-    let each = some-false (suc top) (λ p. not (eqb (offsetAt b p) (startAt b p))) in (
-      λ e p h. eqb-not-false (offsetAt b p) (startAt b p) .0 (each .0 e p (suc-le-suc h)),
-      λ k. each .1 (λ p h. eqb-not-false (offsetAt b p) (startAt b p) .1 (k p (le-of-suc-le-suc h))),
+    let each = some-false (suc top) (λ p. not (eqb (offsetField b p) (startAt b p))) in (
+      λ e p h. eqb-not-false (offsetField b p) (startAt b p) .0 (each .0 e p (suc-le-suc h)),
+      λ k. each .1 (λ p h. eqb-not-false (offsetField b p) (startAt b p) .1 (k p (le-of-suc-le-suc h))),
     )
 
 pub lengthDiffers-false : (b : List ℕ) → lengthDiffers b ≡ false ↔ length b ≡ startAt b (suc top)
 lengthDiffers-false b = eqb-not-false (length b) (startAt b (suc top))
 
-pub verticesFall-false : (K : Sections)
-    → verticesFall K ≡ false ↔ ((p i : ℕ) → p ≤ top → i < count K p → rises (cell K p i) ≡ true)
-unfolding verticesFall
-verticesFall-false K = (
+pub verticesDoNotRise-false : (K : Sections)
+    → verticesDoNotRise K ≡ false ↔ ((p i : ℕ) → p ≤ top → i < count K p → rises (cell K p i) ≡ true)
+unfolding verticesDoNotRise
+verticesDoNotRise-false K = (
   λ e p i h l. not-false (rises (cell K p i)) (inner p .0 (outer .0 e p (suc-le-suc h)) i l),
   λ k. outer .1 (λ p h. inner p .1 (λ i l. ap not (k p i (le-of-suc-le-suc h) l))),
 )
@@ -126,13 +126,13 @@ verticesFall-false K = (
     inner : (p : ℕ) → some (count K p) (λ i. not (rises (cell K p i))) ≡ false ↔ ((i : ℕ) → i < count K p → not (rises (cell K p i)) ≡ false)
     inner p = some-false (count K p) (λ i. not (rises (cell K p i)))
 
-    outer : verticesFall K ≡ false ↔ ((p : ℕ) → p < suc top → some (count K p) (λ i. not (rises (cell K p i))) ≡ false)
+    outer : verticesDoNotRise K ≡ false ↔ ((p : ℕ) → p < suc top → some (count K p) (λ i. not (rises (cell K p i))) ≡ false)
     outer = some-false (suc top) (λ p. some (count K p) (λ i. not (rises (cell K p i))))
 
-pub cellsFall-false : (K : Sections)
-    → cellsFall K ≡ false ↔ ((p i : ℕ) → p ≤ top → suc i < count K p → precedes (cell K p i) (cell K p (suc i)) ≡ true)
-unfolding cellsFall
-cellsFall-false K = (
+pub cellsDoNotRise-false : (K : Sections)
+    → cellsDoNotRise K ≡ false ↔ ((p i : ℕ) → p ≤ top → suc i < count K p → precedes (cell K p i) (cell K p (suc i)) ≡ true)
+unfolding cellsDoNotRise
+cellsDoNotRise-false K = (
   λ e p i h l. not-false (precedes (cell K p i) (cell K p (suc i))) (inner p .0 (outer .0 e p (suc-le-suc h)) i (omega arith)),
   λ k. outer .1 (λ p h. inner p .1 (λ i l. ap not (k p i (le-of-suc-le-suc h) (omega arith)))),
 )
@@ -141,7 +141,7 @@ cellsFall-false K = (
         ↔ ((i : ℕ) → i < pred (count K p) → not (precedes (cell K p i) (cell K p (suc i))) ≡ false)
     inner p = some-false (pred (count K p)) (λ i. not (precedes (cell K p i) (cell K p (suc i))))
 
-    outer : cellsFall K ≡ false
+    outer : cellsDoNotRise K ≡ false
         ↔ ((p : ℕ) → p < suc top → some (pred (count K p)) (λ i. not (precedes (cell K p i) (cell K p (suc i)))) ≡ false)
     outer = some-false (suc top) (λ p. some (pred (count K p)) (λ i. not (precedes (cell K p i) (cell K p (suc i)))))
 
@@ -183,8 +183,8 @@ pub record Passes (limit : ℕ) (b : List ℕ) : Type 0 where
   pub counts : countExceeds limit b ≡ false
   pub offsets : offsetDiffers b ≡ false
   pub ends : lengthDiffers b ≡ false
-  pub vertices : verticesFall (sectionsOf b) ≡ false
-  pub cells : cellsFall (sectionsOf b) ≡ false
+  pub vertices : verticesDoNotRise (sectionsOf b) ≡ false
+  pub cells : cellsDoNotRise (sectionsOf b) ≡ false
   pub faces : faceMissing (sectionsOf b) ≡ false
 
 pub refusal-zero : (limit : ℕ) (b : List ℕ) → refusal limit b ≡ 0 ↔ Passes limit b
@@ -197,8 +197,8 @@ refusal-zero limit b = (to, from)
         let k₂ = refuse-zero 1 (countExceeds limit b) _ .0 (k₁ .1) in
         let k₃ = refuse-zero 2 (offsetDiffers b) _ .0 (k₂ .1) in
         let k₄ = refuse-zero 3 (lengthDiffers b) _ .0 (k₃ .1) in
-        let k₅ = refuse-zero 4 (verticesFall (sectionsOf b)) _ .0 (k₄ .1) in
-        let k₆ = refuse-zero 5 (cellsFall (sectionsOf b)) _ .0 (k₅ .1) in
+        let k₅ = refuse-zero 4 (verticesDoNotRise (sectionsOf b)) _ .0 (k₄ .1) in
+        let k₆ = refuse-zero 5 (cellsDoNotRise (sectionsOf b)) _ .0 (k₅ .1) in
         let k₇ = refuse-zero 6 (faceMissing (sectionsOf b)) _ .0 (k₆ .1) in
         record { long = k₁ .0; counts = k₂ .0; offsets = k₃ .0; ends = k₄ .0; vertices = k₅ .0; cells = k₆ .0; faces = k₇ .0 }
 

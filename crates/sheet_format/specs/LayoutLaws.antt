@@ -1,7 +1,7 @@
 -- The layout of a complex, field by field.
 --     length-layout     its length is where the section past the last would start
 --     bytes-layout      it consists of bytes
---     holds-layout      b holds it exactly when each field of b is the one required
+--     carries-layout      b carries it exactly when each field of b is the one required
 use mathlib.Core.Path.{_≡_, refl, sym, ap, _∙_, subst, subst₂, ap₂}
 use mathlib.Core.Logic.{_↔_}
 use mathlib.Core.List.{List, [], _∷_, _++_}
@@ -13,17 +13,17 @@ use lib.ListN.{length, getD, length-append}
 use Rattle.complexes.specs.Cell.{Cell}
 use Rattle.complexes.specs.Complex.{Sections, section, count, cell, Complex}
 use Rattle.sheet_format.specs.Layout.{top, field, cellBytes, sectionBytes, sectionsBytes, start, headerBytes, layout}
-use Rattle.sheet_format.specs.Check.{fieldAt, offsetAt}
+use Rattle.sheet_format.specs.Check.{fieldAt, offsetField}
 use Rattle.sheet_format.specs.Sheet.{Bytes}
 use Rattle.sheet_format.specs.SheetLaws.{count-below, start-mono, start-le}
 use Rattle.sheet_format.specs.Pieces.{
-  Holds,
-  holds-append,
+  Carries,
+  carries-append,
   pieces,
   pieces-ext,
   Starts,
   length-pieces,
-  holds-pieces,
+  carries-pieces,
   bytes-append,
   bytes-pieces,
 }
@@ -38,10 +38,10 @@ bytes-field v = record { small = pick }
     pick (suc zero) = omega arith
     pick (suc (suc i)) = omega arith
 
-pub holds-field : (b : List ℕ) → Bytes b → (at v : ℕ) → v < 65536 → Holds b at (field v) ↔ fieldAt b at ≡ v
-holds-field b h at v l = (to, λ e. record { agree = from e })
+pub carries-field : (b : List ℕ) → Bytes b → (at v : ℕ) → v < 65536 → Carries b at (field v) ↔ fieldAt b at ≡ v
+carries-field b h at v l = (to, λ e. record { agree = from e })
   where
-    to : Holds b at (field v) → fieldAt b at ≡ v
+    to : Carries b at (field v) → fieldAt b at ≡ v
     to k =
         let low : getD b at 0 ≡ v % 256 = rw (add-zero at) at (k .agree 0 (omega arith)) in
         let high : getD b (suc at) 0 ≡ v / 256 % 256 = rw (add-one at) at (k .agree 1 (omega arith)) in
@@ -124,55 +124,55 @@ bytes-layout K = bytes-append (headerBytes (count K) 0 (suc top)) (sectionsBytes
     (rw (header-pieces (count K) (suc top)) (bytes-pieces (suc top) (entry (count K)) (λ p l. bytes-entry (count K) p)))
     (rw (sectionsBytes-pieces K) (bytes-pieces (length K) (λ p. sectionBytes (section K p)) (λ p l. bytes-sectionBytes (section K p))))
 
--- ---- what a list holds
+-- ---- what a list carries
 
-holds-cell : (b : List ℕ) → Bytes b → (at : ℕ) (c : Cell) → ((j : ℕ) → j < length c → getD c j 0 < 65536)
-    → Holds b at (cellBytes c) ↔ ((j : ℕ) → j < length c → fieldAt b (at + 2 * j) ≡ getD c j 0)
-holds-cell b h at c small = (λ k j l. one j l .0 (each .0 k j l), λ e. each .1 (λ j l. one j l .1 (e j l)))
+carries-cell : (b : List ℕ) → Bytes b → (at : ℕ) (c : Cell) → ((j : ℕ) → j < length c → getD c j 0 < 65536)
+    → Carries b at (cellBytes c) ↔ ((j : ℕ) → j < length c → fieldAt b (at + 2 * j) ≡ getD c j 0)
+carries-cell b h at c small = (λ k j l. one j l .0 (each .0 k j l), λ e. each .1 (λ j l. one j l .1 (e j l)))
   where
     starts : Starts (length c) (λ j. at + 2 * j) (λ j. field (getD c j 0))
     starts = record { next = λ j l. omega arith }
 
-    each : Holds b at (cellBytes c) ↔ ((j : ℕ) → j < length c → Holds b (at + 2 * j) (field (getD c j 0)))
+    each : Carries b at (cellBytes c) ↔ ((j : ℕ) → j < length c → Carries b (at + 2 * j) (field (getD c j 0)))
     each =
-        subst₂ (λ (i : ℕ) (s : List ℕ). Holds b i s ↔ ((j : ℕ) → j < length c → Holds b (at + 2 * j) (field (getD c j 0))))
+        subst₂ (λ (i : ℕ) (s : List ℕ). Carries b i s ↔ ((j : ℕ) → j < length c → Carries b (at + 2 * j) (field (getD c j 0))))
         (omega arith) (sym (cellBytes-pieces c))
-        (holds-pieces b (length c) (λ j. at + 2 * j) (λ j. field (getD c j 0)) starts)
+        (carries-pieces b (length c) (λ j. at + 2 * j) (λ j. field (getD c j 0)) starts)
 
-    one : (j : ℕ) → j < length c → Holds b (at + 2 * j) (field (getD c j 0)) ↔ fieldAt b (at + 2 * j) ≡ getD c j 0
-    one j l = holds-field b h (at + 2 * j) (getD c j 0) (small j l)
+    one : (j : ℕ) → j < length c → Carries b (at + 2 * j) (field (getD c j 0)) ↔ fieldAt b (at + 2 * j) ≡ getD c j 0
+    one j l = carries-field b h (at + 2 * j) (getD c j 0) (small j l)
 
-holds-section : (b : List ℕ) (at n : ℕ) (l : List Cell) → ((i : ℕ) → i < length l → length (getD l i []) ≡ n)
-    → Holds b at (sectionBytes l) ↔ ((i : ℕ) → i < length l → Holds b (at + 2 * (n * i)) (cellBytes (getD l i [])))
-holds-section b at n l sized =
-    subst₂ (λ (i : ℕ) (s : List ℕ). Holds b i s ↔ ((i : ℕ) → i < length l → Holds b (at + 2 * (n * i)) (cellBytes (getD l i []))))
+carries-section : (b : List ℕ) (at n : ℕ) (l : List Cell) → ((i : ℕ) → i < length l → length (getD l i []) ≡ n)
+    → Carries b at (sectionBytes l) ↔ ((i : ℕ) → i < length l → Carries b (at + 2 * (n * i)) (cellBytes (getD l i [])))
+carries-section b at n l sized =
+    subst₂ (λ (i : ℕ) (s : List ℕ). Carries b i s ↔ ((i : ℕ) → i < length l → Carries b (at + 2 * (n * i)) (cellBytes (getD l i []))))
     (omega arith) (sym (sectionBytes-pieces l))
-    (holds-pieces b (length l) (λ i. at + 2 * (n * i)) (λ i. cellBytes (getD l i [])) (section-starts at n l sized))
+    (carries-pieces b (length l) (λ i. at + 2 * (n * i)) (λ i. cellBytes (getD l i [])) (section-starts at n l sized))
 
-holds-header : (b : List ℕ) → Bytes b → (n : ℕ → ℕ) (more : ℕ) → ((p : ℕ) → p < more → n p < 65536) → ((p : ℕ) → p < more → start n p < 65536)
-    → Holds b 0 (headerBytes n 0 more) ↔ ((p : ℕ) → p < more → (fieldAt b (4 * p) ≡ n p) × (fieldAt b (4 * p + 2) ≡ start n p))
+carries-header : (b : List ℕ) → Bytes b → (n : ℕ → ℕ) (more : ℕ) → ((p : ℕ) → p < more → n p < 65536) → ((p : ℕ) → p < more → start n p < 65536)
+    → Carries b 0 (headerBytes n 0 more) ↔ ((p : ℕ) → p < more → (fieldAt b (4 * p) ≡ n p) × (fieldAt b (4 * p + 2) ≡ start n p))
 unfolding entry
-holds-header b h n more counts offsets = (λ k p l. one p l .0 (each .0 k p l), λ e. each .1 (λ p l. one p l .1 (e p l)))
+carries-header b h n more counts offsets = (λ k p l. one p l .0 (each .0 k p l), λ e. each .1 (λ p l. one p l .1 (e p l)))
   where
     starts : Starts more (λ p. 4 * p) (entry n)
     starts = record { next = λ p l. omega arith }
 
-    each : Holds b 0 (headerBytes n 0 more) ↔ ((p : ℕ) → p < more → Holds b (4 * p) (entry n p))
+    each : Carries b 0 (headerBytes n 0 more) ↔ ((p : ℕ) → p < more → Carries b (4 * p) (entry n p))
     each =
-        subst (λ (s : List ℕ). Holds b 0 s ↔ ((p : ℕ) → p < more → Holds b (4 * p) (entry n p))) (sym (header-pieces n more))
-        (holds-pieces b more (λ p. 4 * p) (entry n) starts)
+        subst (λ (s : List ℕ). Carries b 0 s ↔ ((p : ℕ) → p < more → Carries b (4 * p) (entry n p))) (sym (header-pieces n more))
+        (carries-pieces b more (λ p. 4 * p) (entry n) starts)
 
-    one : (p : ℕ) → p < more → Holds b (4 * p) (entry n p) ↔ (fieldAt b (4 * p) ≡ n p) × (fieldAt b (4 * p + 2) ≡ start n p)
+    one : (p : ℕ) → p < more → Carries b (4 * p) (entry n p) ↔ (fieldAt b (4 * p) ≡ n p) × (fieldAt b (4 * p + 2) ≡ start n p)
     one p l =
-        let cut = holds-append b (4 * p) (field (n p)) (field (start n p)) in
-        let low = holds-field b h (4 * p) (n p) (counts p l) in
-        let high = holds-field b h (4 * p + 2) (start n p) (offsets p l) in
+        let cut = carries-append b (4 * p) (field (n p)) (field (start n p)) in
+        let low = carries-field b h (4 * p) (n p) (counts p l) in
+        let high = carries-field b h (4 * p + 2) (start n p) (offsets p l) in
         (λ k. (low .0 (cut .0 k .0), high .0 (cut .0 k .1)), λ e. cut .1 (low .1 (e .0), high .1 (e .1)))
 
 -- each field of b is the one that the sheet of K requires
 pub record Reads (b : List ℕ) (K : Sections) : Type 0 where
   pub counts : (p : ℕ) → p ≤ top → fieldAt b (4 * p) ≡ count K p
-  pub offsets : (p : ℕ) → p ≤ top → offsetAt b p ≡ start (count K) p
+  pub offsets : (p : ℕ) → p ≤ top → offsetField b p ≡ start (count K) p
   pub vertices : (p i j : ℕ) → i < count K p → j < suc p
       → fieldAt b (start (count K) p + 2 * (suc p * i) + 2 * j) ≡ getD (cell K p i) j 0
 
@@ -197,51 +197,51 @@ module _ {limit : ℕ} {K : Sections} (complex : Complex top limit K) where
   start-small small p h =
       omega (arith, start-mono (count K) p (suc top) h, start-le (count K) limit (suc top) (λ q l. complex .within q))
 
-  holds-vertices : (b : List ℕ) → Bytes b → (at p : ℕ) → Holds b at (sectionBytes (section K p))
+  carries-vertices : (b : List ℕ) → Bytes b → (at p : ℕ) → Carries b at (sectionBytes (section K p))
       ↔ ((i j : ℕ) → i < count K p → j < suc p → fieldAt b (at + 2 * (suc p * i) + 2 * j) ≡ getD (cell K p i) j 0)
-  holds-vertices b h at p = (
+  carries-vertices b h at p = (
     λ k i j l m. one i l .0 (each .0 k i l) j (rw (complex .sized p i l) m),
     λ e. each .1 (λ i l. one i l .1 (λ j m. e i j l (rw (complex .sized p i l) at m))),
   )
     where
-      each : Holds b at (sectionBytes (section K p))
-          ↔ ((i : ℕ) → i < count K p → Holds b (at + 2 * (suc p * i)) (cellBytes (cell K p i)))
-      each = holds-section b at (suc p) (section K p) (λ i l. complex .sized p i l)
+      each : Carries b at (sectionBytes (section K p))
+          ↔ ((i : ℕ) → i < count K p → Carries b (at + 2 * (suc p * i)) (cellBytes (cell K p i)))
+      each = carries-section b at (suc p) (section K p) (λ i l. complex .sized p i l)
 
-      one : (i : ℕ) → i < count K p → Holds b (at + 2 * (suc p * i)) (cellBytes (cell K p i))
+      one : (i : ℕ) → i < count K p → Carries b (at + 2 * (suc p * i)) (cellBytes (cell K p i))
           ↔ ((j : ℕ) → j < length (cell K p i) → fieldAt b (at + 2 * (suc p * i) + 2 * j) ≡ getD (cell K p i) j 0)
       one i l =
-          holds-cell b h (at + 2 * (suc p * i)) (cell K p i) (λ j m. complex .numbered p i j l (rw (complex .sized p i l) at m))
+          carries-cell b h (at + 2 * (suc p * i)) (cell K p i) (λ j m. complex .numbered p i j l (rw (complex .sized p i l) at m))
 
-  pub holds-layout : limit ≤ 256 → (b : List ℕ) → Bytes b → Holds b 0 (layout K) ↔ Reads b K
-  unfolding layout start offsetAt
-  holds-layout small b h = (
+  pub carries-layout : limit ≤ 256 → (b : List ℕ) → Bytes b → Carries b 0 (layout K) ↔ Reads b K
+  unfolding layout start offsetField
+  carries-layout small b h = (
     λ k. record {
       counts = λ p l. header .0 (cut .0 k .0) p (suc-le-suc l) .0;
       offsets = λ p l. header .0 (cut .0 k .0) p (suc-le-suc l) .1;
       vertices = λ p i j l m.
-          holds-vertices b h (start (count K) p) p .0 (sections .0 (cut .0 k .1) p (count-below K p i l)) i j l m;
+          carries-vertices b h (start (count K) p) p .0 (sections .0 (cut .0 k .1) p (count-below K p i l)) i j l m;
     },
     λ e. cut .1 (
       header .1 (λ p l. (e .counts p (le-of-suc-le-suc l), e .offsets p (le-of-suc-le-suc l))),
-      sections .1 (λ p l. holds-vertices b h (start (count K) p) p .1 (e .vertices p)),
+      sections .1 (λ p l. carries-vertices b h (start (count K) p) p .1 (e .vertices p)),
     ),
   )
     where
-      cut : Holds b 0 (layout K) ↔ Holds b 0 (headerBytes (count K) 0 (suc top)) × Holds b (start (count K) 0) (sectionsBytes K)
+      cut : Carries b 0 (layout K) ↔ Carries b 0 (headerBytes (count K) 0 (suc top)) × Carries b (start (count K) 0) (sectionsBytes K)
       cut =
-          subst (λ (at : ℕ). Holds b 0 (layout K) ↔ Holds b 0 (headerBytes (count K) 0 (suc top)) × Holds b at (sectionsBytes K))
+          subst (λ (at : ℕ). Carries b 0 (layout K) ↔ Carries b 0 (headerBytes (count K) 0 (suc top)) × Carries b at (sectionsBytes K))
           (zero-add (length (headerBytes (count K) 0 (suc top))) ∙ length-headerBytes (count K) (suc top))
-          (holds-append b 0 (headerBytes (count K) 0 (suc top)) (sectionsBytes K))
+          (carries-append b 0 (headerBytes (count K) 0 (suc top)) (sectionsBytes K))
 
-      header : Holds b 0 (headerBytes (count K) 0 (suc top))
+      header : Carries b 0 (headerBytes (count K) 0 (suc top))
           ↔ ((p : ℕ) → p < suc top → (fieldAt b (4 * p) ≡ count K p) × (fieldAt b (4 * p + 2) ≡ start (count K) p))
       header =
-          holds-header b h (count K) (suc top) (λ p l. omega (arith, complex .within p)) (λ p l. start-small small p (omega arith))
+          carries-header b h (count K) (suc top) (λ p l. omega (arith, complex .within p)) (λ p l. start-small small p (omega arith))
 
-      sections : Holds b (start (count K) 0) (sectionsBytes K)
-          ↔ ((p : ℕ) → p < length K → Holds b (start (count K) p) (sectionBytes (section K p)))
+      sections : Carries b (start (count K) 0) (sectionsBytes K)
+          ↔ ((p : ℕ) → p < length K → Carries b (start (count K) p) (sectionBytes (section K p)))
       sections =
-          subst (λ (s : List ℕ). Holds b (start (count K) 0) s ↔ ((p : ℕ) → p < length K → Holds b (start (count K) p) (sectionBytes (section K p))))
+          subst (λ (s : List ℕ). Carries b (start (count K) 0) s ↔ ((p : ℕ) → p < length K → Carries b (start (count K) p) (sectionBytes (section K p))))
           (sym (sectionsBytes-pieces K))
-          (holds-pieces b (length K) (start (count K)) (λ p. sectionBytes (section K p)) sections-starts)
+          (carries-pieces b (length K) (start (count K)) (λ p. sectionBytes (section K p)) sections-starts)

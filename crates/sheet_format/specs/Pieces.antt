@@ -1,7 +1,7 @@
 -- Lists made of pieces, one after another, and where each piece stands.
---     Holds             the list b holds the list s from place `at` on
+--     Carries             the list b holds the list s from place `at` on
 --     pieces            part 0, .., part (n - 1), joined
---     holds-pieces      b holds the joined pieces exactly when it holds each where it starts
+--     carries-pieces      b holds the joined pieces exactly when it holds each where it starts
 --     length-pieces     the length of the joined pieces
 use mathlib.Core.Path.{_≡_, refl, sym, ap, _∙_, subst, ap₂}
 use mathlib.Core.Logic.{_↔_}
@@ -15,28 +15,28 @@ use lib.Seq.{getD-append-add, ext-getD}
 use Rattle.sheet_format.specs.Sheet.{Bytes}
 
 -- b holds s from place `at` on
-pub record Holds (b : List ℕ) (at : ℕ) (s : List ℕ) : Type 0 where
+pub record Carries (b : List ℕ) (at : ℕ) (s : List ℕ) : Type 0 where
   pub agree : (r : ℕ) → r < length s → getD b (at + r) 0 ≡ getD s r 0
 
-pub holds-self : (b : List ℕ) → Holds b 0 b
-holds-self b = record { agree = λ r h. ap (λ (i : ℕ). getD b i 0) (zero-add r) }
+pub carries-self : (b : List ℕ) → Carries b 0 b
+carries-self b = record { agree = λ r h. ap (λ (i : ℕ). getD b i 0) (zero-add r) }
 
-pub holds-all : (b s : List ℕ) → Holds b 0 s → length s ≡ length b → s ≡ b
-holds-all b s h e = ext-getD 0 s b e (λ i k. sym (h .agree i k) ∙ ap (λ (i : ℕ). getD b i 0) (zero-add i))
+pub carries-all : (b s : List ℕ) → Carries b 0 s → length s ≡ length b → s ≡ b
+carries-all b s h e = ext-getD 0 s b e (λ i k. sym (h .agree i k) ∙ ap (λ (i : ℕ). getD b i 0) (zero-add i))
 
-pub holds-append : (b : List ℕ) (at : ℕ) (s t : List ℕ) → Holds b at (s ++ t) ↔ Holds b at s × Holds b (at + length s) t
-holds-append b at s t = (λ h. (first h, second h), λ k. record { agree = λ r l. both k r (decLt r (length s)) l })
+pub carries-append : (b : List ℕ) (at : ℕ) (s t : List ℕ) → Carries b at (s ++ t) ↔ Carries b at s × Carries b (at + length s) t
+carries-append b at s t = (λ h. (first h, second h), λ k. record { agree = λ r l. both k r (decLt r (length s)) l })
   where
-    first : Holds b at (s ++ t) → Holds b at s
+    first : Carries b at (s ++ t) → Carries b at s
     first h = record { agree = λ r l. h .agree r (omega (arith, length-append s t)) ∙ List·getD-append s t 0 r l }
 
-    second : Holds b at (s ++ t) → Holds b (at + length s) t
+    second : Carries b at (s ++ t) → Carries b (at + length s) t
     second h = record {
       agree = λ r l.
           ap (λ (i : ℕ). getD b i 0) (add-assoc at (length s) r) ∙ h .agree (length s + r) (omega (arith, length-append s t)) ∙ getD-append-add s t r 0;
     }
 
-    both : Holds b at s × Holds b (at + length s) t → (r : ℕ) → Dec (r < length s) → r < length (s ++ t) → getD b (at + r) 0 ≡ getD (s ++ t) r 0
+    both : Carries b at s × Carries b (at + length s) t → (r : ℕ) → Dec (r < length s) → r < length (s ++ t) → getD b (at + r) 0 ≡ getD (s ++ t) r 0
     both k r (yes l) _ = k .0 .agree r l ∙ sym (List·getD-append s t 0 r l)
     both k r (no l) m =
         let e : length s + (r - length s) ≡ r = omega arith in
@@ -75,26 +75,26 @@ length-pieces (suc n) at part h =
       length-pieces n (λ i. at (suc i)) (λ i. part (suc i)) (starts-later n at part h),
     )
 
-pub holds-pieces : (b : List ℕ) (n : ℕ) (at : ℕ → ℕ) (part : ℕ → List ℕ) → Starts n at part
-    → Holds b (at 0) (pieces n part) ↔ ((i : ℕ) → i < n → Holds b (at i) (part i))
+pub carries-pieces : (b : List ℕ) (n : ℕ) (at : ℕ → ℕ) (part : ℕ → List ℕ) → Starts n at part
+    → Carries b (at 0) (pieces n part) ↔ ((i : ℕ) → i < n → Carries b (at i) (part i))
 unfolding pieces
-holds-pieces b zero at part h = (λ k i l. absurd (not-suc-le-zero l), λ k. record { agree = λ r l. absurd (not-suc-le-zero l) })
-holds-pieces b (suc n) at part h =
-    join (holds-pieces b n (λ i. at (suc i)) (λ i. part (suc i)) (starts-later n at part h))
+carries-pieces b zero at part h = (λ k i l. absurd (not-suc-le-zero l), λ k. record { agree = λ r l. absurd (not-suc-le-zero l) })
+carries-pieces b (suc n) at part h =
+    join (carries-pieces b n (λ i. at (suc i)) (λ i. part (suc i)) (starts-later n at part h))
   where
     step : at 1 ≡ at 0 + length (part 0)
     step = h .next 0 (zero-lt-suc n)
 
-    cut : Holds b (at 0) (part 0 ++ pieces n (λ i. part (suc i)))
-        ↔ Holds b (at 0) (part 0) × Holds b (at 0 + length (part 0)) (pieces n (λ i. part (suc i)))
-    cut = holds-append b (at 0) (part 0) (pieces n (λ i. part (suc i)))
+    cut : Carries b (at 0) (part 0 ++ pieces n (λ i. part (suc i)))
+        ↔ Carries b (at 0) (part 0) × Carries b (at 0 + length (part 0)) (pieces n (λ i. part (suc i)))
+    cut = carries-append b (at 0) (part 0) (pieces n (λ i. part (suc i)))
 
-    cases : Holds b (at 0) (part 0) → ((i : ℕ) → i < n → Holds b (at (suc i)) (part (suc i))) → (i : ℕ) → i < suc n → Holds b (at i) (part i)
+    cases : Carries b (at 0) (part 0) → ((i : ℕ) → i < n → Carries b (at (suc i)) (part (suc i))) → (i : ℕ) → i < suc n → Carries b (at i) (part i)
     cases a c zero l = a
     cases a c (suc i) l = c i (le-of-suc-le-suc l)
 
-    join : Holds b (at 1) (pieces n (λ i. part (suc i))) ↔ ((i : ℕ) → i < n → Holds b (at (suc i)) (part (suc i)))
-        → Holds b (at 0) (part 0 ++ pieces n (λ i. part (suc i))) ↔ ((i : ℕ) → i < suc n → Holds b (at i) (part i))
+    join : Carries b (at 1) (pieces n (λ i. part (suc i))) ↔ ((i : ℕ) → i < n → Carries b (at (suc i)) (part (suc i)))
+        → Carries b (at 0) (part 0 ++ pieces n (λ i. part (suc i))) ↔ ((i : ℕ) → i < suc n → Carries b (at i) (part i))
     join rest = (
       λ k. cases (cut .0 k .0) (rest .0 (rw step (cut .0 k .1))),
       λ k. cut .1 (k 0 (zero-lt-suc n), rw (← step) (rest .1 (λ i l. k (suc i) (suc-le-suc l)))),

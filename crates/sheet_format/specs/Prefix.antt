@@ -14,9 +14,9 @@ use lib.ListN.{length, take}
 use lib.Seq.{length-take-le, take-all, getD-take}
 use borrow.Author.Tests.{le-ltb, ne-eqb}
 use Rattle.sheet_format.specs.Layout.{top, headerLength, longest}
-use Rattle.sheet_format.specs.Check.{fieldAt, countAt, offsetAt, startAt, countExceeds, offsetDiffers, lengthDiffers, refuse, refusal}
+use Rattle.sheet_format.specs.Check.{fieldAt, countField, offsetField, startAt, countExceeds, offsetDiffers, lengthDiffers, refuse, refusal}
 use Rattle.sheet_format.specs.CheckLaws.{some-ext, countExceeds-false, lengthDiffers-false, refusal-zero}
-use Rattle.sheet_format.specs.SheetLaws.{countAt-in, countAt-out, start-ext, start-le}
+use Rattle.sheet_format.specs.SheetLaws.{countField-in, countField-out, start-ext, start-le}
 
 -- ---- a longer sheet
 
@@ -25,7 +25,7 @@ fourth true y z later h = refl
 fourth false y z later h = ap (λ (t : Bool). refuse 3 y (refuse 4 t later)) (h refl)
 
 start-longest : (limit : ℕ) (b : List ℕ) → countExceeds limit b ≡ false → startAt b (suc top) ≤ longest limit
-start-longest limit b e = start-le (countAt b) limit (suc top) (λ p l. countExceeds-false limit b .0 e p (le-of-suc-le-suc l))
+start-longest limit b e = start-le (countField b) limit (suc top) (λ p l. countExceeds-false limit b .0 e p (le-of-suc-le-suc l))
 
 pub accepted-length : (limit : ℕ) (b : List ℕ) → refusal limit b ≡ 0 → length b ≤ longest limit
 accepted-length limit b e =
@@ -49,28 +49,28 @@ module _ (n : ℕ) (b : List ℕ) (long : headerLength ≤ n) where
   fieldAt-take : (i : ℕ) → suc i < n → fieldAt (take n b) i ≡ fieldAt b i
   fieldAt-take i h = ap₂ (λ x y. x + 256 * y) (getD-take n b i 0 (omega arith)) (getD-take n b (suc i) 0 h)
 
-  countAt-take : (p : ℕ) → countAt (take n b) p ≡ countAt b p
-  countAt-take p = pick (decLe p top)
+  countField-take : (p : ℕ) → countField (take n b) p ≡ countField b p
+  countField-take p = pick (decLe p top)
     where
-      pick : Dec (p ≤ top) → countAt (take n b) p ≡ countAt b p
-      pick (yes l) = countAt-in (take n b) p l ∙ fieldAt-take (4 * p) (omega arith) ∙ sym (countAt-in b p l)
-      pick (no l) = countAt-out (take n b) p (omega arith) ∙ sym (countAt-out b p (omega arith))
+      pick : Dec (p ≤ top) → countField (take n b) p ≡ countField b p
+      pick (yes l) = countField-in (take n b) p l ∙ fieldAt-take (4 * p) (omega arith) ∙ sym (countField-in b p l)
+      pick (no l) = countField-out (take n b) p (omega arith) ∙ sym (countField-out b p (omega arith))
 
-  offsetAt-take : (p : ℕ) → p ≤ top → offsetAt (take n b) p ≡ offsetAt b p
-  unfolding offsetAt
-  offsetAt-take p l = fieldAt-take (4 * p + 2) (omega arith)
+  offsetField-take : (p : ℕ) → p ≤ top → offsetField (take n b) p ≡ offsetField b p
+  unfolding offsetField
+  offsetField-take p l = fieldAt-take (4 * p + 2) (omega arith)
 
   startAt-take : (p : ℕ) → startAt (take n b) p ≡ startAt b p
-  startAt-take p = start-ext (countAt (take n b)) (countAt b) p (λ q _. countAt-take q)
+  startAt-take p = start-ext (countField (take n b)) (countField b) p (λ q _. countField-take q)
 
   countExceeds-take : (limit : ℕ) → countExceeds limit (take n b) ≡ countExceeds limit b
   countExceeds-take limit =
-      some-ext (suc top) (λ p. ltb limit (countAt (take n b) p)) (λ p. ltb limit (countAt b p)) (λ p _. ap (ltb limit) (countAt-take p))
+      some-ext (suc top) (λ p. ltb limit (countField (take n b) p)) (λ p. ltb limit (countField b p)) (λ p _. ap (ltb limit) (countField-take p))
 
   offsetDiffers-take : offsetDiffers (take n b) ≡ offsetDiffers b
   offsetDiffers-take =
-      some-ext (suc top) (λ p. not (eqb (offsetAt (take n b) p) (startAt (take n b) p))) (λ p. not (eqb (offsetAt b p) (startAt b p)))
-      (λ p l. ap₂ (λ x y. not (eqb x y)) (offsetAt-take p (le-of-suc-le-suc l)) (startAt-take p))
+      some-ext (suc top) (λ p. not (eqb (offsetField (take n b) p) (startAt (take n b) p))) (λ p. not (eqb (offsetField b p) (startAt b p)))
+      (λ p l. ap₂ (λ x y. not (eqb x y)) (offsetField-take p (le-of-suc-le-suc l)) (startAt-take p))
 
 pub refusal-take : (limit : ℕ) (b : List ℕ) (n : ℕ) → longest limit < n → refusal limit (take n b) ≡ refusal limit b
 refusal-take limit b n h = pick (decLe (length b) n)

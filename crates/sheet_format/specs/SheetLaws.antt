@@ -1,6 +1,6 @@
 -- What the bytes of a sheet hold, by dimension, cell and vertex, and how large it can be.
 --     length-sectionsOf, section-sectionsOf, count-sectionsOf, cell-sectionsOf
---     start-ext, start-mono, start-le, fieldAt-lt, countAt-lt, startAt-le
+--     start-ext, start-mono, start-le, fieldAt-lt, countField-lt, startAt-le
 use mathlib.Core.Path.{_≡_, refl, sym, ap, _∙_, subst, ap₂}
 use mathlib.Core.Bool.{Bool, cond}
 use mathlib.Core.List.{List, []}
@@ -13,19 +13,19 @@ use borrow.Author.Tests.{le-leb, lt-leb}
 use Rattle.complexes.specs.Cell.{Cell}
 use Rattle.complexes.specs.Complex.{Sections, section, count, cell}
 use Rattle.sheet_format.specs.Layout.{top, headerLength, start, triangle}
-use Rattle.sheet_format.specs.Check.{fieldAt, countAt, startAt, cellOf, cellsOf, sectionsOf}
+use Rattle.sheet_format.specs.Check.{fieldAt, countField, startAt, cellOf, cellsOf, sectionsOf}
 use Rattle.sheet_format.specs.Sheet.{Bytes}
 use Rattle.lists.specs.TabulateLaws.{length-tabulate, getD-tabulate}
 
 -- ---- the counts
 
-pub countAt-in : (b : List ℕ) (p : ℕ) → p ≤ top → countAt b p ≡ fieldAt b (4 * p)
-unfolding countAt
-countAt-in b p h = ap (λ (t : Bool). cond t (fieldAt b (4 * p)) 0) (le-leb p top h)
+pub countField-in : (b : List ℕ) (p : ℕ) → p ≤ top → countField b p ≡ fieldAt b (4 * p)
+unfolding countField
+countField-in b p h = ap (λ (t : Bool). cond t (fieldAt b (4 * p)) 0) (le-leb p top h)
 
-pub countAt-out : (b : List ℕ) (p : ℕ) → top < p → countAt b p ≡ 0
-unfolding countAt
-countAt-out b p h = ap (λ (t : Bool). cond t (fieldAt b (4 * p)) 0) (lt-leb p top h)
+pub countField-out : (b : List ℕ) (p : ℕ) → top < p → countField b p ≡ 0
+unfolding countField
+countField-out b p h = ap (λ (t : Bool). cond t (fieldAt b (4 * p)) 0) (lt-leb p top h)
 
 -- a dimension that is not listed has no cells, and one with cells is listed
 pub count-beyond : (K : Sections) (p : ℕ) → length K ≤ p → count K p ≡ 0
@@ -42,11 +42,11 @@ count-below K p i h = pick (decLt p (length K))
 
 pub length-sectionsOf : (b : List ℕ) → length (sectionsOf b) ≡ suc top
 unfolding sectionsOf
-length-sectionsOf b = length-tabulate (suc top) (λ p. cellsOf b (suc p) (countAt b p) (startAt b p))
+length-sectionsOf b = length-tabulate (suc top) (λ p. cellsOf b (suc p) (countField b p) (startAt b p))
 
-pub section-sectionsOf : (b : List ℕ) (p : ℕ) → p ≤ top → section (sectionsOf b) p ≡ cellsOf b (suc p) (countAt b p) (startAt b p)
+pub section-sectionsOf : (b : List ℕ) (p : ℕ) → p ≤ top → section (sectionsOf b) p ≡ cellsOf b (suc p) (countField b p) (startAt b p)
 unfolding sectionsOf
-section-sectionsOf b p h = getD-tabulate (suc top) (λ q. cellsOf b (suc q) (countAt b q) (startAt b q)) p [] (omega arith)
+section-sectionsOf b p h = getD-tabulate (suc top) (λ q. cellsOf b (suc q) (countField b q) (startAt b q)) p [] (omega arith)
 
 pub length-cellsOf : (b : List ℕ) (n many at : ℕ) → length (cellsOf b n many at) ≡ many
 unfolding cellsOf
@@ -64,22 +64,22 @@ pub getD-cellOf : (b : List ℕ) (n at j : ℕ) → j < n → getD (cellOf b n a
 unfolding cellOf
 getD-cellOf b n at j h = getD-tabulate n (λ k. fieldAt b (at + 2 * k)) j 0 h
 
-pub count-sectionsOf : (b : List ℕ) (p : ℕ) → count (sectionsOf b) p ≡ countAt b p
+pub count-sectionsOf : (b : List ℕ) (p : ℕ) → count (sectionsOf b) p ≡ countField b p
 count-sectionsOf b p = pick (decLe p top)
   where
-    pick : Dec (p ≤ top) → count (sectionsOf b) p ≡ countAt b p
-    pick (yes h) = ap length (section-sectionsOf b p h) ∙ length-cellsOf b (suc p) (countAt b p) (startAt b p)
+    pick : Dec (p ≤ top) → count (sectionsOf b) p ≡ countField b p
+    pick (yes h) = ap length (section-sectionsOf b p h) ∙ length-cellsOf b (suc p) (countField b p) (startAt b p)
     pick (no h) =
-        count-beyond (sectionsOf b) p (omega (arith, length-sectionsOf b)) ∙ sym (countAt-out b p (omega arith))
+        count-beyond (sectionsOf b) p (omega (arith, length-sectionsOf b)) ∙ sym (countField-out b p (omega arith))
 
 -- a dimension with cells is one of the sheet's
-pub countAt-below : (b : List ℕ) (p i : ℕ) → i < countAt b p → p ≤ top
-countAt-below b p i h = omega (arith, count-below (sectionsOf b) p i (rw (count-sectionsOf b p) h), length-sectionsOf b)
+pub countField-below : (b : List ℕ) (p i : ℕ) → i < countField b p → p ≤ top
+countField-below b p i h = omega (arith, count-below (sectionsOf b) p i (rw (count-sectionsOf b p) h), length-sectionsOf b)
 
-pub cell-sectionsOf : (b : List ℕ) (p i : ℕ) → p ≤ top → i < countAt b p
+pub cell-sectionsOf : (b : List ℕ) (p i : ℕ) → p ≤ top → i < countField b p
     → cell (sectionsOf b) p i ≡ cellOf b (suc p) (startAt b p + 2 * (suc p * i))
 cell-sectionsOf b p i h k =
-    ap (λ (l : List Cell). getD l i []) (section-sectionsOf b p h) ∙ getD-cellsOf b (suc p) (countAt b p) (startAt b p) i k
+    ap (λ (l : List Cell). getD l i []) (section-sectionsOf b p h) ∙ getD-cellsOf b (suc p) (countField b p) (startAt b p) i k
 
 -- ---- where a section starts
 
@@ -107,12 +107,12 @@ start-le n limit (suc p) h =
 pub fieldAt-lt : (b : List ℕ) → Bytes b → (i : ℕ) → fieldAt b i < 65536
 fieldAt-lt b h i = omega (arith, h .small i, h .small (suc i))
 
-pub countAt-lt : (b : List ℕ) → Bytes b → (p : ℕ) → countAt b p < 65536
-countAt-lt b h p = pick (decLe p top)
+pub countField-lt : (b : List ℕ) → Bytes b → (p : ℕ) → countField b p < 65536
+countField-lt b h p = pick (decLe p top)
   where
-    pick : Dec (p ≤ top) → countAt b p < 65536
-    pick (yes k) = omega (arith, countAt-in b p k, fieldAt-lt b h (4 * p))
-    pick (no k) = omega (arith, countAt-out b p (omega arith))
+    pick : Dec (p ≤ top) → countField b p < 65536
+    pick (yes k) = omega (arith, countField-in b p k, fieldAt-lt b h (4 * p))
+    pick (no k) = omega (arith, countField-out b p (omega arith))
 
 pub startAt-le : (b : List ℕ) → Bytes b → (p : ℕ) → startAt b p ≤ headerLength + 2 * (65535 * triangle p)
-startAt-le b h p = start-le (countAt b) 65535 p (λ q k. omega (arith, countAt-lt b h q))
+startAt-le b h p = start-le (countField b) 65535 p (λ q k. omega (arith, countField-lt b h q))

@@ -9,16 +9,16 @@ use Rattle.matrices.specs.Matrix.{mul, identity, null}
 use Rattle.matrices.specs.Vector.{apply}
 use Rattle.matrices.specs.Operation.{onRows, onColumns, inverse}
 use Rattle.complexes.specs.Cell.{without, same, rises, precedes, listed}
-use Rattle.complexes.specs.Boundary.{sign, coefficient, rowCells, boundary}
+use Rattle.complexes.specs.Boundary.{sign, coefficient, countBelow, boundary}
 use Rattle.sheet_format.specs.Layout.{start}
-use Rattle.sheet_format.specs.Check.{countAt, offsetAt, cellOf, cellsOf, sectionsOf, some, verticesFall, cellsFall, faceMissing, refusal}
+use Rattle.sheet_format.specs.Check.{countField, offsetField, cellOf, cellsOf, sectionsOf, some, verticesDoNotRise, cellsDoNotRise, faceMissing, refusal}
 use Rattle.lists.specs.Same.{every, sameNumber, sameList}
 use Rattle.reduction_steps.specs.Table.{table, rowWithin, tableWithin}
 use Rattle.reduction_steps.specs.State.{follow, rowOperation, columnOperation, within, checked, andThen, onRow, onColumn}
 use Rattle.reduction_steps.specs.Pivot.{better, alongRow, downRows, release1}
 use Rattle.reduction_steps.specs.Step.{columnKeeps, rowKeeps, rowIndivisible, firstIndivisible, positive, bring, quotient, rowPass, columnPass, next, step, run, reduce}
 use Rattle.reports.specs.Reductions.{firstStart, product, secondStart, afterSecond, second, afterFirst, reductions}
-use Rattle.reports.specs.Report.{kept, columnsOf, torsionCount, reportList, coordinateAt, coordinateList}
+use Rattle.reports.specs.Report.{reported, columnsOf, torsionCount, reportList, coordinateAt, coordinateList}
 use Rattle.reports.specs.Call.{coefficientExceeds, boundaryNotZero, refusalBefore, chainRefusal, finished, reductionsOf, reportCall, coordinateCall}
 use Rattle.starred.specs.Same.{sameSlice, sameAnswer, sameCalled}
 use Rattle.starred.specs.Case.{Case, answered, good}
@@ -32,10 +32,10 @@ cases = noCellsCases ++ (reportCases ++ (coordinateCases ++ (sheetCases ++ (dime
 pub starred-sheets-and-calls : T (every good cases)
 unfolding every good sameCalled sameAnswer sameSlice sameList sameNumber
     answered reportCall coordinateCall refusalBefore chainRefusal coefficientExceeds boundaryNotZero reductionsOf finished
-    refusal countAt offsetAt cellOf cellsOf sectionsOf some verticesFall cellsFall faceMissing without same rises precedes listed start
-    reductions firstStart afterFirst second product secondStart afterSecond rowCells boundary coefficient sign
+    refusal countField offsetField cellOf cellsOf sectionsOf some verticesDoNotRise cellsDoNotRise faceMissing without same rises precedes listed start
+    reductions firstStart afterFirst second product secondStart afterSecond countBelow boundary coefficient sign
     reduce run step next bring positive quotient rowPass columnPass columnKeeps rowKeeps rowIndivisible firstIndivisible
     release1 downRows alongRow better onRow onColumn checked andThen within rowOperation columnOperation follow tableWithin rowWithin table
     onRows onColumns inverse identity null mul apply sum floor modulo divides tabulate
-    reportList coordinateList coordinateAt torsionCount columnsOf kept
+    reportList coordinateList coordinateAt torsionCount columnsOf reported
 starred-sheets-and-calls = tt

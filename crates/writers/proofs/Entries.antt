@@ -7,7 +7,7 @@ use Rattle.reduction_steps.specs.Table.{entry}
 use Rattle.reduction_laws.specs.Tables.{entry-table, entry-table-right}
 use Rattle.lines.specs.Matrices.{contents}
 use Rattle.lines.specs.declared.matrix.Matrix.{Matrix}
-use Rattle.work.specs.Layout.{linesOf}
+use Rattle.operations.specs.Laid.{linesOf}
 
 module _ (M : Matrix) (w : List ℤ) (i j : ℕ) where
   pub entry-lines : i < M .lines → j < M .width → entry (linesOf M w) i j ≡ contents M w i j

@@ -2,10 +2,10 @@
 use Prim.Native.Nat.{ℕ}
 use native.Mathlib.Omega.{arith}
 use Rattle.lines.specs.Matrices.{Held}
-use Rattle.work.specs.Layout.{Laid}
-use Rattle.work.specs.declared.operations.Work.{Work}
+use Rattle.operations.specs.Laid.{Laid}
+use Rattle.operations.specs.declared.layout.Layout.{Layout}
 
-module _ {n : ℕ} {W : Work} (laid : Laid n W) where
+module _ {n : ℕ} {W : Layout} (laid : Laid n W) where
   pub row-follower-held : Held n (W .«row_follower»)
   row-follower-held = record { ends = omega arith }
 

@@ -1,4 +1,4 @@
--- The rows whose kind is not 1, row by row: `kept-one` and `kept-other`.
+-- The rows whose kind is not 1, row by row: `reported-one` and `reported-other`.
 -- `blocks b l` are the lists b i for the places i of l, one after another; orders, coordinates and columns of G are such: `map-blocks`,
 -- `columnsOf-blocks`.
 use mathlib.Core.Path.{_≡_, refl, sym, ap, _∙_}
@@ -15,19 +15,19 @@ use borrow.Author.Tests.{ne-eqb}
 use Rattle.integers.specs.Order.{nonneg-is}
 use Rattle.lists.specs.Tabulate.{tabulate}
 use Rattle.reduction_steps.specs.Table.{Table, entry}
-use Rattle.reports.specs.Report.{kept, columnsOf}
+use Rattle.reports.specs.Report.{reported, columnsOf}
 
 -- ---- one row more
 
 -- a row of kind 1 is dropped
-pub kept-one : (e : ℕ → ℤ) (i : ℕ) → e i ≡ pos 1 → kept e (i + 1) ≡ kept e i
-unfolding kept
-kept-one e i h = rw (add-one, h) (append-nil (kept e i))
+pub reported-one : (e : ℕ → ℤ) (i : ℕ) → e i ≡ pos 1 → reported e (i + 1) ≡ reported e i
+unfolding reported
+reported-one e i h = rw (add-one, h) (append-nil (reported e i))
 
 -- a row of another kind is kept
-pub kept-other : (e : ℕ → ℤ) (i : ℕ) → pos 0 ≤ℤ e i → e i ≢ pos 1 → kept e (i + 1) ≡ kept e i ++ (i ∷ [])
-unfolding kept
-kept-other e i h f = rw (add-one, ne-eqb (natAbs (e i)) 1 (λ k. f (nonneg-is h ∙ ap pos k)))
+pub reported-other : (e : ℕ → ℤ) (i : ℕ) → pos 0 ≤ℤ e i → e i ≢ pos 1 → reported e (i + 1) ≡ reported e i ++ (i ∷ [])
+unfolding reported
+reported-other e i h f = rw (add-one, ne-eqb (natAbs (e i)) 1 (λ k. f (nonneg-is h ∙ ap pos k)))
 
 -- ---- lists one after another
 

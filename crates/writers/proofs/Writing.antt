@@ -11,11 +11,11 @@ use lib.IntN.{ℤ, pos}
 use lib.Signed.{_≤ℤ_}
 use Rattle.lists.specs.Splice.{splice}
 use Rattle.lists.specs.SpliceLaws.{splice-nil, splice-zero, splice-set, splice-splice, length-splice}
-use Rattle.reports.specs.Report.{kept}
-use Rattle.reports.specs.ReportLaws.{length-kept-le}
+use Rattle.reports.specs.Report.{reported}
+use Rattle.reports.specs.ReportLaws.{length-reported-le}
 use Rattle.reports.specs.Call.{written}
 use Rattle.writers.specs.Written.{WrittenFrom}
-use Rattle.writers.proofs.Rows.{kept-one, kept-other, blocks, blocks-snoc, length-blocks}
+use Rattle.writers.proofs.Rows.{reported-one, reported-other, blocks, blocks-snoc, length-blocks}
 
 pub written-none : (from : ℕ) (slice : List ℤ) → WrittenFrom from [] slice from slice
 written-none from slice = record { next = omega arith; is = sym (splice-nil from slice) }
@@ -54,10 +54,10 @@ written-whole {next} {xs} {slice₀} {slice} h = h .is ∙ splice-zero xs slice�
 -- For each row below i whose kind e is not 1, the numbers b of the row have been written.
 pub record Progress (e : ℕ → ℤ) (b : ℕ → List ℤ) (n from : ℕ) (slice₀ : List ℤ) (i next : ℕ) (slice : List ℤ) : Type 0 where
   pub below : i ≤ n
-  pub so-far : WrittenFrom from (blocks b (kept e i)) slice₀ next slice
+  pub so-far : WrittenFrom from (blocks b (reported e i)) slice₀ next slice
 
 pub progress-none : (e : ℕ → ℤ) (b : ℕ → List ℤ) (n from : ℕ) (slice : List ℤ) → Progress e b n from slice 0 from slice
-unfolding kept blocks
+unfolding reported blocks
 progress-none e b n from slice = record { below = omega arith; so-far = written-none from slice }
 
 module _ {e : ℕ → ℤ} {b : ℕ → List ℤ} {n from i next : ℕ} {slice₀ slice : List ℤ} (p : Progress e b n from slice₀ i next slice) where
@@ -65,20 +65,20 @@ module _ {e : ℕ → ℤ} {b : ℕ → List ℤ} {n from i next : ℕ} {slice�
   pub progress-one : i < n → e i ≡ pos 1 → Progress e b n from slice₀ (i + 1) next slice
   progress-one l h = record {
     below = omega arith;
-    so-far = rw (kept-one e i h) (p .so-far);
+    so-far = rw (reported-one e i h) (p .so-far);
   }
 
   -- a row of another kind, whose numbers have been written
   pub progress-other : i < n → pos 0 ≤ℤ e i → e i ≢ pos 1 → {next′ : ℕ} {slice′ : List ℤ}
-      → WrittenFrom from (blocks b (kept e i) ++ b i) slice₀ next′ slice′ → Progress e b n from slice₀ (i + 1) next′ slice′
+      → WrittenFrom from (blocks b (reported e i) ++ b i) slice₀ next′ slice′ → Progress e b n from slice₀ (i + 1) next′ slice′
   progress-other l h f w = record {
     below = omega arith;
-    so-far = rw (kept-other e i h f, blocks-snoc b (kept e i) i) w;
+    so-far = rw (reported-other e i h f, blocks-snoc b (reported e i) i) w;
   }
 
   -- after the last row
-  pub progress-end : n ≤ i → WrittenFrom from (blocks b (kept e n)) slice₀ next slice
-  progress-end h = subst (λ (k : ℕ). WrittenFrom from (blocks b (kept e k)) slice₀ next slice) (NatL.le-antisymm (p .below) h) (p .so-far)
+  pub progress-end : n ≤ i → WrittenFrom from (blocks b (reported e n)) slice₀ next slice
+  progress-end h = subst (λ (k : ℕ). WrittenFrom from (blocks b (reported e k)) slice₀ next slice) (NatL.le-antisymm (p .below) h) (p .so-far)
 
   module _ (k : ℕ) (sizes : (j : ℕ) → length (b j) ≡ k) (room : from + n * k ≤ length slice₀) where
     -- k slots are left for the next row
@@ -87,8 +87,8 @@ module _ {e : ℕ → ℤ} {b : ℕ → List ℤ} {n from i next : ℕ} {slice�
         omega (
           arith,
           p .so-far .next,
-          length-blocks b k sizes (kept e i),
-          NatL.mul-le-mul-right k (length-kept-le e i),
+          length-blocks b k sizes (reported e i),
+          NatL.mul-le-mul-right k (length-reported-le e i),
           NatL.suc-mul i k,
           NatL.mul-le-mul-right k l,
         )
@@ -98,19 +98,19 @@ module _ {e : ℕ → ℤ} {b : ℕ → List ℤ} {n from i next : ℕ} {slice�
         written-length (p .so-far)
         (omega (
           arith,
-          length-blocks b k sizes (kept e i),
-          NatL.mul-le-mul-right k (length-kept-le e i),
+          length-blocks b k sizes (reported e i),
+          NatL.mul-le-mul-right k (length-reported-le e i),
           NatL.mul-le-mul-right k (p .below),
         ))
 
--- a line of a matrix for each row that is kept
+-- a line of a matrix for each row that is reported
 pub progress-line : {e : ℕ → ℤ} {b : ℕ → List ℤ} {n from i next : ℕ} {slice₀ slice slice′ : List ℤ} → Progress e b n from slice₀ i next slice
     → i < n → pos 0 ≤ℤ e i → e i ≢ pos 1 → from ≤ length slice₀ → (k : ℕ) → length (b i) ≡ k → slice′ ≡ splice next (b i) slice
     → Progress e b n from slice₀ (i + 1) (next + k) slice′
 progress-line {e} {b} {n} {from} {i} {next} {slice₀} {slice} {slice′} p l h g r k size is =
     progress-other p l h g (rw (is, sym size) (written-more (p .so-far) (b i) r))
 
--- one number for each row that is kept
+-- one number for each row that is reported
 pub progress-number : {e f : ℕ → ℤ} {n from i next : ℕ} {slice₀ slice : List ℤ} → Progress e (λ k. f k ∷ []) n from slice₀ i next slice
     → i < n → pos 0 ≤ℤ e i → e i ≢ pos 1 → next < length slice₀ → (y : ℤ) → y ≡ f i
     → Progress e (λ k. f k ∷ []) n from slice₀ (i + 1) (next + 1) (set slice next y)

@@ -13,7 +13,7 @@ use Rattle.reports.specs.Call.{written, libraryLimit, coefficientLimit}
 use Rattle.lines.specs.Slice.{at, Small}
 use Rattle.lines.specs.Matrices.{contents}
 use Rattle.lines.specs.declared.matrix.Matrix.{Matrix}
-use Rattle.work.specs.Layout.{Laid, linesOf, stateOf}
+use Rattle.operations.specs.Laid.{Laid, linesOf, stateOf}
 use Rattle.writers.specs.declared.reduced.Counts.{Counts}
 use Rattle.writers.specs.declared.reduced.Reduced.{Reduced}
 
@@ -36,29 +36,29 @@ pub record CopiedLine (M : Matrix) (w : List ℤ) (i from : ℕ) (slice slice′
 
 -- what the report is written from: no kind is negative, Q has no more rows than there are cells, and there is room for the report
 pub record CanReport (x : Reduced) (w : List ℤ) (m : ℕ) : Type 0 where
-  pub laid : Laid (length w) (x .work)
-  pub kinds : Kinds (x .work .matrix) w
-  pub rank-below : x .rank ≤ x .work .matrix .lines
-  pub lines-below : x .work .matrix .lines ≤ x .work .«row_inverse» .width
-  pub room : 2 + x .rank + x .work .matrix .lines * x .work .«row_inverse» .width ≤ m
+  pub laid : Laid (length w) (x .layout)
+  pub kinds : Kinds (x .layout .matrix) w
+  pub rank-below : x .rank ≤ x .layout .matrix .lines
+  pub lines-below : x .layout .matrix .lines ≤ x .layout .«row_inverse» .width
+  pub room : 2 + x .rank + x .layout .matrix .lines * x .layout .«row_inverse» .width ≤ m
 
 pub record WroteReport (x : Reduced) (w slice : List ℤ) (r : Counts) (slice′ : List ℤ) : Type 0 where
-  pub free : r .free ≡ freeRank (x .work .matrix .lines) (x .rank)
-  pub torsion : r .torsion ≡ torsionCount (x .rank) (stateOf (x .work) w)
-  pub is : slice′ ≡ written (reportList (x .work .«row_inverse» .width) (x .work .matrix .lines) (x .rank) (stateOf (x .work) w)) slice
+  pub free : r .free ≡ freeRank (x .layout .matrix .lines) (x .rank)
+  pub torsion : r .torsion ≡ torsionCount (x .rank) (stateOf (x .layout) w)
+  pub is : slice′ ≡ written (reportList (x .layout .«row_inverse» .width) (x .layout .matrix .lines) (x .rank) (stateOf (x .layout) w)) slice
 
 -- what the coordinates are written from: no kind is negative, there is room for them, and the chain is one of the dimension
 pub record CanCoordinate (x : Reduced) (w z : List ℤ) (m : ℕ) : Type 0 where
-  pub laid : Laid (length w) (x .work)
+  pub laid : Laid (length w) (x .layout)
   pub small : Small w
-  pub kinds : Kinds (x .work .matrix) w
-  pub rank-below : x .rank ≤ x .work .matrix .lines
-  pub room : x .work .matrix .lines ≤ m
-  pub width : x .work .«row_follower» .width ≡ length z
+  pub kinds : Kinds (x .layout .matrix) w
+  pub rank-below : x .rank ≤ x .layout .matrix .lines
+  pub room : x .layout .matrix .lines ≤ m
+  pub width : x .layout .«row_follower» .width ≡ length z
   pub width-within : length z ≤ libraryLimit
   pub coefficients : (j : ℕ) → natAbs (at z j) ≤ coefficientLimit
 
 pub record WroteCoordinates (x : Reduced) (w z slice : List ℤ) (r : Counts) (slice′ : List ℤ) : Type 0 where
-  pub free : r .free ≡ freeRank (x .work .matrix .lines) (x .rank)
-  pub torsion : r .torsion ≡ torsionCount (x .rank) (stateOf (x .work) w)
-  pub is : slice′ ≡ written (coordinateList (x .work .«row_follower» .width) (x .work .matrix .lines) (stateOf (x .work) w) z) slice
+  pub free : r .free ≡ freeRank (x .layout .matrix .lines) (x .rank)
+  pub torsion : r .torsion ≡ torsionCount (x .rank) (stateOf (x .layout) w)
+  pub is : slice′ ≡ written (coordinateList (x .layout .«row_follower» .width) (x .layout .matrix .lines) (stateOf (x .layout) w) z) slice

@@ -9,11 +9,11 @@ ghost use Rattle.matrices.specs.Vector.{apply};
 ghost use Rattle.reduction_steps.specs.Table.{entry};
 ghost use Rattle.lines.specs.Slice.{Small, at};
 ghost use Rattle.lines.specs.Matrices.{Held};
-ghost use Rattle.work.specs.Layout.{linesOf};
+ghost use Rattle.operations.specs.Laid.{linesOf};
 ghost use Rattle.reports.specs.Call.{libraryLimit, coefficientLimit};
 ghost use Rattle.writers.specs.Written.{CanCoordinate, WroteCoordinates};
-use crate::kind::kept_count;
 use crate::kind::kind;
+use crate::kind::reported_count;
 use crate::reduced::Counts;
 use crate::reduced::Reduced;
 use lines::matrix::Matrix;
@@ -56,8 +56,8 @@ pub fn write_coordinates(
     requires { ⌜ CanCoordinate reduced (now w) (now chain) (length (now coordinates)) ⌝ }
     ensures { λ r. ⌜ WroteCoordinates reduced (now (w .entry)) (now (chain .entry)) (now (coordinates .entry)) r (now (coordinates .exit)) ⌝ }
 {
-    let m = reduced.work.matrix;
-    let q = reduced.work.row_follower;
+    let m = reduced.layout.matrix;
+    let q = reduced.layout.row_follower;
     let rank = reduced.rank;
     let lines = m.lines;
     let mut next: usize = 0;
@@ -72,6 +72,6 @@ pub fn write_coordinates(
     }
     Counts {
         free: lines - rank,
-        torsion: kept_count(m, w, rank),
+        torsion: reported_count(m, w, rank),
     }
 }

@@ -3,7 +3,7 @@ ghost use mathlib.Core.Path.{_≡_};
 ghost use Prim.Native.Nat.{_<_, _≤_};
 ghost use lib.ListN.{length};
 ghost use Rattle.lines.specs.Matrices.{Held};
-ghost use Rattle.reports.specs.Report.{kept};
+ghost use Rattle.reports.specs.Report.{reported};
 ghost use Rattle.writers.specs.Written.{kindIn, Kinds};
 use lines::matrix::Matrix;
 
@@ -16,17 +16,17 @@ pub fn kind(m: Matrix, w: &[i32], i: usize) -> i64
 }
 
 // How many of the first n rows have another kind than 1.
-pub fn kept_count(m: Matrix, w: &[i32], n: usize) -> usize
+pub fn reported_count(m: Matrix, w: &[i32], n: usize) -> usize
     requires { ⌜ Held (length (now w)) m × (n ≤ m .lines) × Kinds m (now w) ⌝ }
-    ensures { λ r. ⌜ r ≡ length (kept (kindIn m (now (w .entry))) n) ⌝ }
+    ensures { λ r. ⌜ r ≡ length (reported (kindIn m (now (w .entry))) n) ⌝ }
 {
-    let mut found: usize = 0;
+    let mut number: usize = 0;
     let mut i: usize = 0;
     while i < n {
         if kind(m, w, i) != 1 {
-            found = found + 1;
+            number = number + 1;
         }
         i = i + 1;
     }
-    found
+    number
 }

@@ -1,9 +1,9 @@
 // What the two reductions of a dimension leave, and the report's counts.
-use work::operations::Work;
+use operations::layout::Layout;
 
 // Where the matrices of the second reduction stand in the work slice, and its rank.
 pub struct Reduced {
-    pub work: Work,
+    pub layout: Layout,
     pub rank: usize,
 }
 

@@ -4,11 +4,11 @@ ghost use mathlib.Core.List.{map};
 ghost use Prim.Native.Nat.{_+_, _*_, _<_, _≤_};
 ghost use lib.ListN.{length};
 ghost use Rattle.lines.specs.Matrices.{Held};
-ghost use Rattle.reports.specs.Report.{kept, columnsOf};
-ghost use Rattle.work.specs.Layout.{linesOf};
+ghost use Rattle.reports.specs.Report.{reported, columnsOf};
+ghost use Rattle.operations.specs.Laid.{linesOf};
 ghost use Rattle.writers.specs.Written.{kindIn, Kinds, WrittenFrom, CopiedLine, CanReport, WroteReport};
-use crate::kind::kept_count;
 use crate::kind::kind;
+use crate::kind::reported_count;
 use crate::reduced::Counts;
 use crate::reduced::Reduced;
 use lines::matrix::Matrix;
@@ -16,7 +16,7 @@ use lines::matrix::Matrix;
 // Writes the orders among the first n rows' kinds from slot `from` on, and answers the slot after them.
 fn write_orders(m: Matrix, w: &[i32], n: usize, report: &mut [i64], from: usize) -> usize
     requires { ⌜ Held (length (now w)) m × (n ≤ m .lines) × (from + n ≤ length (now report)) × Kinds m (now w) ⌝ }
-    ensures { λ r. ⌜ WrittenFrom from (map (kindIn m (now (w .entry))) (kept (kindIn m (now (w .entry))) n)) (now (report .entry)) r (now (report .exit)) ⌝ }
+    ensures { λ r. ⌜ WrittenFrom from (map (kindIn m (now (w .entry))) (reported (kindIn m (now (w .entry))) n)) (now (report .entry)) r (now (report .exit)) ⌝ }
 {
     let mut next = from;
     let mut i: usize = 0;
@@ -48,7 +48,7 @@ fn write_line(g: Matrix, w: &[i32], i: usize, report: &mut [i64], from: usize)
 // Writes the columns of G, which are lines of g, of the rows whose kind is not 1.
 fn write_generators(m: Matrix, g: Matrix, w: &[i32], report: &mut [i64], from: usize) -> usize
     requires { ⌜ Held (length (now w)) m × Held (length (now w)) g × (m .lines ≡ g .lines) × (from + g .lines * g .width ≤ length (now report)) × Kinds m (now w) ⌝ }
-    ensures { λ r. ⌜ WrittenFrom from (columnsOf (linesOf g (now (w .entry))) (g .width) (kept (kindIn m (now (w .entry))) (m .lines))) (now (report .entry)) r (now (report .exit)) ⌝ }
+    ensures { λ r. ⌜ WrittenFrom from (columnsOf (linesOf g (now (w .entry))) (g .width) (reported (kindIn m (now (w .entry))) (m .lines))) (now (report .entry)) r (now (report .exit)) ⌝ }
 {
     let lines = m.lines;
     let width = g.width;
@@ -69,10 +69,10 @@ pub fn write_report(reduced: Reduced, w: &[i32], report: &mut [i64]) -> Counts
     requires { ⌜ CanReport reduced (now w) (length (now report)) ⌝ }
     ensures { λ r. ⌜ WroteReport reduced (now (w .entry)) (now (report .entry)) r (now (report .exit)) ⌝ }
 {
-    let m = reduced.work.matrix;
-    let g = reduced.work.row_inverse;
+    let m = reduced.layout.matrix;
+    let g = reduced.layout.row_inverse;
     let rank = reduced.rank;
-    let torsion = kept_count(m, w, rank);
+    let torsion = reported_count(m, w, rank);
     let free = m.lines - rank;
     report[0] = free as i64;
     report[1] = torsion as i64;

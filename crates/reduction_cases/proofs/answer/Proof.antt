@@ -7,7 +7,7 @@ use lib.ListN.{length, replicate}
 use lib.IntN.{ℤ, pos, natAbs}
 use borrow.Author.Needs.{needs}
 use Rattle.lines.specs.Slice.{limit, at, Small}
-use Rattle.work.specs.Layout.{Laid}
+use Rattle.operations.specs.Laid.{Laid}
 use Rattle.reduction_cases.specs.Layout.{slots}
 use Rattle.reduction_cases.proofs.answer.Statement.{statement}
 use Rattle.reduction_cases.proofs.answer.Tie as tie

@@ -22,7 +22,7 @@ use Rattle.integers.specs.Order.{natAbs-mul, natAbs-zero}
 use Rattle.matrices.specs.Sum.{sum}
 use Rattle.matrices.specs.Vector.{apply}
 use Rattle.complexes.specs.Complex.{count, Complex}
-use Rattle.complexes.specs.Boundary.{rowCells, boundary}
+use Rattle.complexes.specs.Boundary.{countBelow, boundary}
 use Rattle.complexes.specs.BoundaryLaws.{boundary-small}
 use Rattle.sheet_format.specs.Layout.{top}
 use Rattle.sheet_format.specs.Check.{sectionsOf, some}
@@ -112,13 +112,13 @@ module _ {b : List ℕ} {p : ℕ} {chain : List ℤ} {j : ℕ} {sums : List ℤ}
   sum-is i l = inv .so-far i l ∙ ap (λ (n : ℕ). partial b p chain n i) (omega (arith, inv .within, given .sized))
 
   found : (i : ℕ) → i < count (sectionsOf b) p → getD sums i (pos 0) ≢ pos 0 → true ≡ boundaryNotZero (sectionsOf b) (suc p) chain
-  unfolding boundaryNotZero rowCells
+  unfolding boundaryNotZero countBelow
   found i l d =
       sym (some-at (count (sectionsOf b) p) (nonzero b p chain) i l
       (ap not (ne-eqb (natAbs (whole i)) 0 (λ e. d (sum-is i l ∙ natAbs-zero (whole i) e)))))
 
   none : ((i : ℕ) → i < count (sectionsOf b) p → getD sums i (pos 0) ≡ pos 0) → false ≡ boundaryNotZero (sectionsOf b) (suc p) chain
-  unfolding boundaryNotZero rowCells
+  unfolding boundaryNotZero countBelow
   none h =
       sym (some-false (count (sectionsOf b) p) (nonzero b p chain) .1
       (λ i l. ap not (eq-eqb (natAbs (whole i)) 0 (ap natAbs (sym (sum-is i l) ∙ h i l)))))
@@ -136,7 +136,7 @@ abbrev μ-loop2 : tie.MeasureT-loop2
 μ-loop2 s p chain sums j rows row₀ row = rows - row
 
 returns : tie.Need-returns Inv-loop μ-loop Inv-loop2 μ-loop2
-unfolding boundaryNotZero rowCells some
+unfolding boundaryNotZero countBelow some
 returns c =
     let args = c .before .before .args in
     subst (λ (n : ℕ). false ≡ boundaryNotZero (sectionsOf (now (args .s))) n (now (args .chain))) (sym (c .if1 .taken)) refl

@@ -10,12 +10,12 @@ use Rattle.complexes.specs.Complex.{count}
 use Rattle.complexes.specs.Boundary.{boundary}
 use Rattle.sheet_format.specs.Layout.{top}
 use Rattle.sheet_format.specs.Check.{sectionsOf}
-use Rattle.sheet_format.specs.SheetLaws.{count-sectionsOf, countAt-below}
+use Rattle.sheet_format.specs.SheetLaws.{count-sectionsOf, countField-below}
 use Rattle.lines.specs.Slice.{limit}
 use Rattle.lines.specs.Matrices.{contents, end, Holds, Exceeds}
 use Rattle.lines.specs.declared.matrix.Matrix.{Matrix}
-use Rattle.lines.specs.declared.line.Written.{Written}
-use Rattle.lines.specs.declared.line.Written.the-variants.{Done, TooWide}
+use Rattle.lines.specs.declared.line.Effect.{Effect}
+use Rattle.lines.specs.declared.line.Effect.the-variants.{Done, TooWide}
 use Rattle.boundaries.specs.Face.{ColumnFilled, ColumnExceeds, ColumnBecame}
 use Rattle.boundaries.proofs.Columns.{leftOf, columns-none, columns-more, columns-all}
 use Rattle.boundaries.proofs.Products.{product, contents-kept}
@@ -53,7 +53,7 @@ module _ {b : List ℕ} {p : ℕ} {q M : Matrix} {w₀ w : List ℤ} {j : ℕ} (
 
 -- a section with cells is one of the sheet's
 dimension : (b : List ℕ) (p j : ℕ) → j < count (sectionsOf b) (suc p) → p < top
-dimension b p j l = omega (arith, countAt-below b (suc p) j (rw (count-sectionsOf b (suc p)) at l))
+dimension b p j l = omega (arith, countField-below b (suc p) j (rw (count-sectionsOf b (suc p)) at l))
 
 abbrev Inv-loop : tie.InvT-loop
 Inv-loop s p q m w₀ j₀ columns w j = Invariant s p q m w₀ w j
@@ -94,12 +94,12 @@ module _ (c : tie.After-multiply-column Inv-loop μ-loop) where
   start = turn .before .before .before
 
   -- what the call leaves where it answers r
-  abbrev Left : Written → Type 0
+  abbrev Left : Effect → Type 0
   Left r =
       let args = start .args in let head = turn .before .loop in
       ColumnBecame (args .m) (head .w) (product (args .s .now) (args .p) (args .q) (head .w)) (head .j) r (c .multiply-column .last .1 .1 .1 .1 .0)
 
-  became : (r : Written) → c .multiply-column .result ≡ r → Left r
+  became : (r : Effect) → c .multiply-column .result ≡ r → Left r
   became r e = subst Left e (c .multiply-column .ensures)
 
 same-length : tie.Need-same-length Inv-loop μ-loop

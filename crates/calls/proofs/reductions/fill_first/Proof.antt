@@ -30,7 +30,7 @@ fill-boundary-requires c κs =
     let b = now (start .args .s) in
     let p = start .args .p in
     let n = length (now (start .args .w)) in
-    let W = start .args .work in
+    let W = start .args .layout in
     let is = start .pre .1 .1 in
     let cleared = c .before .before .before .clear .ensures in (
       (start .pre .0 .0, omega (arith, start .pre .0 .1, c .before .if1 .taken)),
@@ -50,7 +50,7 @@ fill-boundary-requires c κs =
 -- the boundary matrix stands in a slice of zeros
 matrix-filled : (c : tie.Joined1) →
     let args = c .before .before .before .before .before .args in
-    Holds (args .work .matrix) (replicate (length (now (args .w))) (pos 0)) (boundary (sectionsOf (now (args .s))) (args .p)) (c .if1 .w)
+    Holds (args .layout .matrix) (replicate (length (now (args .w))) (pos 0)) (boundary (sectionsOf (now (args .s))) (args .p)) (c .if1 .w)
 matrix-filled c =
     let start = c .before .before .before .before .before in
     let b = now (start .args .s) in
@@ -60,27 +60,27 @@ matrix-filled c =
     ⊎-elim
     (λ f. let dimension : suc (p - 1) ≡ p = omega (arith, f .0 .taken) in rw (f .4) (rw (cleared, dimension) at (f .2 .ensures)))
     (λ f. rw (f .1, cleared) (no-lines (boundary (sectionsOf b) p)
-    (matrix-rows b p n (start .pre .1 .0) (start .args .work) (start .pre .1 .1) ∙ rows-none b p (omega (arith, f .0 .left))) (zeros-small n)))
+    (matrix-rows b p n (start .pre .1 .0) (start .args .layout) (start .pre .1 .1) ∙ rows-none b p (omega (arith, f .0 .left))) (zeros-small n)))
     (c .if1 .came)
 
 fill-identity-requires : tie.Need-fill-identity-requires
 fill-identity-requires c κs =
     let start = c .before .before .before .before .before .before in
-    follower-fills (now (start .args .s)) (start .args .p) (length (now (start .args .w))) (start .pre .1 .0) (start .args .work) (start .pre .1 .1)
+    follower-fills (now (start .args .s)) (start .args .p) (length (now (start .args .w))) (start .pre .1 .0) (start .args .layout) (start .pre .1 .1)
     (matrix-filled (c .before))
 
 fill-identity-requires-2 : tie.Need-fill-identity-requires-2
 fill-identity-requires-2 c κs =
     let joined = c .before .before .before .before in
     let start = joined .before .before .before .before .before in
-    inverse-fills (now (start .args .s)) (start .args .p) (length (now (start .args .w))) (start .pre .1 .0) (start .args .work) (start .pre .1 .1)
+    inverse-fills (now (start .args .s)) (start .args .p) (length (now (start .args .w))) (start .pre .1 .0) (start .args .layout) (start .pre .1 .1)
     (matrix-filled joined) (c .before .before .fill-identity .ensures)
 
 returns : tie.Need-returns
 returns c =
     let joined = c .before .before .before .before .before .before in
     let start = joined .before .before .before .before .before in
-    filled (now (start .args .s)) (start .args .p) (length (now (start .args .w))) (start .pre .1 .0) (start .args .work) (start .pre .1 .1)
+    filled (now (start .args .s)) (start .args .p) (length (now (start .args .w))) (start .pre .1 .0) (start .args .layout) (start .pre .1 .1)
     (record {
       matrix = matrix-filled joined;
       follower = c .before .before .before .before .fill-identity .ensures;

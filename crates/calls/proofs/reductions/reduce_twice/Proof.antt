@@ -11,8 +11,8 @@ use Rattle.complexes.specs.Complex.{Complex}
 use Rattle.sheet_format.specs.Layout.{top}
 use Rattle.sheet_format.specs.Check.{sectionsOf}
 use Rattle.reports.specs.Call.{libraryLimit}
-use Rattle.calls.specs.Slices.{firstWorkOf, secondWorkOf}
-use Rattle.calls.proofs.Sheet.{Counted, counted, sheet-complex, first-of, second-of}
+use Rattle.calls.specs.Slices.{firstLayoutOf, secondLayoutOf}
+use Rattle.calls.proofs.Sheet.{ReducedWith, counted, sheet-complex, first-of, second-of}
 use Rattle.calls.proofs.Filling.{laid}
 use Rattle.calls.proofs.Outcomes.{cleared-length, reduces-done, reduces-refused, became-done, became-wide, FirstDone, SecondStarted, first-refused, first-done, laid-then, Q-width, product-width, Q-held}
 use Rattle.calls.proofs.Outcomes.{product-refused, second-started, second-refused, second-done}
@@ -33,10 +33,10 @@ add-count c = search needs
 count-requires-2 : tie.Need-count-requires-2
 count-requires-2 c κs = search needs
 
-first-work-requires : tie.Need-first-work-requires
-first-work-requires c κs = search needs
+first-layout-requires : tie.Need-first-layout-requires
+first-layout-requires c κs = search needs
 
-module _ (c : tie.After-first-work) where
+module _ (c : tie.After-first-layout) where
   abbrev start : tie.Start
   start = c .before .before .before .before .before
 
@@ -44,11 +44,11 @@ module _ (c : tie.After-first-work) where
   complex =
       sheet-complex (record { small = λ i. c .before .before .before .before .shared-slice-known .given i .fits }) (start .pre .0 .0)
 
-  counts : Counted (now (start .args .s)) (start .args .p) (c .before .before .before .count .result) (c .before .before .rows-of .result) (c .before .count2 .result)
+  counts : ReducedWith (now (start .args .s)) (start .args .p) (c .before .before .before .count .result) (c .before .before .rows-of .result) (c .before .count2 .result)
   counts = counted (c .before .before .before .count .ensures) (c .before .before .rows-of .ensures) (c .before .count2 .ensures)
 
-  first-is : c .first-work .result ≡ firstWorkOf (now (start .args .s)) (start .args .p)
-  first-is = c .first-work .ensures ∙ first-of counts
+  first-is : c .first-layout .result ≡ firstLayoutOf (now (start .args .s)) (start .args .p)
+  first-is = c .first-layout .ensures ∙ first-of counts
 
 -- ---- the first reduction
 
@@ -61,7 +61,7 @@ reduce-matrix-requires c κs =
     let s = start first in
     let filled = c .before .before .fill-first .ensures in (
       rw (filled .kept .same-length)
-          (laid (now (s .args .s)) (s .args .p) (length (now (s .args .w))) (s .pre .1) (first .first-work .result) (first-is first)),
+          (laid (now (s .args .s)) (s .args .p) (length (now (s .args .w))) (s .pre .1) (first .first-layout .result) (first-is first)),
       filled .kept .small,
     )
 
@@ -72,7 +72,7 @@ enum-told : tie.Need-enum-told
 enum-told c = c .match .keys2
 
 module _ (c : tie.After-reduce-matrix) where
-  abbrev at-first : tie.After-first-work
+  abbrev at-first : tie.After-first-layout
   at-first = c .before .before .before .before .before
 
 returns : tie.Need-returns
@@ -80,8 +80,8 @@ returns c =
     let called = c .before .before .before in
     let first = at-first called in
     let s = start first in
-    first-refused (now (s .args .s)) (s .args .p) (length (now (s .args .w))) (complex first) (s .pre .1) (first .first-work .result) (first-is first)
-    (called .before .before .before .fill-first .ensures) (reduces-refused (first .first-work .result) (called .reduce-matrix .result) (c .enum-told .given .1) (called .reduce-matrix .ensures))
+    first-refused (now (s .args .s)) (s .args .p) (length (now (s .args .w))) (complex first) (s .pre .1) (first .first-layout .result) (first-is first)
+    (called .before .before .before .fill-first .ensures) (reduces-refused (first .first-layout .result) (called .reduce-matrix .result) (c .enum-told .given .1) (called .reduce-matrix .ensures))
 
 same-length : tie.Need-same-length
 same-length c = cleared-length (returns c .1)
@@ -92,7 +92,7 @@ module _ (c : tie.After-known-told) where
   abbrev first-called : tie.After-reduce-matrix
   first-called = c .before .before .before .before
 
-  abbrev began : tie.After-first-work
+  abbrev began : tie.After-first-layout
   began = at-first (c .before .before .before .before)
 
   abbrev rank : ℕ
@@ -102,27 +102,27 @@ module _ (c : tie.After-known-told) where
       FirstDone (now (s .args .s)) (s .args .p) (length (now (s .args .w))) (complex began) (s .pre .1) rank (first-called .reduce-matrix .last .1 .0)
   first =
       let s = start began in
-      first-done (now (s .args .s)) (s .args .p) (length (now (s .args .w))) (complex began) (s .pre .1) (began .first-work .result) (first-is began)
-      (first-called .before .before .before .fill-first .ensures) (reduces-done (began .first-work .result) (first-called .reduce-matrix .result) (c .before .rank .given .1) (first-called .reduce-matrix .ensures))
+      first-done (now (s .args .s)) (s .args .p) (length (now (s .args .w))) (complex began) (s .pre .1) (began .first-layout .result) (first-is began)
+      (first-called .before .before .before .fill-first .ensures) (reduces-done (began .first-layout .result) (first-called .reduce-matrix .result) (c .before .rank .given .1) (first-called .reduce-matrix .ensures))
 
-second-work-requires : tie.Need-second-work-requires
-second-work-requires c κs =
-    let first-work = began c in (
-      first-work .before .before .before .count .ensures .below,
-      first-work .before .before .rows-of .ensures .below,
-      first-work .before .count2 .ensures .below,
-      rw (counts first-work .cells-are) (first c .rank-within),
+second-layout-requires : tie.Need-second-layout-requires
+second-layout-requires c κs =
+    let first-layout = began c in (
+      first-layout .before .before .before .count .ensures .below,
+      first-layout .before .before .rows-of .ensures .below,
+      first-layout .before .count2 .ensures .below,
+      rw (counts first-layout .cells-are) (first c .rank-within),
     )
 
-second-is : (c : tie.After-second-work) →
-    let s = start (began (c .before)) in c .second-work .result ≡ secondWorkOf (now (s .args .s)) (s .args .p) (rank (c .before))
-second-is c = c .second-work .ensures ∙ second-of (counts (began (c .before))) (rank (c .before))
+second-is : (c : tie.After-second-layout) →
+    let s = start (began (c .before)) in c .second-layout .result ≡ secondLayoutOf (now (s .args .s)) (s .args .p) (rank (c .before))
+second-is c = c .second-layout .ensures ∙ second-of (counts (began (c .before))) (rank (c .before))
 
 multiply-requires : tie.Need-multiply-requires
 multiply-requires c κs =
     let told = c .before .before in
     let s = start (began told) in
-    let W = c .before .second-work .result in
+    let W = c .before .second-layout .result in
     let is = second-is (c .before) in
     let l = laid-then (now (s .args .s)) (s .args .p) (length (now (s .args .w))) (complex (began told)) (s .pre .1) (first told) W is in (
       s .pre .0 .0,
@@ -154,7 +154,7 @@ returns-2 c =
     let called = c .before .before .before .before .before .before in
     let told = called .before .before .before in
     let s = start (began told) in
-    let W = called .before .before .second-work .result in
+    let W = called .before .before .second-layout .result in
     let beyond = became-wide (called .multiply .result) (c .before .before .before .enum-told3 .given .1) (called .multiply .ensures) in (
       product-refused (now (s .args .s)) (s .args .p) (length (now (s .args .w))) (complex (began told)) (s .pre .1) (first told) W
           (second-is (called .before .before)) beyond,
@@ -184,7 +184,7 @@ module _ (c : tie.After-enum-told2) where
   started =
       let s = start (began first-told) in
       second-started (now (s .args .s)) (s .args .p) (length (now (s .args .w))) (complex (began first-told)) (s .pre .1) (first first-told)
-      (multiplied .before .before .second-work .result) (second-is (multiplied .before .before))
+      (multiplied .before .before .second-layout .result) (second-is (multiplied .before .before))
       (became-done (multiplied .multiply .result) (c .enum-told2 .given .1) (multiplied .multiply .ensures))
 
 reduce-matrix-requires-2 : tie.Need-reduce-matrix-requires-2
@@ -194,7 +194,7 @@ reduce-matrix-requires-2 c κs =
     let second = multiplied (c .before) .before .before in
     let kept = started (c .before) .kept in (
       rw (kept .same-length)
-          (laid-then (now (s .args .s)) (s .args .p) (length (now (s .args .w))) (complex (began told)) (s .pre .1) (first told) (second .second-work .result)
+          (laid-then (now (s .args .s)) (s .args .p) (length (now (s .args .w))) (complex (began told)) (s .pre .1) (first told) (second .second-layout .result)
           (second-is second)),
       kept .small,
     )
@@ -212,8 +212,8 @@ returns-3 c =
     let s = start (began told) in
     let second = multiplied (called .before .before) .before .before in
     second-refused (now (s .args .s)) (s .args .p) (length (now (s .args .w))) (complex (began told)) (s .pre .1) (started (called .before .before))
-    (second .second-work .result) (second-is second)
-    (reduces-refused (second .second-work .result) (called .reduce-matrix2 .result) (c .enum-told4 .given .1) (called .reduce-matrix2 .ensures))
+    (second .second-layout .result) (second-is second)
+    (reduces-refused (second .second-layout .result) (called .reduce-matrix2 .result) (c .enum-told4 .given .1) (called .reduce-matrix2 .ensures))
 
 same-length-3 : tie.Need-same-length-3
 same-length-3 c = cleared-length (returns-3 c .1)
@@ -225,8 +225,8 @@ returns-4 c =
     let s = start (began told) in
     let second = multiplied (called .before .before) .before .before in
     second-done (now (s .args .s)) (s .args .p) (length (now (s .args .w))) (complex (began told)) (s .pre .1) (started (called .before .before))
-    (second .second-work .result) (second-is second)
-    (reduces-done (second .second-work .result) (called .reduce-matrix2 .result) (c .before .last .given .1) (called .reduce-matrix2 .ensures))
+    (second .second-layout .result) (second-is second)
+    (reduces-done (second .second-layout .result) (called .reduce-matrix2 .result) (c .before .last .given .1) (called .reduce-matrix2 .ensures))
 
 same-length-4 : tie.Need-same-length-4
 same-length-4 c = returns-4 c .kept .same-length
@@ -239,14 +239,14 @@ reduce-twice-spec =
     rows-of-requires
     add-count
     count-requires-2
-    first-work-requires
+    first-layout-requires
     fill-first-requires
     reduce-matrix-requires
     enum-known-rank
     enum-told
     same-length
     returns
-    second-work-requires
+    second-layout-requires
     multiply-requires
     enum-told-2
     enum-told-3

@@ -33,12 +33,12 @@ module _ (c : tie.After-entry2 Inv-loop μ-loop) where
 -- the quotient as the machine reads it
 taken :
     (c : tie.After-quotient Inv-loop μ-loop)
-    → (let A = contents (start (c .before) .args .work .matrix) (head (c .before) .loop .w) in
+    → (let A = contents (start (c .before) .args .layout .matrix) (head (c .before) .loop .w) in
     read w64 (c .quotient .result) ≡ floor (A (head (c .before) .loop .i) (start (c .before) .args .k)) (A (start (c .before) .args .k) (start (c .before) .args .k)))
 taken c =
     let e = c .before in
     let h = head e .loop .inv .placed in
-    quotient-read (start e .args .work) (start e .args .k) (head e .loop .w) (h .small) (h .ready) (head e .loop .i) (start e .args .k)
+    quotient-read (start e .args .layout) (start e .args .k) (head e .loop .w) (h .small) (h .ready) (head e .loop .i) (start e .args .k)
     (e .before .before .entry .ensures) (e .entry2 .ensures) (c .quotient .ensures)
 
 add-i : tie.Need-add-i Inv-loop μ-loop
@@ -60,7 +60,7 @@ entry-requires-2 c κs =
 quotient-requires : tie.Need-quotient-requires Inv-loop μ-loop
 quotient-requires c κs =
     let h = head c .loop .inv .placed in
-    quotient-asks (start c .args .work) (start c .args .k) (head c .loop .w) (h .small) (h .ready) (head c .loop .i) (start c .args .k) (c .before .before .entry .ensures) (c .entry2 .ensures)
+    quotient-asks (start c .args .layout) (start c .args .k) (head c .loop .w) (h .small) (h .ready) (head c .loop .i) (start c .args .k) (c .before .before .entry .ensures) (c .entry2 .ensures)
 
 subtract-row-requires : tie.Need-subtract-row-requires Inv-loop μ-loop
 subtract-row-requires c κs =

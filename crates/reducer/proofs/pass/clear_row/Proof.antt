@@ -33,12 +33,12 @@ module _ (c : tie.After-entry2 Inv-loop μ-loop) where
 -- the quotient as the machine reads it
 taken :
     (c : tie.After-quotient Inv-loop μ-loop)
-    → (let A = contents (start (c .before) .args .work .matrix) (head (c .before) .loop .w) in
+    → (let A = contents (start (c .before) .args .layout .matrix) (head (c .before) .loop .w) in
     read w64 (c .quotient .result) ≡ floor (A (start (c .before) .args .k) (head (c .before) .loop .j)) (A (start (c .before) .args .k) (start (c .before) .args .k)))
 taken c =
     let e = c .before in
     let h = head e .loop .inv .clear in
-    quotient-read (start e .args .work) (start e .args .k) (head e .loop .w) (h .small) (h .ready .ready) (start e .args .k) (head e .loop .j)
+    quotient-read (start e .args .layout) (start e .args .k) (head e .loop .w) (h .small) (h .ready .ready) (start e .args .k) (head e .loop .j)
     (e .before .before .entry .ensures) (e .entry2 .ensures) (c .quotient .ensures)
 
 add-j : tie.Need-add-j Inv-loop μ-loop
@@ -60,7 +60,7 @@ entry-requires-2 c κs =
 quotient-requires : tie.Need-quotient-requires Inv-loop μ-loop
 quotient-requires c κs =
     let h = head c .loop .inv .clear in
-    quotient-asks (start c .args .work) (start c .args .k) (head c .loop .w) (h .small) (h .ready .ready) (start c .args .k) (head c .loop .j) (c .before .before .entry .ensures) (c .entry2 .ensures)
+    quotient-asks (start c .args .layout) (start c .args .k) (head c .loop .w) (h .small) (h .ready .ready) (start c .args .k) (head c .loop .j) (c .before .before .entry .ensures) (c .entry2 .ensures)
 
 subtract-column-requires : tie.Need-subtract-column-requires Inv-loop μ-loop
 subtract-column-requires c κs =

@@ -5,7 +5,7 @@ use Prim.Native.Nat.{_-_}
 use native.Mathlib.Omega.{arith}
 use lib.ListN.{length}
 use Rattle.reduction_steps.specs.Step.{Letter, at}
-use Rattle.work.specs.Layout.{stateOf}
+use Rattle.operations.specs.Laid.{stateOf}
 use Rattle.reducer.specs.Answer.{StageCleared}
 use Rattle.reducer.proofs.Reductions.{Reducing, reducing-start, ends-cleared, ends-exhausted, ends-refused, reducing-next, reduced, reduction-refused}
 use Rattle.reducer.proofs.reduction.reduce_matrix.Statement.{statement}
@@ -31,7 +31,7 @@ next :
     (c : tie.After-enum-told Inv-loop μ-loop)
     → (let start = c .before .before .before .before .before .before in
     let loop = c .before .before .before .before .before .loop in
-    StageCleared (start .args .work) (loop .k) (at Letter.a (loop .k) (stateOf (start .args .work) (loop .w))) (length (loop .w)) (c .before .before .before .choose-pivot .last .1 .0))
+    StageCleared (start .args .layout) (loop .k) (at Letter.a (loop .k) (stateOf (start .args .layout) (loop .w))) (length (loop .w)) (c .before .before .before .choose-pivot .last .1 .0))
 next c = ends-cleared (c .enum-told .given .1) (c .before .before .before .choose-pivot .ensures)
 
 add-k : tie.Need-add-k Inv-loop μ-loop
@@ -60,7 +60,7 @@ same-length-2 c = c .before .before .before .before .choose-pivot .kept .1 .0 �
 
 returns-2 : tie.Need-returns-2 Inv-loop μ-loop
 returns-2 c =
-    reduction-refused (c .before .before .before .before .before .before .loop .inv) (ends-refused (c .before .before .before .before .before .before .before .args .work) (c .before .before .before .before .before .before .loop .k) (c .before .refusal .given .1) (c .before .before .before .before .choose-pivot .ensures))
+    reduction-refused (c .before .before .before .before .before .before .loop .inv) (ends-refused (c .before .before .before .before .before .before .before .args .layout) (c .before .before .before .before .before .before .loop .k) (c .before .refusal .given .1) (c .before .before .before .before .choose-pivot .ensures))
 
 pub reduce-matrix-spec : {M : Type 1} → statement M
 reduce-matrix-spec =

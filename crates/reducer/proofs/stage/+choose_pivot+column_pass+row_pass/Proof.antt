@@ -12,8 +12,8 @@ use borrow.Fn.PlainCycle.{Measures, is, falls, and}
 use Rattle.reduction_steps.specs.Pivot.{place, Least}
 use Rattle.reduction_steps.specs.Step.{Letter, at, row}
 use Rattle.refusal.specs.declared.Refusal.the-variants.{TooWide}
-use Rattle.work.specs.Layout.{stateOf}
-use Rattle.work.specs.Scan.{pivotChoice, indivisibleRow}
+use Rattle.operations.specs.Laid.{stateOf}
+use Rattle.operations.specs.Scan.{pivotChoice, indivisibleRow}
 use Rattle.reducer.specs.Answer.{matrixOf, rowPassOf, columnPassOf, PassMade, StageRefused}
 use Rattle.reducer.proofs.States.{held-matrix, operated-done, operated-wide}
 use Rattle.reducer.proofs.Words.{pivot-positive}
@@ -32,11 +32,11 @@ use Rattle.lines.proofs.line.clear.Reads as clear-reads
 use Rattle.reducer.proofs.bring.bring_pivot.Reads as bring-pivot-reads
 use Rattle.reducer.proofs.pass.clear_column.Reads as clear-column-reads
 use Rattle.reducer.proofs.pass.clear_row.Reads as clear-row-reads
-use Rattle.work.proofs.operations.Work.subtract_row.Reads as subtract-row-reads
-use Rattle.work.proofs.pivot.find_pivot.Reads as find-pivot-reads
-use Rattle.work.proofs.remainder.column_keeps.Reads as column-keeps-reads
-use Rattle.work.proofs.remainder.first_indivisible.Reads as first-indivisible-reads
-use Rattle.work.proofs.remainder.row_keeps.Reads as row-keeps-reads
+use Rattle.operations.proofs.layout.Layout.subtract_row.Reads as subtract-row-reads
+use Rattle.operations.proofs.pivot.find_pivot.Reads as find-pivot-reads
+use Rattle.operations.proofs.remainder.column_keeps.Reads as column-keeps-reads
+use Rattle.operations.proofs.remainder.first_indivisible.Reads as first-indivisible-reads
+use Rattle.operations.proofs.remainder.row_keeps.Reads as row-keeps-reads
 use Rattle.reducer.proofs.stage.+choose_pivot+column_pass+row_pass.{statement}
 use Rattle.reducer.proofs.stage.+choose_pivot+column_pass+row_pass.Tie.{close}
 
@@ -135,7 +135,7 @@ choose-pivot-same-length t c = refl
 choose-pivot-returns : (t : ℕ) → choose-pivot-lts.Need-returns (choose-pivot-calls t) (choose-pivot-at t) choose-pivot.Post
 choose-pivot-returns t c =
     let start = c .before .before .before .before in
-    exhausted (start .args .work) (start .args .k) (start .args .w .now) (start .pre .1) (sym (ap pivotChoice (c .enum-told .given .1)) ∙ c .before .before .find-pivot .ensures)
+    exhausted (start .args .layout) (start .args .k) (start .args .w .now) (start .pre .1) (sym (ap pivotChoice (c .enum-told .given .1)) ∙ c .before .before .find-pivot .ensures)
 
 -- the place that was found
 module _ (t : ℕ) (c : choose-pivot-lts.After-known-told (choose-pivot-calls t) (choose-pivot-at t) choose-pivot.Post) where
@@ -148,11 +148,11 @@ module _ (t : ℕ) (c : choose-pivot-lts.After-known-told (choose-pivot-calls t)
   abbrev pivot-column : ℕ
   pivot-column = c .before .i .given .0 .1 .0
 
-  found : Chosen (start .args .work) (start .args .k) (start .args .w .now) (place pivot-row pivot-column)
+  found : Chosen (start .args .layout) (start .args .k) (start .args .w .now) (place pivot-row pivot-column)
   found = sym (ap pivotChoice (c .before .i .given .1)) ∙ c .before .before .before .find-pivot .ensures
 
-  least : Least (start .args .work .matrix .lines) (start .args .work .matrix .width) (start .args .k) (matrixOf (start .args .work) (start .args .w .now)) pivot-row pivot-column
-  least = chosen-least (start .args .work) (start .args .k) (start .args .w .now) pivot-row pivot-column found
+  least : Least (start .args .layout .matrix .lines) (start .args .layout .matrix .width) (start .args .k) (matrixOf (start .args .layout) (start .args .w .now)) pivot-row pivot-column
+  least = chosen-least (start .args .layout) (start .args .k) (start .args .w .now) pivot-row pivot-column found
 
 choose-pivot-bring-pivot-requires : (t : ℕ) → choose-pivot-lts.Need-bring-pivot-requires (choose-pivot-calls t) (choose-pivot-at t) choose-pivot.Post
 choose-pivot-bring-pivot-requires t c κs =
@@ -173,19 +173,19 @@ choose-pivot-returns-2 : (t : ℕ) → choose-pivot-lts.Need-returns-2 (choose-p
 choose-pivot-returns-2 t c =
     let place = c .before .before .before .before .before in
     let begun = start t place in
-    pass-stops (begun .args .work) (at Letter.a (begun .args .k) (stateOf (begun .args .work) (begun .args .w .now))) (c .before .before .before .bring-pivot .result) (c .before .before .before .bring-pivot .last .1 .0)
-    (bring-goes (begun .args .work) (begun .args .k) (begun .args .w .now) (pivot-row t place) (pivot-column t place) (found t place))
+    pass-stops (begun .args .layout) (at Letter.a (begun .args .k) (stateOf (begun .args .layout) (begun .args .w .now))) (c .before .before .before .bring-pivot .result) (c .before .before .before .bring-pivot .last .1 .0)
+    (bring-goes (begun .args .layout) (begun .args .k) (begun .args .w .now) (pivot-row t place) (pivot-column t place) (found t place))
     (c .enum-told3 .given .1) (c .before .before .before .bring-pivot .ensures)
 
 -- after step b
 to-row-pass :
     (t : ℕ) (c : choose-pivot-lts.After-enum-told2 (choose-pivot-calls t) (choose-pivot-at t) choose-pivot.Post)
     → (let begun = start t (c .before .before .before .before .before) in
-    ToRows (begun .args .work) (begun .args .k) (begun .args .w .now) (c .before .before .before .bring-pivot .last .1 .0))
+    ToRows (begun .args .layout) (begun .args .k) (begun .args .w .now) (c .before .before .before .bring-pivot .last .1 .0))
 to-row-pass t c =
     let place = c .before .before .before .before .before in
     let begun = start t place in
-    to-rows (begun .args .work) (begun .args .k) (begun .args .w .now) (pivot-row t place) (pivot-column t place) (found t place) (begun .pre .1)
+    to-rows (begun .args .layout) (begun .args .k) (begun .args .w .now) (pivot-row t place) (pivot-column t place) (found t place) (begun .pre .1)
     (passed-made (c .enum-told2 .given .1) (c .before .before .before .bring-pivot .ensures))
 
 choose-pivot-row-pass-requires : (t : ℕ) → choose-pivot-lts.Need-row-pass-requires (choose-pivot-calls t) (choose-pivot-at t) choose-pivot.Post
@@ -216,7 +216,7 @@ column-pass-same-length t c = c .before .before .before .clear-row .kept .1 .0
 column-pass-returns : (t : ℕ) → column-pass-lts.Need-returns (column-pass-calls t) (column-pass-at t) column-pass.Post
 column-pass-returns t c =
     let begun = c .before .before .before .before .before in
-    pass-stops (begun .args .work) (at Letter.d (begun .args .k) (stateOf (begun .args .work) (begun .args .w .now))) (c .before .before .before .clear-row .result) (c .before .before .before .clear-row .last .1 .0)
+    pass-stops (begun .args .layout) (at Letter.d (begun .args .k) (stateOf (begun .args .layout) (begun .args .w .now))) (c .before .before .before .clear-row .result) (c .before .before .before .clear-row .last .1 .0)
     (columns-go (begun .pre .1)) (c .enum-told2 .given .1) (c .before .before .before .clear-row .ensures)
 
 -- after step d
@@ -225,8 +225,8 @@ module _ (t : ℕ) (c : column-pass-lts.After-enum-told (column-pass-calls t) (c
   column-start = c .before .before .before .before .before
 
   columns-made :
-      PassMade (column-start .args .work)
-      (columnPassOf (column-start .args .work) (column-start .args .k) (column-start .args .w .now))
+      PassMade (column-start .args .layout)
+      (columnPassOf (column-start .args .layout) (column-start .args .k) (column-start .args .w .now))
       (length (column-start .args .w .now))
       (c .before .before .before .clear-row .last .1 .0)
   columns-made = passed-made (c .enum-told .given .1) (c .before .before .before .clear-row .ensures)
@@ -239,14 +239,14 @@ column-pass-row-keeps-requires t c κs =
 column-to-choice :
     (t : ℕ) (c : column-pass-lts.Then1 (column-pass-calls t) (column-pass-at t) column-pass.Post)
     → (let begun = column-start t (c .before .before .before) in
-    ColumnsToChoice (begun .args .work) (begun .args .k) (begun .args .w .now) (c .before .before .before .before .before .before .clear-row .last .1 .0))
+    ColumnsToChoice (begun .args .layout) (begun .args .k) (begun .args .w .now) (c .before .before .before .before .before .before .clear-row .last .1 .0))
 column-to-choice t c =
     columns-to-choice (column-start t (c .before .before .before) .pre .1) (columns-made t (c .before .before .before)) (sym (c .if1 .taken) ∙ c .before .row-keeps .ensures)
 
 column-cleared :
     (t : ℕ) (c : column-pass-lts.Else1 (column-pass-calls t) (column-pass-at t) column-pass.Post)
     → (let begun = column-start t (c .before .before .before) in
-    RowClear (begun .args .work) (begun .args .k) (begun .args .w .now) (c .before .before .before .before .before .before .clear-row .last .1 .0))
+    RowClear (begun .args .layout) (begun .args .k) (begun .args .w .now) (c .before .before .before .before .before .before .clear-row .last .1 .0))
 column-cleared t c =
     row-clear (column-start t (c .before .before .before) .pre .1) (columns-made t (c .before .before .before)) (sym (c .if1 .left) ∙ c .before .row-keeps .ensures)
 
@@ -266,7 +266,7 @@ column-pass-first-indivisible-requires t c κs =
     let h = column-cleared t (c .before) in
     let start = column-start t (c .before .before .before .before) in
     let ready = h .ready .ready .ready in
-    (held-matrix (h .laid), (ready .row, ready .column, pivot-positive (start .args .work) (start .args .k) (c .before .before .before .before .before .before .before .clear-row .last .1 .0) ready))
+    (held-matrix (h .laid), (ready .row, ready .column, pivot-positive (start .args .layout) (start .args .k) (c .before .before .before .before .before .before .before .clear-row .last .1 .0) ready))
 
 column-pass-enum-known-i : (t : ℕ) → column-pass-lts.Need-enum-known-i (column-pass-calls t) (column-pass-at t) column-pass.Post
 column-pass-enum-known-i t c = c .match2 .keys1
@@ -318,7 +318,7 @@ module _ (t : ℕ) (c : column-pass-lts.After-enum-told5 (column-pass-calls t) (
 
   stopped :
       {w : List ℤ} → w ≡ replicate (length (c .before .before .before .subtract-row .last .1 .0)) (pos 0)
-      → (let start = begun t adding .args in StageRefused (start .work) (at Letter.d (start .k) (stateOf (start .work) (start .w .now))) (length (start .w .now)) TooWide w)
+      → (let start = begun t adding .args in StageRefused (start .layout) (at Letter.d (start .k) (stateOf (start .layout) (start .w .now))) (length (start .w .now)) TooWide w)
   stopped z =
       let called = c .before .before .before .subtract-row in
       add-stops (column-cleared t (else t adding)) (lower t adding) (found-lower t adding) (called .last .1 .0) (operated-wide (called .ensures) (c .enum-told5 .given .1)) z
@@ -337,7 +337,7 @@ column-pass-returns-4 t c = stopped t (c .before .before .before) (c .before .cl
 column-again :
     (t : ℕ) (c : column-pass-lts.After-enum-told4 (column-pass-calls t) (column-pass-at t) column-pass.Post)
     → (let start = begun t (c .before .before .before .before .before) in
-    ColumnsAgain (start .args .work) (start .args .k) (start .args .w .now) (c .before .before .before .subtract-row .last .1 .0))
+    ColumnsAgain (start .args .layout) (start .args .k) (start .args .w .now) (c .before .before .before .subtract-row .last .1 .0))
 column-again t c =
     let row = c .before .before .before .before .before in
     let called = c .before .before .before .subtract-row in
@@ -374,7 +374,7 @@ row-pass-same-length t c = c .before .before .before .clear-column .kept .1 .0
 row-pass-returns : (t : ℕ) → row-pass-lts.Need-returns (row-pass-calls t) (row-pass-at t) row-pass.Post
 row-pass-returns t c =
     let begun = c .before .before .before .before .before in
-    pass-stops (begun .args .work) (at Letter.c (begun .args .k) (stateOf (begun .args .work) (begun .args .w .now))) (c .before .before .before .clear-column .result) (c .before .before .before .clear-column .last .1 .0)
+    pass-stops (begun .args .layout) (at Letter.c (begun .args .k) (stateOf (begun .args .layout) (begun .args .w .now))) (c .before .before .before .clear-column .result) (c .before .before .before .clear-column .last .1 .0)
     (rows-go (begun .pre .1)) (c .enum-told2 .given .1) (c .before .before .before .clear-column .ensures)
 
 -- after step c
@@ -383,8 +383,8 @@ module _ (t : ℕ) (c : row-pass-lts.After-enum-told (row-pass-calls t) (row-pas
   row-start = c .before .before .before .before .before
 
   rows-made :
-      PassMade (row-start .args .work)
-      (rowPassOf (row-start .args .work) (row-start .args .k) (row-start .args .w .now))
+      PassMade (row-start .args .layout)
+      (rowPassOf (row-start .args .layout) (row-start .args .k) (row-start .args .w .now))
       (length (row-start .args .w .now))
       (c .before .before .before .clear-column .last .1 .0)
   rows-made = passed-made (c .enum-told .given .1) (c .before .before .before .clear-column .ensures)
@@ -397,14 +397,14 @@ row-pass-column-keeps-requires t c κs =
 row-to-choice :
     (t : ℕ) (c : row-pass-lts.Then1 (row-pass-calls t) (row-pass-at t) row-pass.Post)
     → (let begun = row-start t (c .before .before .before) in
-    RowsToChoice (begun .args .work) (begun .args .k) (begun .args .w .now) (c .before .before .before .before .before .before .clear-column .last .1 .0))
+    RowsToChoice (begun .args .layout) (begun .args .k) (begun .args .w .now) (c .before .before .before .before .before .before .clear-column .last .1 .0))
 row-to-choice t c =
     rows-to-choice (row-start t (c .before .before .before) .pre .1) (rows-made t (c .before .before .before)) (sym (c .if1 .taken) ∙ c .before .column-keeps .ensures)
 
 row-to-columns :
     (t : ℕ) (c : row-pass-lts.Else1 (row-pass-calls t) (row-pass-at t) row-pass.Post)
     → (let begun = row-start t (c .before .before .before) in
-    RowsToColumns (begun .args .work) (begun .args .k) (begun .args .w .now) (c .before .before .before .before .before .before .clear-column .last .1 .0))
+    RowsToColumns (begun .args .layout) (begun .args .k) (begun .args .w .now) (c .before .before .before .before .before .before .clear-column .last .1 .0))
 row-to-columns t c =
     rows-to-columns (row-start t (c .before .before .before) .pre .1) (rows-made t (c .before .before .before)) (sym (c .if1 .left) ∙ c .before .column-keeps .ensures)
 

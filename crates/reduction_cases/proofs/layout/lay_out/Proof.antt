@@ -5,7 +5,7 @@ use native.Mathlib.Nat as NatL
 use native.Mathlib.Omega.{arith}
 use borrow.Author.Needs.{needs}
 use Rattle.lines.specs.declared.matrix.Matrix.{Matrix}
-use Rattle.work.specs.declared.operations.Work.{Work}
+use Rattle.operations.specs.declared.layout.Layout.{Layout}
 use Rattle.reduction_cases.specs.Layout.{side, Companion, Slotted, LaidOut}
 use Rattle.reduction_cases.proofs.layout.lay_out.Statement.{statement}
 use Rattle.reduction_cases.proofs.layout.lay_out.Tie as tie
@@ -16,7 +16,7 @@ slotted k p s = record { at = omega (arith, k .at); lines = omega (arith, k .cou
 area : {m : Matrix} → Slotted m → m .lines * m .width ≤ 64
 area s = NatL.mul-le-mul (s .lines) (s .width)
 
-module _ (rows columns : ℕ) (W : Work) (rows-most : rows ≤ side) (columns-most : columns ≤ side)
+module _ (rows columns : ℕ) (W : Layout) (rows-most : rows ≤ side) (columns-most : columns ≤ side)
     (at : W .matrix .at ≡ 0) (lines : W .matrix .lines ≡ rows) (width : W .matrix .width ≡ columns)
     (ri : Companion 64 rows (W .«row_inverse»)) (rf : Companion 128 rows (W .«row_follower»))
     (cf : Companion 192 columns (W .«column_follower»)) (ci : Companion 256 columns (W .«column_inverse»)) where

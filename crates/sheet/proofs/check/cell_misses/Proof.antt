@@ -9,7 +9,7 @@ use denote.Ref.{now}
 use Rattle.complexes.specs.Cell.{without, listed}
 use Rattle.sheet_format.specs.Check.{cellOf, cellsOf}
 use Rattle.sheet.proofs.Halving.{isAt, finds-listed}
-use Rattle.sheet.proofs.Scan.{Passed, passed-none, passed-more, passed-all, found}
+use Rattle.sheet.proofs.Scan.{Passed, passed-none, passed-more, passed-all, some-found}
 use Rattle.sheet.proofs.check.cell_misses.Statement.{statement}
 use Rattle.sheet.proofs.check.cell_misses.Tie as tie
 
@@ -48,7 +48,7 @@ returns : tie.Need-returns Inv-loop μ-loop
 returns c =
     let r = c .before .before in
     let s = r .before .before .before .before in
-    found (suc (s .args .n)) (Test s) (r .before .before .loop .j) (omega arith) (rw (c .enum-told2 .given .1) at (told r))
+    some-found (suc (s .args .n)) (Test s) (r .before .before .loop .j) (omega arith) (rw (c .enum-told2 .given .1) at (told r))
 
 add-j : tie.Need-add-j Inv-loop μ-loop
 add-j c = search needs

@@ -7,13 +7,13 @@ use denote.Ref.{now}
 use borrow.Author.Tests.{lt-ltb, le-ltb}
 use mathlib.Core.List.{List}
 use lib.Dec.{ltb}
-use Rattle.sheet_format.specs.Check.{countAt}
-use Rattle.sheet.proofs.Scan.{Passed, passed-none, passed-more, passed-all, found}
+use Rattle.sheet_format.specs.Check.{countField}
+use Rattle.sheet.proofs.Scan.{Passed, passed-none, passed-more, passed-all, some-found}
 use Rattle.sheet.proofs.check.count_exceeds.Statement.{statement}
 use Rattle.sheet.proofs.check.count_exceeds.Tie as tie
 
 abbrev Exceeds : ℕ → List ℕ → ℕ → Bool
-Exceeds limit s p = ltb limit (countAt s p)
+Exceeds limit s p = ltb limit (countField s p)
 
 abbrev Inv-loop : tie.InvT-loop
 Inv-loop s limit p₀ p = Passed 4 (Exceeds limit s) p
@@ -31,7 +31,7 @@ returns : tie.Need-returns Inv-loop μ-loop
 returns c =
     let loop = c .before .before .before in
     let a = loop .before .before .args in
-    found 4 (Exceeds (a .limit) (now (a .s))) (loop .loop .p) (omega arith) (lt-ltb (a .limit) (countAt (now (a .s)) (loop .loop .p)) (omega arith))
+    some-found 4 (Exceeds (a .limit) (now (a .s))) (loop .loop .p) (omega arith) (lt-ltb (a .limit) (countField (now (a .s)) (loop .loop .p)) (omega arith))
 
 add-p : tie.Need-add-p Inv-loop μ-loop
 add-p c = search needs
@@ -43,7 +43,7 @@ loop-again : tie.Need-loop-again Inv-loop μ-loop
 loop-again c =
     let loop = c .before .before .before in
     let a = loop .before .before .args in
-    passed-more 4 (Exceeds (a .limit) (now (a .s))) (loop .loop .p) (loop .loop .inv) (omega arith) (le-ltb (a .limit) (countAt (now (a .s)) (loop .loop .p)) (omega arith))
+    passed-more 4 (Exceeds (a .limit) (now (a .s))) (loop .loop .p) (loop .loop .inv) (omega arith) (le-ltb (a .limit) (countField (now (a .s)) (loop .loop .p)) (omega arith))
 
 returns-2 : tie.Need-returns-2 Inv-loop μ-loop
 returns-2 c =

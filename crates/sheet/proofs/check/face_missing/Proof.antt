@@ -9,8 +9,8 @@ use Prim.Native.Nat.{ℕ, suc, _+_, _-_}
 use denote.Ref.{now}
 use Rattle.complexes.specs.Cell.{without, listed}
 use Rattle.complexes.specs.Complex.{section, count, cell}
-use Rattle.sheet_format.specs.Check.{countAt, startAt, sectionsOf, some, faceMissing}
-use Rattle.sheet.proofs.Scan.{Passed, passed-none, passed-more, passed-all, found}
+use Rattle.sheet_format.specs.Check.{countField, startAt, sectionsOf, some, faceMissing}
+use Rattle.sheet.proofs.Scan.{Passed, passed-none, passed-more, passed-all, some-found}
 use Rattle.sheet.proofs.Sections.{Section, faces-section, rising-section}
 use Rattle.sheet.proofs.check.face_missing.Statement.{statement}
 use Rattle.sheet.proofs.check.face_missing.Tie as tie
@@ -37,7 +37,7 @@ cells c = record {
   inside = omega arith;
   starts = c .before .before .before .start .ensures .is ∙ ap (startAt (Bytes (turn c))) (add-one (turn c .loop .p));
   vertices = ap suc (add-one (turn c .loop .p));
-  cells = c .before .before .count .ensures .is ∙ ap (countAt (Bytes (turn c))) (add-one (turn c .loop .p));
+  cells = c .before .before .count .ensures .is ∙ ap (countField (Bytes (turn c))) (add-one (turn c .loop .p));
 }
 
 faces : (c : tie.After-count2 Inv-loop μ-loop) → Section (Bytes (turn c)) (turn c .loop .p) (c .before .start2 .result) (turn c .loop .p + 1) (c .count2 .result)
@@ -83,7 +83,7 @@ returns : tie.Need-returns Inv-loop μ-loop
 unfolding faceMissing
 returns c =
     let loop = turn (c .before .before) in
-    found 3 (Misses (Bytes loop)) (loop .loop .p) (omega arith) (told (c .before) ∙ c .if1 .taken)
+    some-found 3 (Misses (Bytes loop)) (loop .loop .p) (omega arith) (told (c .before) ∙ c .if1 .taken)
 
 add-p : tie.Need-add-p Inv-loop μ-loop
 add-p c = search needs

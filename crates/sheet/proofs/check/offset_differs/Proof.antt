@@ -8,13 +8,13 @@ use borrow.Author.Tests.{eq-eqb, ne-eqb}
 use mathlib.Core.Path.{ap}
 use mathlib.Core.List.{List}
 use lib.Dec.{eqb}
-use Rattle.sheet_format.specs.Check.{offsetAt, startAt}
-use Rattle.sheet.proofs.Scan.{Passed, passed-none, passed-more, passed-all, found}
+use Rattle.sheet_format.specs.Check.{offsetField, startAt}
+use Rattle.sheet.proofs.Scan.{Passed, passed-none, passed-more, passed-all, some-found}
 use Rattle.sheet.proofs.check.offset_differs.Statement.{statement}
 use Rattle.sheet.proofs.check.offset_differs.Tie as tie
 
 abbrev Differs : List ℕ → ℕ → Bool
-Differs s p = not (eqb (offsetAt s p) (startAt s p))
+Differs s p = not (eqb (offsetField s p) (startAt s p))
 
 abbrev Inv-loop : tie.InvT-loop
 Inv-loop s p₀ p = Passed 4 (Differs s) p
@@ -38,11 +38,11 @@ start-requires : tie.Need-start-requires Inv-loop μ-loop
 start-requires c κs = search needs
 
 returns : tie.Need-returns Inv-loop μ-loop
-unfolding offsetAt
+unfolding offsetField
 returns c =
     let loop = c .before .before .before .before in
     let s = now (loop .before .before .args .s) in
-    found 4 (Differs s) (loop .loop .p) (omega arith) (ap not (ne-eqb (offsetAt s (loop .loop .p)) (startAt s (loop .loop .p)) (λ e. c .if1 .taken (omega arith))))
+    some-found 4 (Differs s) (loop .loop .p) (omega arith) (ap not (ne-eqb (offsetField s (loop .loop .p)) (startAt s (loop .loop .p)) (λ e. c .if1 .taken (omega arith))))
 
 add-p : tie.Need-add-p Inv-loop μ-loop
 add-p c = search needs
@@ -51,11 +51,11 @@ loop-less : tie.Need-loop-less Inv-loop μ-loop
 loop-less c = search needs
 
 loop-again : tie.Need-loop-again Inv-loop μ-loop
-unfolding offsetAt
+unfolding offsetField
 loop-again c =
     let loop = c .before .before .before .before in
     let s = now (loop .before .before .args .s) in
-    passed-more 4 (Differs s) (loop .loop .p) (loop .loop .inv) (omega arith) (ap not (eq-eqb (offsetAt s (loop .loop .p)) (startAt s (loop .loop .p)) (omega arith)))
+    passed-more 4 (Differs s) (loop .loop .p) (loop .loop .inv) (omega arith) (ap not (eq-eqb (offsetField s (loop .loop .p)) (startAt s (loop .loop .p)) (omega arith)))
 
 returns-2 : tie.Need-returns-2 Inv-loop μ-loop
 returns-2 c =

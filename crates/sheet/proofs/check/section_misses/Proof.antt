@@ -10,7 +10,7 @@ use native.Mathlib.Numerals.{add-one}
 use Rattle.complexes.specs.Cell.{without, listed}
 use Rattle.sheet_format.specs.Check.{cellOf, cellsOf, some}
 use Rattle.sheet.proofs.Offset.{few}
-use Rattle.sheet.proofs.Scan.{Passed, passed-none, passed-more, passed-all, found}
+use Rattle.sheet.proofs.Scan.{Passed, passed-none, passed-more, passed-all, some-found}
 use Rattle.sheet.proofs.check.section_misses.Statement.{statement}
 use Rattle.sheet.proofs.check.section_misses.Tie as tie
 
@@ -57,7 +57,7 @@ returns : tie.Need-returns Inv-loop μ-loop
 returns c =
     let r = c .before in
     let s = r .before .before .before .before in
-    found (s .args .cells) (Test s) (r .before .before .loop .i) (omega arith) (told r ∙ c .if1 .taken)
+    some-found (s .args .cells) (Test s) (r .before .before .loop .i) (omega arith) (told r ∙ c .if1 .taken)
 
 add-i : tie.Need-add-i Inv-loop μ-loop
 add-i c = search needs

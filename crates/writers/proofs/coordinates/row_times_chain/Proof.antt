@@ -19,7 +19,7 @@ use Rattle.matrices.specs.Vector.{apply}
 use Rattle.reports.specs.Call.{libraryLimit, coefficientLimit}
 use Rattle.reduction_steps.specs.Table.{entry}
 use Rattle.lines.specs.Slice.{limit, at, Small}
-use Rattle.work.specs.Layout.{linesOf}
+use Rattle.operations.specs.Laid.{linesOf}
 use Rattle.lines.proofs.Words.{read, sfits-below, entry-fits, cast-fits, cast-is}
 use Rattle.lines.proofs.Spans.{line-span, span-inside}
 use Rattle.writers.proofs.Entries.{entry-lines}

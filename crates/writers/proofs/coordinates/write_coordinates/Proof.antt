@@ -14,13 +14,13 @@ use mir.Facts.{toZ-ofZ}
 use Rattle.integers.specs.Division.{modulo}
 use Rattle.matrices.specs.Vector.{apply}
 use Rattle.reduction_steps.specs.Table.{entry}
-use Rattle.reports.specs.Report.{kept, torsionCount, coordinateAt, coordinateList}
+use Rattle.reports.specs.Report.{reported, torsionCount, coordinateAt, coordinateList}
 use Rattle.reports.specs.Call.{libraryLimit, written}
 use Rattle.lines.specs.Slice.{at}
 use Rattle.lines.specs.declared.matrix.Matrix.{Matrix}
 use Rattle.lines.proofs.Words.{read}
-use Rattle.work.specs.Layout.{linesOf, stateOf}
-use Rattle.work.proofs.Division.{of-bits}
+use Rattle.operations.specs.Laid.{linesOf, stateOf}
+use Rattle.operations.proofs.Division.{of-bits}
 use Rattle.writers.specs.Written.{kindIn}
 use Rattle.writers.proofs.Held.{matrix-held, row-follower-held}
 use Rattle.writers.proofs.Rows.{map-blocks}
@@ -41,8 +41,8 @@ abbrev μ-loop : tie.MeasureT-loop
 
 loop-holds : tie.Need-loop-holds Inv-loop μ-loop
 loop-holds c =
-    let args = c .before .before .args in let m = args .reduced .work .matrix in let w = args .w .now in
-    progress-none (kindIn m w) (λ k. coordinate m (args .reduced .work .«row_follower») w (args .chain .now) k ∷ []) (m .lines) 0 (args .coordinates .now)
+    let args = c .before .before .args in let m = args .reduced .layout .matrix in let w = args .w .now in
+    progress-none (kindIn m w) (λ k. coordinate m (args .reduced .layout .«row_follower») w (args .chain .now) k ∷ []) (m .lines) 0 (args .coordinates .now)
 
 kind-requires : tie.Need-kind-requires Inv-loop μ-loop
 kind-requires c κs = (matrix-held (c .before .before .before .before .pre .laid), c .loop-test .taken)
@@ -96,7 +96,7 @@ loop-again : tie.Need-loop-again Inv-loop μ-loop
 loop-again c =
     let start = c .before .before .before .before .before .before in let loop = c .before .before .before .loop in let kind = c .before .kind in
     let more = c .before .before .loop-test .taken in
-    let m = start .args .reduced .work .matrix in let q = start .args .reduced .work .«row_follower» in
+    let m = start .args .reduced .layout .matrix in let q = start .args .reduced .layout .«row_follower» in
     let f : ℕ → ℤ = coordinate m q (start .args .w .now) (start .args .chain .now) in
     ⊎-elim
     (λ w. rw (w .3, w .4)
@@ -111,8 +111,8 @@ loop-again c =
 sub-t17 : tie.Need-sub-t17 Inv-loop μ-loop
 sub-t17 c = c .before .before .before .before .pre .rank-below
 
-kept-count-requires : tie.Need-kept-count-requires Inv-loop μ-loop
-kept-count-requires c κs =
+reported-count-requires : tie.Need-reported-count-requires Inv-loop μ-loop
+reported-count-requires c κs =
     let pre = c .before .before .before .before .pre in
     (matrix-held (pre .laid), pre .rank-below, pre .kinds)
 
@@ -123,13 +123,13 @@ returns : tie.Need-returns Inv-loop μ-loop
 unfolding stateOf torsionCount coordinateList coordinateAt
 returns c =
     let args = c .before .before .before .before .before .args in
-    let m = args .reduced .work .matrix in let q = args .reduced .work .«row_follower» in let w = args .w .now in
+    let m = args .reduced .layout .matrix in let q = args .reduced .layout .«row_follower» in let w = args .w .now in
     record {
       free = refl;
-      torsion = c .kept-count .ensures;
+      torsion = c .reported-count .ensures;
       is =
           written-whole (progress-end (c .before .before .loop .inv) (c .before .loop-test .left))
-          ∙ ap (λ (l : List ℤ). written l (args .coordinates .now)) (map-blocks (coordinate m q w (args .chain .now)) (kept (kindIn m w) (m .lines)));
+          ∙ ap (λ (l : List ℤ). written l (args .coordinates .now)) (map-blocks (coordinate m q w (args .chain .now)) (reported (kindIn m w) (m .lines)));
     }
 
 pub write-coordinates-spec : {M : Type 1} → statement M
@@ -149,6 +149,6 @@ write-coordinates-spec =
     loop-less
     loop-again
     sub-t17
-    kept-count-requires
+    reported-count-requires
     same-length
     returns)

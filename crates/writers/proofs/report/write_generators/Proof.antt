@@ -14,11 +14,11 @@ use Rattle.lists.specs.Tabulate.{tabulate}
 use Rattle.lists.specs.TabulateLaws.{length-tabulate, tabulate-ext}
 use Rattle.lists.specs.Splice.{splice}
 use Rattle.reduction_steps.specs.Table.{entry}
-use Rattle.reports.specs.Report.{kept}
+use Rattle.reports.specs.Report.{reported}
 use Rattle.lines.specs.Matrices.{contents}
 use Rattle.lines.specs.declared.matrix.Matrix.{Matrix}
-use Rattle.work.specs.Layout.{linesOf}
-use Rattle.work.proofs.Division.{of-bits}
+use Rattle.operations.specs.Laid.{linesOf}
+use Rattle.operations.proofs.Division.{of-bits}
 use Rattle.writers.specs.Written.{kindIn}
 use Rattle.writers.proofs.Entries.{entry-lines}
 use Rattle.writers.proofs.Rows.{columnsOf-blocks}
@@ -104,7 +104,7 @@ same-length c = same (c .before)
 returns : tie.Need-returns Inv-loop μ-loop
 returns c =
     let args = c .before .before .args in
-    rw (sym (columnsOf-blocks (linesOf (args .g) (args .w .now)) (args .g .width) (kept (kindIn (args .m) (args .w .now)) (args .m .lines))))
+    rw (sym (columnsOf-blocks (linesOf (args .g) (args .w .now)) (args .g .width) (reported (kindIn (args .m) (args .w .now)) (args .m .lines))))
     (progress-end (c .before .loop .inv) (c .loop-test .left))
 
 pub write-generators-spec : {M : Type 1} → statement M

@@ -11,9 +11,9 @@ use lib.IntN.{ℤ}
 use mir.Syntax.{w64}
 use mir.Val.{ofZ}
 use mir.Facts.{toZ-ofZ}
-use Rattle.reports.specs.Report.{kept}
+use Rattle.reports.specs.Report.{reported}
 use Rattle.lines.proofs.Words.{read}
-use Rattle.work.proofs.Division.{of-bits}
+use Rattle.operations.proofs.Division.{of-bits}
 use Rattle.writers.specs.Written.{kindIn}
 use Rattle.writers.proofs.Rows.{map-blocks}
 use Rattle.writers.proofs.Writing.{Progress, progress-none, progress-one, progress-end, progress-room, progress-length, progress-number}
@@ -80,7 +80,7 @@ returns : tie.Need-returns Inv-loop μ-loop
 returns c =
     let args = c .before .before .args in
     let e : ℕ → ℤ = kindIn (args .m) (args .w .now) in
-    rw (sym (map-blocks e (kept e (args .n)))) (progress-end (c .before .loop .inv) (c .loop-test .left))
+    rw (sym (map-blocks e (reported e (args .n)))) (progress-end (c .before .loop .inv) (c .loop-test .left))
 
 pub write-orders-spec : {M : Type 1} → statement M
 write-orders-spec =

@@ -9,10 +9,10 @@ use lib.IntN.{ℤ, pos}
 use mir.Syntax.{w64}
 use mir.Val.{SFits, toZ}
 use mir.Facts.{toZ-pos}
-use Rattle.reports.specs.Report.{kept, columnsOf, torsionCount, reportList}
-use Rattle.reports.specs.ReportLaws.{length-kept-le}
+use Rattle.reports.specs.Report.{reported, columnsOf, torsionCount, reportList}
+use Rattle.reports.specs.ReportLaws.{length-reported-le}
 use Rattle.reports.specs.Call.{written}
-use Rattle.work.specs.Layout.{linesOf, stateOf}
+use Rattle.operations.specs.Laid.{linesOf, stateOf}
 use Rattle.writers.specs.Written.{kindIn, WrittenFrom, CanReport, WroteReport}
 use Rattle.writers.specs.declared.reduced.Reduced.{Reduced}
 use Rattle.writers.proofs.Held.{matrix-held, row-inverse-held}
@@ -28,32 +28,32 @@ le-mul (suc m) n h = omega (arith, NatL.mul-le-mul-left (suc m) (NatL.le-trans o
     one = omega arith
 
 -- what is known once the orders are counted
-record Counted (x : Reduced) (w report : List ℤ) (torsion : ℕ) : Type 0 where
+record ReducedWith (x : Reduced) (w report : List ℤ) (torsion : ℕ) : Type 0 where
   can : CanReport x w (length report)
   fits : length report < 2 ^ 63
-  counted : torsion ≡ length (kept (kindIn (x .work .matrix) w) (x .rank))
+  counted : torsion ≡ length (reported (kindIn (x .layout .matrix) w) (x .rank))
 
-module _ {x : Reduced} {w report : List ℤ} {torsion : ℕ} (known : Counted x w report torsion) where
+module _ {x : Reduced} {w report : List ℤ} {torsion : ℕ} (known : ReducedWith x w report torsion) where
   abbrev free : ℕ
-  free = x .work .matrix .lines - x .rank
+  free = x .layout .matrix .lines - x .rank
 
   -- the kinds of the rows
   abbrev e : ℕ → ℤ
-  e = kindIn (x .work .matrix) w
+  e = kindIn (x .layout .matrix) w
 
   abbrev orders : List ℤ
-  orders = map e (kept e (x .rank))
+  orders = map e (reported e (x .rank))
 
   abbrev columns : List ℤ
-  columns = columnsOf (linesOf (x .work .«row_inverse») w) (x .work .«row_inverse» .width) (kept e (x .work .matrix .lines))
+  columns = columnsOf (linesOf (x .layout .«row_inverse») w) (x .layout .«row_inverse» .width) (reported e (x .layout .matrix .lines))
 
   free-fits : SFits w64 (pos free)
   free-fits = record {
-    sfits = omega (arith, known .fits, known .can .room, le-mul (x .work .matrix .lines) (x .work .«row_inverse» .width) (known .can .lines-below));
+    sfits = omega (arith, known .fits, known .can .room, le-mul (x .layout .matrix .lines) (x .layout .«row_inverse» .width) (known .can .lines-below));
   }
 
   torsion-fits : SFits w64 (pos torsion)
-  torsion-fits = record { sfits = omega (arith, known .fits, known .can .room, known .counted, length-kept-le e (x .rank)) }
+  torsion-fits = record { sfits = omega (arith, known .fits, known .can .room, known .counted, length-reported-le e (x .rank)) }
 
   -- the report with the two counts
   abbrev headed : List ℤ
@@ -65,10 +65,10 @@ module _ {x : Reduced} {w report : List ℤ} {torsion : ℕ} (known : Counted x 
       (written-one (written-one (written-none 0 report) (pos free) (omega (arith, known .can .room))) (pos torsion) (omega (arith, known .can .room)))
 
   module _ {next : ℕ} {ordered : List ℤ} (o : WrittenFrom 2 orders headed next ordered) where
-    columns-room : next + x .work .«row_inverse» .lines * x .work .«row_inverse» .width ≤ length report
+    columns-room : next + x .layout .«row_inverse» .lines * x .layout .«row_inverse» .width ≤ length report
     columns-room =
-        subst (λ (n : ℕ). next + n * x .work .«row_inverse» .width ≤ length report) (sym (known .can .laid .row-inverse-lines))
-        (omega (arith, o .next, known .can .room, length-map (kept e (x .rank)) e, length-kept-le e (x .rank)))
+        subst (λ (n : ℕ). next + n * x .layout .«row_inverse» .width ≤ length report) (sym (known .can .laid .row-inverse-lines))
+        (omega (arith, o .next, known .can .room, length-map (reported e (x .rank)) e, length-reported-le e (x .rank)))
 
     wrote : {last : ℕ} {report′ : List ℤ} → WrittenFrom next columns ordered last report′
         → WroteReport x w report (record { free = free; torsion = torsion }) report′
@@ -81,17 +81,17 @@ module _ {x : Reduced} {w report : List ℤ} {torsion : ℕ} (known : Counted x 
           ∙ ap (λ (t : ℕ). written (pos free ∷ pos t ∷ (orders ++ columns)) report) (known .counted);
     }
 
-kept-count-requires : tie.Need-kept-count-requires
-kept-count-requires c κs =
+reported-count-requires : tie.Need-reported-count-requires
+reported-count-requires c κs =
     let pre = c .before .before .pre in
     (matrix-held (pre .laid), pre .rank-below, pre .kinds)
 
-known-after : (c : tie.After-kept-count) →
-    Counted (c .before .before .before .args .reduced) (c .before .before .before .args .w .now) (c .before .before .before .args .report .now)
-    (c .kept-count .result)
+known-after : (c : tie.After-reported-count) →
+    ReducedWith (c .before .before .before .args .reduced) (c .before .before .before .args .w .now) (c .before .before .before .args .report .now)
+    (c .reported-count .result)
 known-after c =
     let start = c .before .before .before in
-    record { can = start .pre; fits = omega (arith, start .good); counted = c .kept-count .ensures }
+    record { can = start .pre; fits = omega (arith, start .good); counted = c .reported-count .ensures }
 
 sub-free : tie.Need-sub-free
 sub-free c = c .before .before .before .before .pre .rank-below
@@ -116,7 +116,7 @@ write-orders-requires c κs =
 write-generators-requires : tie.Need-write-generators-requires
 write-generators-requires c κs =
     let counted = c .before .before .before .before .before in let write-orders = c .before .before .write-orders in
-    let g = counted .before .before .before .args .reduced .work .«row_inverse» in let pre = counted .before .before .before .pre in (
+    let g = counted .before .before .before .args .reduced .layout .«row_inverse» in let pre = counted .before .before .before .pre in (
       matrix-held (pre .laid),
       row-inverse-held (pre .laid),
       sym (pre .laid .row-inverse-lines),
@@ -138,7 +138,7 @@ pub write-report-spec : {M : Type 1} → statement M
 write-report-spec =
     tie.close
     (tie.spec
-    kept-count-requires
+    reported-count-requires
     sub-free
     cast-report
     slice-set-from-report

@@ -10,8 +10,8 @@ use Rattle.matrices.specs.Operation.{swap, onColumns}
 use Rattle.lines.specs.Slice.{Small, Swapped, LinesSwapped}
 use Rattle.lines.specs.Matrices.{Held, contents, Holds}
 use Rattle.lines.specs.declared.matrix.Matrix.{Matrix}
-use Rattle.lines.specs.declared.line.Written.{Written}
-use Rattle.lines.specs.declared.line.Written.the-variants.{Done, TooWide}
+use Rattle.lines.specs.declared.line.Effect.{Effect}
+use Rattle.lines.specs.declared.line.Effect.the-variants.{Done, TooWide}
 use Rattle.lines.proofs.Spans.{Span, entry-span, span-inside, spans-one-or-apart, one-or-apart}
 use Rattle.lines.proofs.Operations.{upTo, upTo-below, upTo-from, swap-entries}
 use Rattle.lines.proofs.matrix.Matrix.swap_places.Statement.{statement}
@@ -44,7 +44,7 @@ ended {M} {w₀} {j} {k} {w} {i} inv done = record {
   small = inv .so-far .small;
 }
 
-always-done : (w : List ℤ) (first second width : ℕ) (r : Written) (w′ : List ℤ) → Swapped w first second width r w′ → LinesSwapped w first second width w′
+always-done : (w : List ℤ) (first second width : ℕ) (r : Effect) (w′ : List ℤ) → Swapped w first second width r w′ → LinesSwapped w first second width w′
 always-done w first second width Done w′ h = h
 always-done w first second width TooWide w′ h = absurd h
 
@@ -100,7 +100,7 @@ same-length c = c .before .before .before .swap .kept .0 ∙ c .before .before .
 returns : tie.Need-returns Inv-loop μ-loop
 returns c =
     let line = c .before .before .before .before .before in let called = c .before .before .before .swap in
-    absurd (subst (λ (r : Written). Swapped (line .before .before .loop .w) (line .line .result + start line .args .j) (line .line .result + start line .args .k) 1 r (called .last .0))
+    absurd (subst (λ (r : Effect). Swapped (line .before .before .loop .w) (line .line .result + start line .args .j) (line .line .result + start line .args .k) 1 r (called .last .0))
     (c .enum-told2 .given .1) (called .ensures))
 
 add-i : tie.Need-add-i Inv-loop μ-loop

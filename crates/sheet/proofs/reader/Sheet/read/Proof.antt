@@ -7,7 +7,7 @@ use mathlib.Core.List.{List}
 use Prim.Native.Nat.{ℕ}
 use lib.ListN.{length}
 use denote.Ref.{now}
-use Rattle.sheet_format.specs.Check.{startAt, sectionsOf, tooShort, countExceeds, offsetDiffers, lengthDiffers, verticesFall, cellsFall, refusal}
+use Rattle.sheet_format.specs.Check.{startAt, sectionsOf, tooShort, countExceeds, offsetDiffers, lengthDiffers, verticesDoNotRise, cellsDoNotRise, refusal}
 use Rattle.sheet.proofs.reader.Sheet.read.Statement.{statement}
 use Rattle.sheet.proofs.reader.Sheet.read.Tie as tie
 
@@ -45,11 +45,11 @@ offsets c = sym (c .before .offset-differs .ensures) ∙ c .if3 .left
 ends : (c : tie.Else4) → lengthDiffers (Bytes (start₄ c)) ≡ false
 ends c = ap not (eq-eqb (length (Bytes (start₄ c))) (startAt (Bytes (start₄ c)) 4) (c .if4 .left ∙ c .before .start .ensures .is))
 
-vertices : (c : tie.Else5) → verticesFall (sectionsOf (Bytes (start₅ c))) ≡ false
-vertices c = sym (c .before .vertices-fall .ensures) ∙ c .if5 .left
+vertices : (c : tie.Else5) → verticesDoNotRise (sectionsOf (Bytes (start₅ c))) ≡ false
+vertices c = sym (c .before .vertices-do-not-rise .ensures) ∙ c .if5 .left
 
-cells : (c : tie.Else6) → cellsFall (sectionsOf (Bytes (start₆ c))) ≡ false
-cells c = sym (c .before .cells-fall .ensures) ∙ c .if6 .left
+cells : (c : tie.Else6) → cellsDoNotRise (sectionsOf (Bytes (start₆ c))) ≡ false
+cells c = sym (c .before .cells-do-not-rise .ensures) ∙ c .if6 .left
 
 returns : tie.Need-returns
 unfolding refusal
@@ -87,8 +87,8 @@ returns-4 c =
     let b = Bytes (start₃ c₃) in
     rw (long c₁, counts c₂, offsets c₃, ne-eqb (length b) (startAt b 4) (λ e. c .if4 .taken (e ∙ sym (c .before .start .ensures .is))))
 
-vertices-fall-requires : tie.Need-vertices-fall-requires
-vertices-fall-requires c κs = search needs
+vertices-do-not-rise-requires : tie.Need-vertices-do-not-rise-requires
+vertices-do-not-rise-requires c κs = search needs
 
 returns-5 : tie.Need-returns-5
 unfolding refusal
@@ -97,10 +97,10 @@ returns-5 c =
     let c₃ = c₄ .before .before in
     let c₂ = c₃ .before .before in
     let c₁ = c₂ .before .before in
-    rw (long c₁, counts c₂, offsets c₃, ends c₄, ← c .before .vertices-fall .ensures, c .if5 .taken)
+    rw (long c₁, counts c₂, offsets c₃, ends c₄, ← c .before .vertices-do-not-rise .ensures, c .if5 .taken)
 
-cells-fall-requires : tie.Need-cells-fall-requires
-cells-fall-requires c κs = search needs
+cells-do-not-rise-requires : tie.Need-cells-do-not-rise-requires
+cells-do-not-rise-requires c κs = search needs
 
 returns-6 : tie.Need-returns-6
 unfolding refusal
@@ -110,7 +110,7 @@ returns-6 c =
     let c₃ = c₄ .before .before in
     let c₂ = c₃ .before .before in
     let c₁ = c₂ .before .before in
-    rw (long c₁, counts c₂, offsets c₃, ends c₄, vertices c₅, ← c .before .cells-fall .ensures, c .if6 .taken)
+    rw (long c₁, counts c₂, offsets c₃, ends c₄, vertices c₅, ← c .before .cells-do-not-rise .ensures, c .if6 .taken)
 
 face-missing-requires : tie.Need-face-missing-requires
 face-missing-requires c κs = cells c
@@ -149,9 +149,9 @@ read-spec =
     add-start
     start-requires
     returns-4
-    vertices-fall-requires
+    vertices-do-not-rise-requires
     returns-5
-    cells-fall-requires
+    cells-do-not-rise-requires
     returns-6
     face-missing-requires
     returns-7

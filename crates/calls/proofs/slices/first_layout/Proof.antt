@@ -1,0 +1,35 @@
+-- `slices::first_layout` meets its contract: the room for the matrix is a product of two counts. Assumes nothing.
+use Prim.Native.Nat.{_≤_, _*_, _^_}
+use native.Mathlib.Omega.{arith}
+use borrow.Author.Needs.{needs}
+use Rattle.calls.specs.Slices.{firstLayout}
+use Rattle.calls.proofs.Room.{product-below, max-below}
+use Rattle.calls.proofs.slices.first_layout.Statement.{statement}
+use Rattle.calls.proofs.slices.first_layout.Tie as tie
+
+larger-requires : tie.Need-larger-requires
+larger-requires c κs = search needs
+
+room-below : (c : tie.After-larger) → c .before .args .cells * c .larger .result ≤ 2 ^ 32
+room-below c =
+    let pre = c .before .pre in
+    product-below (pre .0) (rw (c .larger .ensures) (max-below (pre .1) (pre .2)))
+
+mul-room : tie.Need-mul-room
+mul-room c = omega (arith, room-below c)
+
+square-below : (c : tie.After-larger) → c .before .args .cells * c .before .args .cells ≤ 2 ^ 32
+square-below c = product-below (c .before .pre .0) (c .before .pre .0)
+
+mul-t5 : tie.Need-mul-t5
+mul-t5 c = omega (arith, square-below c)
+
+add-t10 : tie.Need-add-t10
+add-t10 c = omega (arith, room-below c, square-below c)
+
+returns : tie.Need-returns
+unfolding firstLayout
+returns c = rw (c .larger .ensures)
+
+pub first-layout-spec : {M : Type 1} → statement M
+first-layout-spec = tie.close (tie.spec larger-requires mul-room mul-t5 add-t10 returns)

@@ -1,0 +1,158 @@
+-- The operations on rows and those on columns, told alike. An operation on a side changes the matrix, the side's follower and its
+-- inverse companion, and keeps the two companions of the other side.
+use mathlib.Core.Path.{_≡_, refl, sym}
+use mathlib.Core.Bool.{Bool, true, false, false≢true, _&&_}
+use mathlib.Core.List.{List}
+use Prim.Native.Nat.{ℕ, _<_, _≤_}
+use native.Mathlib.Omega.{arith}
+use lib.IntN.{ℤ}
+use Rattle.matrices.specs.Matrix as theory
+use Rattle.matrices.specs.Operation.{Operation, onRows, onColumns, inverse}
+use Rattle.reduction_steps.specs.Table.{Table, entry, table, tableWithin}
+use Rattle.reduction_steps.specs.State.{State, Outcome, follow, rowOperation, columnOperation, within, checked, onRow, onColumn}
+use Rattle.lines.specs.Slice.{limit}
+use Rattle.lines.specs.Matrices.{end, Held}
+use Rattle.lines.specs.declared.matrix.Matrix.{Matrix}
+use Rattle.operations.specs.Laid.{Laid, sizesOf, linesOf, stateOf}
+use Rattle.operations.specs.declared.layout.Layout.{Layout}
+use Rattle.operations.proofs.Regions.{Disjoint}
+
+pub data Side : Type 0 where
+  rows : Side
+  columns : Side
+
+abbrev pub across : Side → Side
+across rows = columns
+across columns = rows
+
+-- how many lines the side's companions have
+abbrev pub count : Side → Layout → ℕ
+count rows W = W .matrix .lines
+count columns W = W .matrix .width
+
+abbrev pub follower : Side → Layout → Matrix
+follower rows W = W .«row_follower»
+follower columns W = W .«column_follower»
+
+abbrev pub undone : Side → Layout → Matrix
+undone rows W = W .«row_inverse»
+undone columns W = W .«column_inverse»
+
+-- what an operation on the side makes of the matrix
+abbrev pub onSide : Side → Operation → theory.Matrix → theory.Matrix
+onSide rows op A = onRows op A
+onSide columns op A = onColumns op A
+
+-- its outcome
+abbrev pub outcomeOn : Side → Layout → Operation → State → Outcome
+outcomeOn rows W op s = onRow limit (sizesOf W) op s
+outcomeOn columns W op s = onColumn limit (sizesOf W) op s
+
+-- the state with the matrix, the side's follower and inverse companion, and those of the other side
+abbrev pub put : Side → Table → Table → Table → Table → Table → State
+put rows a b c d e = record { matrix = a; rowFollower = b; rowInverse = c; columnFollower = d; columnInverse = e }
+put columns a b c d e = record { matrix = a; rowFollower = d; rowInverse = e; columnFollower = b; columnInverse = c }
+
+pub state-put :
+    (x : Side) (W : Layout) (w : List ℤ)
+    → stateOf W w ≡ put x (linesOf (W .matrix) w) (linesOf (follower x W) w) (linesOf (undone x W) w) (linesOf (follower (across x) W) w) (linesOf (undone (across x) W) w)
+unfolding stateOf
+state-put rows W w = refl
+state-put columns W w = refl
+
+pub outcome-put :
+    (x : Side) (W : Layout) (op : Operation) (w : List ℤ)
+    → outcomeOn x W op (stateOf W w)
+    ≡ checked limit (put x
+    (table (W .matrix .lines) (W .matrix .width) (onSide x op (entry (linesOf (W .matrix) w))))
+    (follow (count x W) (follower x W .width) op (linesOf (follower x W) w))
+    (follow (count x W) (undone x W .width) (inverse op) (linesOf (undone x W) w))
+    (linesOf (follower (across x) W) w)
+    (linesOf (undone (across x) W) w))
+unfolding stateOf onRow onColumn rowOperation columnOperation
+outcome-put rows W op w = refl
+outcome-put columns W op w = refl
+
+-- one table beyond the limit is enough
+pub within-put :
+    (x : Side) (a b c d e : Table) → tableWithin limit a && (tableWithin limit b && tableWithin limit c) ≡ false
+    → within limit (put x a b c d e) ≡ false
+unfolding within
+within-put rows a b c d e h = go (tableWithin limit a) (tableWithin limit b) (tableWithin limit c) (tableWithin limit d && tableWithin limit e) h
+  where
+    go : (p q r t : Bool) → p && (q && r) ≡ false → p && (q && (r && t)) ≡ false
+    go false q r t h = refl
+    go true false r t h = refl
+    go true true false t h = refl
+    go true true true t h = absurd (false≢true (sym h))
+within-put columns a b c d e h = go (tableWithin limit a) (tableWithin limit d) (tableWithin limit e) (tableWithin limit b) (tableWithin limit c) h
+  where
+    go : (p t u q r : Bool) → p && (q && r) ≡ false → p && (t && (u && (q && r))) ≡ false
+    go false t u q r h = refl
+    go true false u q r h = refl
+    go true true false q r h = refl
+    go true true true q r h = h
+
+-- ---- how the matrices lie
+
+-- the three matrices that an operation changes share no place with one another, nor with the two that it keeps
+pub record Separate (a b c d e : Matrix) : Type 0 where
+  pub ab : Disjoint a b
+  pub ac : Disjoint a c
+  pub ad : Disjoint a d
+  pub ae : Disjoint a e
+  pub bc : Disjoint b c
+  pub bd : Disjoint b d
+  pub be : Disjoint b e
+  pub cd : Disjoint c d
+  pub ce : Disjoint c e
+
+module _ {n : ℕ} {W : Layout} (l : Laid n W) where
+  pub separate : (x : Side) → Separate (W .matrix) (follower x W) (undone x W) (follower (across x) W) (undone (across x) W)
+  separate rows = record {
+    ab = record { none = λ p s t. omega arith };
+    ac = record { none = λ p s t. omega arith };
+    ad = record { none = λ p s t. omega arith };
+    ae = record { none = λ p s t. omega arith };
+    bc = record { none = λ p s t. omega arith };
+    bd = record { none = λ p s t. omega arith };
+    be = record { none = λ p s t. omega arith };
+    cd = record { none = λ p s t. omega arith };
+    ce = record { none = λ p s t. omega arith };
+  }
+  separate columns = record {
+    ab = record { none = λ p s t. omega arith };
+    ac = record { none = λ p s t. omega arith };
+    ad = record { none = λ p s t. omega arith };
+    ae = record { none = λ p s t. omega arith };
+    bc = record { none = λ p s t. omega arith };
+    bd = record { none = λ p s t. omega arith };
+    be = record { none = λ p s t. omega arith };
+    cd = record { none = λ p s t. omega arith };
+    ce = record { none = λ p s t. omega arith };
+  }
+
+  pub follower-lines : (x : Side) → follower x W .lines ≡ count x W
+  follower-lines rows = l .row-follower-lines
+  follower-lines columns = l .column-follower-lines
+
+  pub undone-lines : (x : Side) → undone x W .lines ≡ count x W
+  undone-lines rows = l .row-inverse-lines
+  undone-lines columns = l .column-inverse-lines
+
+  pub follower-inside : (x : Side) → end (follower x W) ≤ n
+  follower-inside rows = omega arith
+  follower-inside columns = omega arith
+
+  pub undone-inside : (x : Side) → end (undone x W) ≤ n
+  undone-inside rows = omega arith
+  undone-inside columns = omega arith
+
+  pub follower-below : (x : Side) {k : ℕ} → k < count x W → k < follower x W .lines
+  follower-below x h = rw (follower-lines x) h
+
+  pub undone-below : (x : Side) {k : ℕ} → k < count x W → k < undone x W .lines
+  undone-below x h = rw (undone-lines x) h
+
+  pub matrix-held : Held n (W .matrix)
+  matrix-held = record { ends = omega arith }

@@ -1,0 +1,106 @@
+-- `operations::layout::Layout::swap_columns` meets its contract: the columns are exchanged in the matrix, the follower and the
+-- inverse companion, one after another. Assumes nothing.
+use mathlib.Core.Path.{_∙_}
+use borrow.Author.Needs.{needs}
+use Rattle.matrices.specs.Operation.{swap, inverse}
+use Rattle.operations.proofs.Side.{columns, follower-below, undone-below, matrix-held}
+use Rattle.operations.proofs.Operate.{Task, wide-matrix, follower-ready, wide-follower, undone-ready, operated}
+use Rattle.operations.proofs.layout.Layout.swap_columns.Statement.{statement}
+use Rattle.operations.proofs.layout.Layout.swap_columns.Tie as tie
+
+abbrev task : tie.Start → Task
+task s = record {
+  side = columns;
+  operation = swap (s .args .j) (s .args .k);
+  layout = s .args .self;
+  slice = s .args .w .now;
+  laid = s .pre .0;
+  fits = record { first = s .pre .1 .1 .0; second = s .pre .1 .1 .1 };
+}
+
+swap-places-requires : tie.Need-swap-places-requires
+swap-places-requires c κs = let s = c .before in (matrix-held (s .pre .0), (s .pre .1 .0, s .pre .1 .1))
+
+enum-told : tie.Need-enum-told
+enum-told c = search needs
+
+enum-told-2 : tie.Need-enum-told-2
+enum-told-2 c = search needs
+
+same-length : tie.Need-same-length
+same-length c = c .before .before .before .swap-places .kept .1 .0
+
+returns : tie.Need-returns
+returns c =
+    let s = c .before .before .before .before .before in
+    let a = c .before .before .before .swap-places in
+    wide-matrix (task s) (a .last .1 .0) (a .result) (a .ensures) (c .enum-told2 .given .1)
+
+swap-lines-requires : tie.Need-swap-lines-requires
+swap-lines-requires c κs =
+    let s = c .before .before .before .before .before .before in
+    let a = c .before .before .before .before .swap-places in
+    let ready = follower-ready (task s) (a .last .1 .0) (a .result) (a .ensures) (c .before .enum-told .given .1) in
+    (ready .held, (ready .small, (follower-below (s .pre .0) columns (s .pre .1 .1 .0), follower-below (s .pre .0) columns (s .pre .1 .1 .1))))
+
+enum-told-3 : tie.Need-enum-told-3
+enum-told-3 c = search needs
+
+enum-told-4 : tie.Need-enum-told-4
+enum-told-4 c = search needs
+
+same-length-2 : tie.Need-same-length-2
+same-length-2 c = c .before .before .before .swap-lines .kept .1 .0 ∙ c .before .before .before .before .before .before .before .before .swap-places .kept .1 .0
+
+returns-2 : tie.Need-returns-2
+returns-2 c =
+    let s = c .before .before .before .before .before .before .before .before .before .before in
+    let a = c .before .before .before .before .before .before .before .before .swap-places in
+    let b = c .before .before .before .swap-lines in
+    wide-follower (task s)
+    (a .last .1 .0) (a .result) (a .ensures) (c .before .before .before .before .before .enum-told .given .1)
+    (b .last .1 .0) (b .result) (b .ensures) (c .enum-told4 .given .1)
+
+swap-lines-requires-2 : tie.Need-swap-lines-requires-2
+swap-lines-requires-2 c κs =
+    let s = c .before .before .before .before .before .before .before .before .before .before .before in
+    let a = c .before .before .before .before .before .before .before .before .before .swap-places in
+    let b = c .before .before .before .before .swap-lines in
+    let ready =
+    undone-ready (task s)
+    (a .last .1 .0) (a .result) (a .ensures) (c .before .before .before .before .before .before .enum-told .given .1)
+    (b .last .1 .0) (b .result) (b .ensures) (c .before .enum-told3 .given .1)
+    in (ready .held, (ready .small, (undone-below (s .pre .0) columns (s .pre .1 .1 .0), undone-below (s .pre .0) columns (s .pre .1 .1 .1))))
+
+same-length-3 : tie.Need-same-length-3
+same-length-3 c = c .before .swap-lines2 .kept .1 .0 ∙ c .before .before .before .before .before .before .swap-lines .kept .1 .0 ∙ c .before .before .before .before .before .before .before .before .before .before .before .swap-places .kept .1 .0
+
+returns-3 : tie.Need-returns-3
+unfolding inverse
+returns-3 c =
+    let s = c .before .before .before .before .before .before .before .before .before .before .before .before .before in
+    let a = c .before .before .before .before .before .before .before .before .before .before .before .swap-places in
+    let b = c .before .before .before .before .before .before .swap-lines in
+    let g = c .before .swap-lines2 in
+    operated (task s)
+    (a .last .1 .0) (a .result) (a .ensures) (c .before .before .before .before .before .before .before .before .enum-told .given .1)
+    (b .last .1 .0) (b .result) (b .ensures) (c .before .before .before .enum-told3 .given .1)
+    (g .last .1 .0) (g .result) (g .ensures)
+
+pub swap-columns-spec : {M : Type 1} → statement M
+swap-columns-spec =
+    tie.close
+    (tie.spec
+    swap-places-requires
+    enum-told
+    enum-told-2
+    same-length
+    returns
+    swap-lines-requires
+    enum-told-3
+    enum-told-4
+    same-length-2
+    returns-2
+    swap-lines-requires-2
+    same-length-3
+    returns-3)

@@ -1,0 +1,59 @@
+-- `operations::pivot::along_row` meets its contract. The loop's invariant: the row up to place j has been scanned. The measure is what is left of the
+-- row. Assumes nothing.
+use Prim.Native.Nat.{_-_}
+use native.Mathlib.Omega.{arith}
+use Rattle.lines.specs.Matrices.{contents}
+use Rattle.operations.specs.Scan.{choiceOf}
+use Rattle.operations.proofs.Division.{of-bits}
+use Rattle.operations.proofs.Choosing.{size-fits}
+use Rattle.operations.proofs.Scanning.{Along, along-starts, along-next, along-one, along-ends}
+use Rattle.operations.proofs.pivot.along_row.Statement.{statement}
+use Rattle.operations.proofs.pivot.along_row.Tie as tie
+
+abbrev Inv-loop : tie.InvT-loop
+Inv-loop m w i k chosen₀ j₀ width chosen j = Along (contents m w) i k width (choiceOf chosen₀) j chosen
+
+abbrev μ-loop : tie.MeasureT-loop
+μ-loop m w i k chosen₀ j₀ width chosen j = width - j
+
+loop-holds : tie.Need-loop-holds Inv-loop μ-loop
+loop-holds c = along-starts (contents (c .args .m) (c .args .w .now)) (c .args .i) (c .args .k) (c .args .m .width) (c .pre .1 .1 .2)
+
+better-requires : tie.Need-better-requires Inv-loop μ-loop
+better-requires c κs =
+    let s = c .before .before in
+    (s .pre .0, (s .pre .1 .0, (s .pre .1 .1 .0, c .loop-test .taken, c .before .loop .inv .best)))
+
+returns : tie.Need-returns Inv-loop μ-loop
+returns c =
+    let s = c .before .before .before .before .before .before in
+    let b = c .before .before .before .better .ensures in
+    (b .0, along-one (c .before .before .before .before .before .loop .inv) (c .before .before .before .before .loop-test .taken) (b .0) (b .1) (of-bits (size-fits (s .args .m) (s .args .w .now) (s .pre .1 .0) (b .0)) (c .if1 .taken)))
+
+add-j : tie.Need-add-j Inv-loop μ-loop
+add-j c = omega arith
+
+loop-less : tie.Need-loop-less Inv-loop μ-loop
+loop-less c = omega arith
+
+loop-again : tie.Need-loop-again Inv-loop μ-loop
+loop-again c =
+    let b = c .before .before .before .better .ensures in
+    along-next (c .before .before .before .before .before .loop .inv) (c .before .before .before .before .loop-test .taken) (b .0) (b .1)
+
+returns-2 : tie.Need-returns-2 Inv-loop μ-loop
+returns-2 c = (c .before .loop .inv .best, along-ends (c .before .loop .inv) (c .loop-test .left))
+
+pub along-row-spec : {M : Type 1} → statement M
+along-row-spec =
+    tie.close
+    (tie.spec
+    Inv-loop
+    μ-loop
+    loop-holds
+    better-requires
+    returns
+    add-j
+    loop-less
+    loop-again
+    returns-2)

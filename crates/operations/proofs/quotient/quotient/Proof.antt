@@ -1,0 +1,50 @@
+-- `operations::quotient::quotient` meets its contract: the machine's quotient is `floor`, or one more where the remainder is below 0.
+-- Assumes nothing.
+use mathlib.Core.Path.{sym, ap, _∙_}
+use Prim.Native.Nat.{zero-le}
+use lib.IntN.{ℤ}
+use Rattle.integers.specs.Division.{floor}
+use Rattle.operations.proofs.Division.{floor-zero, of-bits, positive-bits, quotient-fits, pred-fits, rounded-down, rounded-down-pred, floor-small}
+use Rattle.operations.proofs.quotient.quotient.Statement.{statement}
+use Rattle.operations.proofs.quotient.quotient.Tie as tie
+
+returns : tie.Need-returns
+returns c =
+    let s = c .before in
+    (sym (ap (λ (x : ℤ). floor x (s .args .d)) (of-bits (s .fits .x) (c .if1 .taken)) ∙ floor-zero (s .args .d)), zero-le)
+
+rem-if2 : tie.Need-rem-if2
+rem-if2 c =
+    let s = c .before in
+    (positive-bits (s .args .d) (s .pre .0), quotient-fits (s .args .x) (s .args .d) (s .fits .x) (s .fits .d) (s .pre .0))
+
+div-result : tie.Need-div-result
+div-result c =
+    let s = c .before .before in
+    (positive-bits (s .args .d) (s .pre .0), quotient-fits (s .args .x) (s .args .d) (s .fits .x) (s .fits .d) (s .pre .0))
+
+sub-result : tie.Need-sub-result
+sub-result c =
+    let s = c .before .before in
+    pred-fits (s .args .x) (s .args .d) (s .fits .x) (s .fits .d) (s .pre .0) (s .pre .1)
+
+div-result-2 : tie.Need-div-result-2
+div-result-2 c =
+    let s = c .before .before in
+    (positive-bits (s .args .d) (s .pre .0), quotient-fits (s .args .x) (s .args .d) (s .fits .x) (s .fits .d) (s .pre .0))
+
+returns-2 : tie.Need-returns-2
+returns-2 c =
+    let s = c .before .before in
+    let e = rounded-down-pred (s .args .x) (s .args .d) (s .fits .x) (s .fits .d) (s .pre .0) (s .pre .1) (c .if2 .taken) in
+    (e, floor-small (s .args .x) (s .args .d) _ (s .pre .1) e)
+
+returns-3 : tie.Need-returns-3
+returns-3 c =
+    let s = c .before .before in
+    let e = rounded-down (s .args .x) (s .args .d) (s .fits .x) (s .fits .d) (s .pre .0) (c .if2 .left) in
+    (e, floor-small (s .args .x) (s .args .d) _ (s .pre .1) e)
+
+pub quotient-spec : {M : Type 1} → statement M
+quotient-spec =
+    tie.close (tie.spec returns rem-if2 div-result sub-result div-result-2 returns-2 returns-3)

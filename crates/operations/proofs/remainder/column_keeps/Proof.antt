@@ -1,0 +1,74 @@
+-- `operations::remainder::column_keeps` meets its contract. The loop's invariant: no entry passed is nonzero. The measure is what is left of the
+-- column. Assumes nothing.
+use mathlib.Core.Path.{sym, _∙_}
+use Prim.Native.Nat.{suc, _-_}
+use native.Mathlib.Omega.{arith}
+use borrow.Author.Needs.{needs}
+use Rattle.lines.specs.Matrices.{contents}
+use Rattle.operations.proofs.Tests.{nonzero, Looking, looking-after, looking-found, looking-next, looking-ends, columnKeeps-any, nonzero-true, nonzero-false}
+use Rattle.operations.proofs.remainder.column_keeps.Statement.{statement}
+use Rattle.operations.proofs.remainder.column_keeps.Tie as tie
+
+abbrev Inv-loop : tie.InvT-loop
+Inv-loop m w k i₀ lines i = Looking (λ a. nonzero (contents m w a k)) (suc k) lines i
+
+abbrev μ-loop : tie.MeasureT-loop
+μ-loop m w k i₀ lines i = lines - i
+
+add-i : tie.Need-add-i Inv-loop μ-loop
+add-i c = omega arith
+
+loop-holds : tie.Need-loop-holds Inv-loop μ-loop
+loop-holds c = looking-after (λ a. nonzero (contents (c .args .m) (c .args .w .now) a (c .args .k))) (c .pre .1 .0)
+
+entry-requires : tie.Need-entry-requires Inv-loop μ-loop
+entry-requires c κs = search needs
+
+returns : tie.Need-returns Inv-loop μ-loop
+returns c =
+    let s = c .before .before .before .before in
+    let A = contents (s .args .m) (s .args .w .now) in
+    let i = c .before .before .before .loop .i in
+    let k = s .args .k in
+    let e = c .before .entry in
+    sym (columnKeeps-any A k (s .args .m .lines - suc k) (suc k)
+    ∙ looking-found (c .before .before .before .loop .inv) (c .before .before .loop-test .taken)
+    (nonzero-true (A i k) (e .result) (record { sfits = e .ok }) (e .ensures) (c .if1 .taken)))
+
+add-i-2 : tie.Need-add-i-2 Inv-loop μ-loop
+add-i-2 c = omega arith
+
+loop-less : tie.Need-loop-less Inv-loop μ-loop
+loop-less c = omega arith
+
+loop-again : tie.Need-loop-again Inv-loop μ-loop
+loop-again c =
+    let s = c .before .before .before .before in
+    let A = contents (s .args .m) (s .args .w .now) in
+    let i = c .before .before .before .loop .i in
+    let k = s .args .k in
+    let e = c .before .entry in
+    looking-next (c .before .before .before .loop .inv) (c .before .before .loop-test .taken)
+    (nonzero-false (A i k) (e .result) (record { sfits = e .ok }) (e .ensures) (c .if1 .left))
+
+returns-2 : tie.Need-returns-2 Inv-loop μ-loop
+returns-2 c =
+    let s = c .before .before in
+    let A = contents (s .args .m) (s .args .w .now) in
+    let k = s .args .k in
+    sym (columnKeeps-any A k (s .args .m .lines - suc k) (suc k) ∙ looking-ends (c .before .loop .inv) (c .loop-test .left))
+
+pub column-keeps-spec : {M : Type 1} → statement M
+column-keeps-spec =
+    tie.close
+    (tie.spec
+    Inv-loop
+    μ-loop
+    add-i
+    loop-holds
+    entry-requires
+    returns
+    add-i-2
+    loop-less
+    loop-again
+    returns-2)

@@ -1,3 +1,0 @@
--- What the contracts of src/ cite: how a state of the reduction lies in the slice, and what the scans answer.
-pub mod Layout
-pub mod Scan
