@@ -1,17 +1,15 @@
--- Sums: a bound from a bound of the terms (`natAbs-sum`, `natAbs-part`), and a sum over the rows of the column of a cell as a sum over its
+-- Sums over faces: a bound (`natAbs-part`), and a sum over the rows of the column of a cell as a sum over its
 -- faces, by their places (`sum-places`).
 use mathlib.Core.Path.{_≡_, sym, ap, _∙_}
 use mathlib.Core.Logic.{_≢_}
 use mathlib.Core.Bool.{Bool, true, false, cond}
 use mathlib.Core.List.{List}
-use Prim.Native.Nat.{ℕ, zero, suc, _*_, _≤_, _<_}
-use native.Mathlib.Nat as NatL
+use Prim.Native.Nat.{ℕ, suc, _≤_, _<_}
 use native.Mathlib.Omega.{arith}
 use lib.IntN.{ℤ, pos, natAbs, _*ℤ_}
 use Rattle.integers.specs.Ring.{mul-zero}
-use Rattle.integers.specs.Order.{natAbs-add}
 use Rattle.matrices.specs.Sum.{sum}
-use Rattle.matrices.specs.SumLaws.{sum-ext, sum-mul-left, sum-swap, sum-single}
+use Rattle.matrices.specs.SumLaws.{natAbs-sum, sum-ext, sum-mul-left, sum-swap, sum-single}
 use Rattle.complexes.specs.Cell.{Cell, without, same}
 use Rattle.complexes.specs.CellLaws.{eq-same, ne-same}
 use Rattle.complexes.specs.OrderLaws.{ordered-unique}
@@ -21,12 +19,6 @@ use Rattle.complexes.specs.Boundary.{sign, boundary}
 use Rattle.sheet_format.specs.Check.{sectionsOf}
 use Rattle.boundaries.specs.Face.{IsFace}
 use Rattle.boundaries.proofs.Column.{part, part-all}
-
-pub natAbs-sum : (n : ℕ) (f : ℕ → ℤ) (bound : ℕ) → ((i : ℕ) → i < n → natAbs (f i) ≤ bound) → natAbs (sum n f) ≤ n * bound
-unfolding sum
-natAbs-sum zero f bound h = omega arith
-natAbs-sum (suc n) f bound h =
-    omega (arith, NatL.suc-mul n bound, natAbs-add (sum n f) (f n), natAbs-sum n f bound (λ i l. h i (omega arith)), h n (omega arith))
 
 -- after t faces no entry of a column is larger than t
 pub natAbs-part : (c : Cell) (t : ℕ) (f : Cell) → natAbs (part c t f) ≤ t

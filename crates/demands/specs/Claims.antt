@@ -1,132 +1,172 @@
--- Demands 2 and 3 of the owner, over what the report call and the coordinate call answer and leave. `reportCall` and `coordinateCall` are the
--- calls' contracts: their answers and every slice as functions of what went in, for every sheet, dimension, slice length and previous content.
+-- The owner's demands, sentence by sentence, for every sheet b, dimension p, and every length and content of every slice. The contracts of the code
+-- say that the library's calls answer and leave what `reportCall` and `coordinateCall` say, the host calls what `hostReport` and `hostCoordinates`
+-- say, and that the program prints `programText`; here is claimed what these are. `Proofs` proves each claim. A slice of bytes meets `Bytes`.
 use mathlib.Core.Path.{_≡_}
-use mathlib.Core.Logic.{_↔_}
-use mathlib.Core.Bool.{true, false}
+use mathlib.Core.Logic.{_↔_, _≢_}
 use mathlib.Core.List.{List}
-use Prim.Native.Nat.{ℕ, _+_, _<_, _≤_}
-use lib.ListN.{length, getD}
-use lib.IntN.{ℤ, pos, natAbs, _-ℤ_}
-use lib.Signed.{_<ℤ_}
-use Rattle.homology_groups.specs.Chain.{Chain, combination}
-use Rattle.homology_groups.specs.Presentation.{Splits}
+use Prim.Native.Nat.{ℕ, _+_, _*_, _≤_, _<_}
+use lib.ListN.{length, take}
+use lib.IntN.{ℤ, _-ℤ_}
+use Rattle.complexes.specs.Complex.{count}
+use Rattle.sheet_format.specs.Layout.{longest}
 use Rattle.sheet_format.specs.Check.{refusal, sectionsOf}
 use Rattle.sheet_format.specs.Sheet.{Bytes, IsSheet}
-use Rattle.reduction_steps.specs.Table.{tableWithin}
-use Rattle.reduction_steps.specs.State.{Sizes, State}
+use Rattle.homology_groups.specs.Chain.{Chain, combination}
 use Rattle.reduction_steps.specs.Pivot.{release1}
-use Rattle.reduction_steps.specs.Step as machine
-use Rattle.reduction_steps.specs.Step.{Machine, at, wide, a, Reaches}
-use Rattle.reports.specs.Reductions.{firstSizes, firstStart, secondSizes, secondStart, product}
-use Rattle.reports.specs.Call.{Answer, done, refused, entryLimit, coefficientLimit, refusalBefore, chainRefusal, reportSlots, coordinateSlots, reportCall, coordinateCall}
-use Rattle.demands.specs.Written.{chainOf, cells, IsCycle, IsBoundary, Presents, orderIn, generatorIn}
+use Rattle.reports.specs.Call.{done, libraryLimit, hostLimit, entryLimit, orElse, refusalBefore, chainRefusal, reportSlots, coordinateSlots, workSlots, reportCall, coordinateCall}
+use Rattle.reports.specs.Host.{chainFrom, coefficientIn, slotsIn, hostReport, hostCoordinates, numberAt}
+use Rattle.reports.specs.Text.{refusalLine, programText}
+use Rattle.answers.specs.Homology.{IsBoundary}
+use Rattle.answers.specs.Right.{slot, generatorIn, IsRight, reportLength, HasCounts}
+use Rattle.answers.specs.Wide.{GoesWide}
+use Rattle.answers.specs.Called.{answerNumber, Answers, NoCycle, KeptPast, Leaves}
+use Rattle.answers.specs.Printed.{DimensionsPrinted}
 
--- an answer done, with some counts
-pub record IsDone (x : Answer) : Type 0 where
-  pub free : ℕ
-  pub torsion : ℕ
-  pub is : x ≡ done free torsion
+-- the reduction of document 01, with its limit and the pivot rule of release 1, goes too wide
+abbrev pub TooWide : List ℕ → ℕ → Type 0
+TooWide b p = GoesWide entryLimit release1 (sectionsOf b) p
 
--- the reduction goes from one machine to another by the steps of document 01, with its entry limit and the pivot rule of release 1
-abbrev pub Goes : Sizes → Machine → Machine → Type 0
-Goes z x y = Reaches entryLimit z release1 x y
+-- ==== Demand 1
 
--- ---- Demand 2
+-- "each fault gets its number from document 01 in 01's order", and demand 3, "A call answers done whenever no numbered refusal applies to it";
+-- demand 2, ""Too wide" is told exactly when no earlier refusal applies and the reduction in 01 makes an entry beyond 1,048,575"
+abbrev pub ReportNumbers : Type 0
+ReportNumbers =
+    (limit : ℕ) (b : List ℕ) (p : ℕ) (report work : List ℤ) → Bytes b →
+    Answers (refusalBefore limit b p reportSlots (length report) (length work)) (TooWide b p) (answerNumber (reportCall limit b p report work .answer))
 
--- a sheet is accepted exactly when it is the layout of a complex within the limit
+abbrev pub CoordinateNumbers : Type 0
+CoordinateNumbers =
+    (limit : ℕ) (b : List ℕ) (p : ℕ) (z coordinates work : List ℤ) → Bytes b →
+    Answers (orElse (refusalBefore limit b p coordinateSlots (length coordinates) (length work)) (chainRefusal b p z)) (TooWide b p)
+    (answerNumber (coordinateCall limit b p z coordinates work .answer))
+
+-- refusal 12 of a chain is told exactly when 10 and 11 do not apply and the chain has a nonzero boundary
+abbrev pub NotACycle : Type 0
+NotACycle = (b : List ℕ) (p : ℕ) (z : List ℤ) → (chainRefusal b p z ≡ 12) ↔ NoCycle (sectionsOf b) p z
+
+-- "a refusal leaves report and coordinate slices untouched"; past what a call writes they are untouched too
+abbrev pub ReportLeaves : Type 0
+ReportLeaves =
+    (limit : ℕ) (b : List ℕ) (p : ℕ) (report work : List ℤ) → Bytes b →
+    Leaves (reportLength (sectionsOf b) p) report work (reportCall limit b p report work)
+
+abbrev pub CoordinatesLeave : Type 0
+CoordinatesLeave =
+    (limit : ℕ) (b : List ℕ) (p : ℕ) (z coordinates work : List ℤ) → Bytes b →
+    Leaves (λ f t. t + f) coordinates work (coordinateCall limit b p z coordinates work)
+
+-- ==== Demand 2
+
+-- "A sheet of cells is accepted exactly when it holds a simplicial complex laid out as in 01"
 abbrev pub Acceptance : Type 0
-Acceptance = (limit : ℕ) → limit ≤ 256 → (b : List ℕ) → Bytes b → (refusal limit b ≡ 0) ↔ IsSheet limit b
+Acceptance = (limit : ℕ) → limit ≤ libraryLimit → (b : List ℕ) → Bytes b → (refusal limit b ≡ 0) ↔ IsSheet limit b
 
--- The report done with b = f and t: its generators, with its orders and then f free ones, present the homology group over the whole numbers;
--- each order exceeds 1; and any other list of generators and orders that presents the group has the same free rank and the same orders.
-pub record ReportIsRight (b : List ℕ) (p : ℕ) (report : List ℤ) (f t : ℕ) : Type 0 where
-  pub presents : Presents b p (t + f) (generatorIn report t (cells b p)) (orderIn report t)
-  pub free-rank : getD report 0 (pos 0) ≡ pos f
-  pub orders-count : getD report 1 (pos 0) ≡ pos t
-  pub order-above-one : (j : ℕ) → j < t → pos 1 <ℤ orderIn report t j
-  pub only-rank : (k : ℕ) (g : ℕ → Chain) (o : ℕ → ℤ) (t′ f′ : ℕ) → Presents b p k g o → Splits k o t′ f′ → f ≡ f′
-  pub only-count : (k : ℕ) (g : ℕ → Chain) (o : ℕ → ℤ) (t′ f′ : ℕ) → Presents b p k g o → Splits k o t′ f′ → t ≡ t′
-  pub only-orders : (k : ℕ) (g : ℕ → Chain) (o : ℕ → ℤ) (t′ f′ : ℕ) → Presents b p k g o → Splits k o t′ f′ → (j : ℕ) → j < t → orderIn report t j ≡ o j
-
+-- "the free rank, the torsion orders and the generators reported for each dimension are those of simplicial homology over the whole numbers"
 abbrev pub Reports : Type 0
 Reports =
     (limit : ℕ) (b : List ℕ) (p : ℕ) (report work : List ℤ) → Bytes b → (f t : ℕ) →
-    reportCall limit b p report work .answer ≡ done f t → ReportIsRight b p (reportCall limit b p report work .output) f t
+    reportCall limit b p report work .answer ≡ done f t → IsRight (sectionsOf b) p f t (slot (reportCall limit b p report work .output))
 
--- The two reductions of dimension p make an entry beyond the limit: in the first, in the product, or in the second.
-pub data GoesWide (b : List ℕ) (p : ℕ) : Type 0 where
-  in-first : Goes (firstSizes (sectionsOf b) p) (at a 0 (firstStart (sectionsOf b) p)) wide → GoesWide b p
-  in-product :
-      (r : ℕ) (s : State) → Goes (firstSizes (sectionsOf b) p) (at a 0 (firstStart (sectionsOf b) p)) (machine.done r s) →
-      tableWithin entryLimit (product (sectionsOf b) p r s) ≡ false → GoesWide b p
-  in-second :
-      (r : ℕ) (s : State) → Goes (firstSizes (sectionsOf b) p) (at a 0 (firstStart (sectionsOf b) p)) (machine.done r s) →
-      tableWithin entryLimit (product (sectionsOf b) p r s) ≡ true →
-      Goes (secondSizes (sectionsOf b) p r) (at a 0 (secondStart (sectionsOf b) p r s)) wide → GoesWide b p
+-- the counts that the coordinate call answers are those too
+abbrev pub CoordinateCounts : Type 0
+CoordinateCounts =
+    (limit : ℕ) (b : List ℕ) (p : ℕ) (z coordinates work : List ℤ) → Bytes b → (f t : ℕ) →
+    coordinateCall limit b p z coordinates work .answer ≡ done f t → HasCounts (sectionsOf b) p f t
 
--- "Too wide" is told exactly when no earlier refusal applies and the reduction makes an entry beyond the limit.
-abbrev pub TooWide : Type 0
-TooWide =
-    (limit : ℕ) (b : List ℕ) (p : ℕ) (report work : List ℤ) → Bytes b →
-    (reportCall limit b p report work .answer ≡ refused 13)
-    ↔ ((refusalBefore limit b p reportSlots (length report) (length work) ≡ 0) × GoesWide b p)
+-- the counts are the group's, so all answers and reports on one sheet and dimension have the same
+abbrev pub SameCounts : Type 0
+SameCounts = (b : List ℕ) (p f t f′ t′ : ℕ) → HasCounts (sectionsOf b) p f t → HasCounts (sectionsOf b) p f′ t′ → (f ≡ f′) × (t ≡ t′)
 
--- A report is done whenever no numbered refusal applies.
-abbrev pub ReportDone : Type 0
-ReportDone =
-    (limit : ℕ) (b : List ℕ) (p : ℕ) (report work : List ℤ) → Bytes b →
-    refusalBefore limit b p reportSlots (length report) (length work) ≡ 0 → (GoesWide b p → ⊥) →
-    IsDone (reportCall limit b p report work .answer)
+-- ==== Demand 3
 
--- ---- Demand 3
+-- "the coordinates .. are answered with done": the cycle z has these, as a caller reads them, from the library at some count limit or from the host
+pub data CoordinatesOf (b : List ℕ) (p : ℕ) : Chain → (ℕ → ℤ) → Type 0 where
+  by-library :
+      (limit : ℕ) (z coordinates work : List ℤ) (f t : ℕ) → coordinateCall limit b p z coordinates work .answer ≡ done f t →
+      CoordinatesOf b p (slot z) (slot (coordinateCall limit b p z coordinates work .output))
+  by-host :
+      (chain coordinates : List ℕ) → hostCoordinates b p chain coordinates .number ≡ 0 →
+      CoordinatesOf b p (coefficientIn chain) (numberAt (hostCoordinates b p chain coordinates .output))
 
--- Both answered done: the lists are equal at all t + f places exactly when the difference of the cycles is a boundary.
+-- "the report on that sheet and dimension is done": its numbers, as a caller reads them
+pub data ReportOf (b : List ℕ) (p : ℕ) : (ℕ → ℤ) → Type 0 where
+  by-library :
+      (limit : ℕ) (report work : List ℤ) (f t : ℕ) → reportCall limit b p report work .answer ≡ done f t →
+      ReportOf b p (slot (reportCall limit b p report work .output))
+  by-host : (report : List ℕ) → hostReport b p report .number ≡ 0 → ReportOf b p (numberAt (hostReport b p report .output))
+
+-- "the two lists are equal exactly when the difference of the two cycles is the boundary of some chain with whole coefficients, however large"
 abbrev pub CoordinatesDecide : Type 0
 CoordinatesDecide =
-    (limit : ℕ) (b : List ℕ) (p : ℕ) (y z c₁ c₂ w₁ w₂ : List ℤ) → Bytes b → (f t : ℕ) →
-    coordinateCall limit b p y c₁ w₁ .answer ≡ done f t → coordinateCall limit b p z c₂ w₂ .answer ≡ done f t →
-    ((j : ℕ) → j < t + f → getD (coordinateCall limit b p y c₁ w₁ .output) j (pos 0) ≡ getD (coordinateCall limit b p z c₂ w₂ .output) j (pos 0))
-    ↔ IsBoundary b p (λ i. chainOf y i -ℤ chainOf z i)
+    (b : List ℕ) (p : ℕ) → Bytes b → (y z : Chain) (c d : ℕ → ℤ) → CoordinatesOf b p y c → CoordinatesOf b p z d →
+    (f t : ℕ) → HasCounts (sectionsOf b) p f t →
+    ((j : ℕ) → j < t + f → c j ≡ d j) ↔ IsBoundary (sectionsOf b) p (λ i. y i -ℤ z i)
 
--- The report done as well: the cycle less its coordinates times the reported generators is a boundary.
+-- "each of the two cycles, less its coordinates times the reported generators, is itself such a boundary"
 abbrev pub CoordinatesCombine : Type 0
 CoordinatesCombine =
-    (limit : ℕ) (b : List ℕ) (p : ℕ) (z coordinates report w₁ w₂ : List ℤ) → Bytes b → (f t f′ t′ : ℕ) →
-    coordinateCall limit b p z coordinates w₁ .answer ≡ done f t → reportCall limit b p report w₂ .answer ≡ done f′ t′ →
-    IsBoundary b p
-    (λ i. chainOf z i -ℤ combination (t + f) (chainOf (coordinateCall limit b p z coordinates w₁ .output)) (generatorIn (reportCall limit b p report w₂ .output) t (cells b p)) i)
+    (b : List ℕ) (p : ℕ) → Bytes b → (z : Chain) (c report : ℕ → ℤ) → CoordinatesOf b p z c → ReportOf b p report →
+    (f t : ℕ) → HasCounts (sectionsOf b) p f t →
+    IsBoundary (sectionsOf b) p (λ i. z i -ℤ combination (t + f) c (generatorIn report t (count (sectionsOf b) p)) i)
 
--- one of the two calls answers done with f and t
-pub data Counts (limit : ℕ) (b : List ℕ) (p : ℕ) (f t : ℕ) : Type 0 where
-  by-report : (report work : List ℤ) → reportCall limit b p report work .answer ≡ done f t → Counts limit b p f t
-  by-coordinates : (z coordinates work : List ℤ) → coordinateCall limit b p z coordinates work .answer ≡ done f t → Counts limit b p f t
+-- ==== The host calls
 
--- Two answers done on one sheet and dimension have the same counts, so that all lists and the report have the same number of places.
-abbrev pub SameCounts : Type 0
-SameCounts = (limit : ℕ) (b : List ℕ) (p f t f′ t′ : ℕ) → Counts limit b p f t → Counts limit b p f′ t′ → (f ≡ f′) × (t ≡ t′)
+-- as for the library: the numbers in 01's order, too wide exactly, done whenever no refusal applies
+abbrev pub HostReportNumbers : Type 0
+HostReportNumbers =
+    (b : List ℕ) (p : ℕ) (report : List ℕ) → Bytes b →
+    Answers (refusalBefore hostLimit b p reportSlots (slotsIn report) (workSlots (sectionsOf b) p)) (TooWide b p) (hostReport b p report .number)
 
--- The chain z has n_p coefficients within their limit and is no cycle.
-pub record NoCycle (b : List ℕ) (p : ℕ) (z : List ℤ) : Type 0 where
-  pub size : length z ≡ cells b p
-  pub small : (i : ℕ) → natAbs (chainOf z i) ≤ coefficientLimit
-  pub no-cycle : IsCycle b p (chainOf z) → ⊥
+abbrev pub HostCoordinateNumbers : Type 0
+HostCoordinateNumbers =
+    (b : List ℕ) (p : ℕ) (chain coordinates : List ℕ) → Bytes b →
+    Answers
+    (orElse (refusalBefore hostLimit b p coordinateSlots (slotsIn coordinates) (workSlots (sectionsOf b) p))
+    (chainRefusal b p (chainFrom (count (sectionsOf b) p) chain)))
+    (TooWide b p) (hostCoordinates b p chain coordinates .number)
 
--- Refusal 12 is told exactly when nothing before it applies and the chain has a nonzero boundary.
-abbrev pub NotACycle : Type 0
-NotACycle =
-    (limit : ℕ) (b : List ℕ) (p : ℕ) (z coordinates work : List ℤ) → Bytes b →
-    (coordinateCall limit b p z coordinates work .answer ≡ refused 12)
-    ↔ ((refusalBefore limit b p coordinateSlots (length coordinates) (length work) ≡ 0) × NoCycle b p z)
+-- a refusal leaves the output untouched
+abbrev pub HostReportLeft : Type 0
+HostReportLeft = (b : List ℕ) (p : ℕ) (report : List ℕ) → Bytes b → hostReport b p report .number ≢ 0 → hostReport b p report .output ≡ report
 
--- Coordinates are done whenever no numbered refusal applies, and 13 is told exactly when nothing before it applies and the reduction goes too wide.
-abbrev pub CoordinatesDone : Type 0
-CoordinatesDone =
-    (limit : ℕ) (b : List ℕ) (p : ℕ) (z coordinates work : List ℤ) → Bytes b →
-    refusalBefore limit b p coordinateSlots (length coordinates) (length work) ≡ 0 → chainRefusal b p z ≡ 0 → (GoesWide b p → ⊥) →
-    IsDone (coordinateCall limit b p z coordinates work .answer)
+abbrev pub HostCoordinatesLeft : Type 0
+HostCoordinatesLeft =
+    (b : List ℕ) (p : ℕ) (chain coordinates : List ℕ) → Bytes b →
+    hostCoordinates b p chain coordinates .number ≢ 0 → hostCoordinates b p chain coordinates .output ≡ coordinates
 
-abbrev pub CoordinatesTooWide : Type 0
-CoordinatesTooWide =
-    (limit : ℕ) (b : List ℕ) (p : ℕ) (z coordinates work : List ℤ) → Bytes b →
-    (coordinateCall limit b p z coordinates work .answer ≡ refused 13)
-    ↔ ((refusalBefore limit b p coordinateSlots (length coordinates) (length work) ≡ 0) × (chainRefusal b p z ≡ 0) × GoesWide b p)
+-- a report that is done is right, read from the bytes, and leaves what is past its numbers
+pub record HostReportDone (b : List ℕ) (p : ℕ) (report : List ℕ) : Type 0 where
+  pub free : ℕ
+  pub torsion : ℕ
+  pub is-right : IsRight (sectionsOf b) p free torsion (numberAt (hostReport b p report .output))
+  pub past : KeptPast 0 (8 * reportLength (sectionsOf b) p free torsion) report (hostReport b p report .output)
+
+abbrev pub HostReports : Type 0
+HostReports = (b : List ℕ) (p : ℕ) (report : List ℕ) → Bytes b → hostReport b p report .number ≡ 0 → HostReportDone b p report
+
+-- coordinates that are done have t + f numbers, where f and t are the group's, and leave what is past them
+pub record HostCoordinatesDone (b : List ℕ) (p : ℕ) (chain coordinates : List ℕ) : Type 0 where
+  pub free : ℕ
+  pub torsion : ℕ
+  pub counts : HasCounts (sectionsOf b) p free torsion
+  pub past : KeptPast 0 (8 * (torsion + free)) coordinates (hostCoordinates b p chain coordinates .output)
+
+abbrev pub HostCoordinateCounts : Type 0
+HostCoordinateCounts =
+    (b : List ℕ) (p : ℕ) (chain coordinates : List ℕ) → Bytes b →
+    hostCoordinates b p chain coordinates .number ≡ 0 → HostCoordinatesDone b p chain coordinates
+
+-- ==== The program
+
+-- a sheet refused by 1 to 7, and no other, gives the single line `R` and the number
+abbrev pub ProgramRefuses : Type 0
+ProgramRefuses = (b : List ℕ) (k : ℕ) → k ≢ 0 → k ≤ 7 → (programText b ≡ refusalLine k) ↔ (refusal hostLimit b ≡ k)
+
+-- otherwise each dimension gives `R 13` exactly when the reduction goes too wide, or the text of a report that is right
+abbrev pub ProgramPrints : Type 0
+ProgramPrints = (b : List ℕ) → Bytes b → refusal hostLimit b ≡ 0 → DimensionsPrinted b
+
+-- input longer than any sheet that is accepted is settled by its first bytes
+abbrev pub ProgramInput : Type 0
+ProgramInput = (b : List ℕ) (n : ℕ) → longest hostLimit < n → programText (take n b) ≡ programText b

@@ -1,118 +1,221 @@
--- Demands 2 and 3: what `Claims` states, proved.
-use mathlib.Core.Path.{_≡_}
+-- The owner's demands: what `Claims` states, proved.
+use mathlib.Core.Path.{_≡_, refl, sym, _∙_, ap, ap₂, subst}
 use mathlib.Core.Logic.{_↔_}
 use mathlib.Core.List.{List}
 use Prim.Native.Nat.{ℕ, _+_, _<_}
 use native.Mathlib.Omega.{arith}
-use lib.ListN.{length, getD}
-use lib.IntN.{ℤ, pos, _-ℤ_}
-use Rattle.homology_groups.specs.Chain.{combination}
+use lib.IntN.{ℤ, _-ℤ_}
+use Rattle.complexes.specs.Complex.{count}
 use Rattle.sheet_format.specs.Check.{sectionsOf}
+use Rattle.sheet_format.specs.Sheet.{Bytes}
 use Rattle.sheet_format.specs.Accept.{accepted-iff}
+use Rattle.homology_groups.specs.Chain.{Chain, combination}
+use Rattle.homology_groups.specs.ChainLaws.{boundary-same}
 use Rattle.reduction_steps.specs.State.{State}
-use Rattle.reports.specs.Report.{freeRank, torsionCount, reportList, coordinateList}
-use Rattle.reports.specs.Call.{written, chainRefusal, coordinateSlots, reductionsOf, reportCall, coordinateCall}
-use Rattle.reports.specs.RefusalLaws.{orElse-above, refusalBefore-le}
-use Rattle.reports.specs.CallLaws.{ReducedWith, reducedWith-unique}
-use Rattle.demands.specs.Written.{chainOf, cells, IsCycle, IsBoundary, generatorIn}
-use Rattle.demands.specs.Claims.{Acceptance, Reports, TooWide, ReportDone, CoordinatesDecide, CoordinatesCombine, SameCounts, NotACycle, CoordinatesDone, CoordinatesTooWide, ReportIsRight, Counts, by-report, by-coordinates}
-use Rattle.demands.specs.ChainChecks.{not-a-cycle-iff}
-use Rattle.demands.specs.TwoReductions.{Right}
-use Rattle.demands.specs.ReportRight.{report-is-right}
-use Rattle.demands.specs.CoordinatesRight.{coordinates-decide, coordinates-combine}
-use Rattle.demands.specs.BothCalls.{report-counted, report-answered, report-output, report-wide-iff, report-done}
-use Rattle.demands.specs.BothCalls.{sheetBefore, chain-cycle, coordinates-passed, coordinates-counted, coordinates-answered, coordinates-output, coordinates-wide-iff, coordinates-done, coordinates-earlier-iff}
+use Rattle.reports.specs.Report.{freeRank, torsionCount}
+use Rattle.reports.specs.Reductions.{Reductions, tooWide, reduced}
+use Rattle.reports.specs.Call.{reductionsOf, reportCall}
+use Rattle.reports.specs.Host.{chainFrom}
+use Rattle.answers.specs.Homology.{IsCycle, IsBoundary}
+use Rattle.answers.specs.Right.{slot, generatorIn, IsRight, HasCounts}
+use Rattle.answer_laws.specs.TwoReductions.{Right}
+use Rattle.answer_laws.specs.ChainChecks.{not-a-cycle-iff}
+use Rattle.answer_laws.specs.ReportRight.{Reads, report-is-right, has-counts, counts-unique}
+use Rattle.answer_laws.specs.CoordinatesRight.{ReadsCoordinates, coordinates-decide, coordinates-combine}
+use Rattle.answer_laws.specs.ReportCall.{report-answers, report-left, report-work, report-kept, report-answered, report-reads}
+use Rattle.answer_laws.specs.CoordinateCall.{coordinates-answer, coordinates-left, coordinates-work, coordinates-kept, coordinates-answered, coordinates-read, chain-cycle}
+use Rattle.answer_laws.specs.HostReport.{host-report-answers, host-report-left, host-reported}
+use Rattle.answer_laws.specs.HostCoordinates.{host-coordinates-answer, host-coordinates-left, host-coordinated, given-coefficient}
+use Rattle.answer_laws.specs.ProgramText.{refused-iff, dimensions-printed}
+use Rattle.demands.specs.Claims.{ReportNumbers, CoordinateNumbers, NotACycle, ReportLeaves, CoordinatesLeave, Acceptance, Reports, CoordinateCounts, SameCounts}
+use Rattle.demands.specs.Claims.{CoordinatesOf, ReportOf, CoordinatesDecide, CoordinatesCombine}
+use Rattle.demands.specs.Claims.{HostReportNumbers, HostCoordinateNumbers, HostReportLeft, HostCoordinatesLeft, HostReports, HostCoordinateCounts}
+use Rattle.demands.specs.Claims.{ProgramRefuses, ProgramPrints}
+use Rattle.demands.specs.Claims as claims
 
--- ---- demand 2
+-- ==== Demand 1
+
+pub reportNumbers : ReportNumbers
+reportNumbers = report-answers
+
+pub coordinateNumbers : CoordinateNumbers
+coordinateNumbers = coordinates-answer
+
+pub notACycle : NotACycle
+notACycle = not-a-cycle-iff
+
+pub reportLeaves : ReportLeaves
+reportLeaves limit b p report work bytes = record {
+  after-refusal = report-left limit b p report work;
+  past = λ f t e. report-kept limit b p report work bytes e;
+  work-left = report-work limit b p report work;
+}
+
+pub coordinatesLeave : CoordinatesLeave
+coordinatesLeave limit b p z coordinates work bytes = record {
+  after-refusal = coordinates-left limit b p z coordinates work;
+  past = λ f t e. coordinates-kept limit b p z coordinates work bytes e;
+  work-left = coordinates-work limit b p z coordinates work;
+}
+
+-- ==== Demand 2
 
 pub acceptance : Acceptance
 acceptance = accepted-iff
 
+-- what holds of the counts behind an answer holds of those that it says
+as-counted : (P : ℕ → ℕ → Type 0) {f t f′ t′ : ℕ} → f ≡ f′ → t ≡ t′ → P f′ t′ → P f t
+as-counted P e d h = rw (e, d) h
+
 pub reports : Reports
 reports limit b p report work bytes f t e =
-    let d = report-answered limit b p report work bytes f t e in
-    let c = d .counted in
-    go (c .rows) (c .rank) (c .state) (d .right) (report-output limit b p report work (d .passes) c) (c .free) (c .torsion)
-  where
-    out : List ℤ
-    out = reportCall limit b p report work .output
+    let d = report-answered limit b p report work bytes e in
+    as-counted (λ f t. IsRight (sectionsOf b) p f t (slot (reportCall limit b p report work .output))) (d .counted .free) (d .counted .torsion)
+    (report-is-right (d .right) (report-reads limit b p report work bytes e))
 
-    go : (s r : ℕ) (x : State) → Right (sectionsOf b) p s r x → out ≡ written (reportList (cells b p) s r x) report → f ≡ freeRank s r → t ≡ torsionCount r x → ReportIsRight b p out f t
-    go s r x R o ef et = rw (ef, et, o) (report-is-right b p R report)
-
-pub tooWide : TooWide
-tooWide = report-wide-iff
-
-pub reportDone : ReportDone
-reportDone = report-done
-
--- ---- demand 3
-
-pub coordinatesDecide : CoordinatesDecide
-coordinatesDecide limit b p y z c₁ c₂ w₁ w₂ bytes f t e₁ e₂ =
-    let d₁ = coordinates-answered limit b p y c₁ w₁ bytes f t e₁ in
-    let d₂ = coordinates-answered limit b p z c₂ w₂ bytes f t e₂ in
-    let c = d₁ .counted in
-    go (c .rows) (c .rank) (c .state) (d₁ .right)
-    (coordinates-output limit b p y c₁ w₁ (d₁ .passes) c) (coordinates-output limit b p z c₂ w₂ (d₂ .passes) c)
-    (c .free) (c .torsion) (chain-cycle limit b p y c₁ w₁ (d₁ .passes)) (chain-cycle limit b p z c₂ w₂ (d₂ .passes))
-  where
-    out₁ : List ℤ
-    out₁ = coordinateCall limit b p y c₁ w₁ .output
-
-    out₂ : List ℤ
-    out₂ = coordinateCall limit b p z c₂ w₂ .output
-
-    go : (s r : ℕ) (x : State) → Right (sectionsOf b) p s r x
-        → out₁ ≡ written (coordinateList (cells b p) s x y) c₁ → out₂ ≡ written (coordinateList (cells b p) s x z) c₂
-        → f ≡ freeRank s r → t ≡ torsionCount r x → IsCycle b p (chainOf y) → IsCycle b p (chainOf z)
-        → ((j : ℕ) → j < t + f → getD out₁ j (pos 0) ≡ getD out₂ j (pos 0)) ↔ IsBoundary b p (λ i. chainOf y i -ℤ chainOf z i)
-    go s r x R o₁ o₂ ef et cy cz = rw (ef, et, o₁, o₂) (coordinates-decide b p R y z c₁ c₂ cy cz)
-
-pub coordinatesCombine : CoordinatesCombine
-coordinatesCombine limit b p z coordinates report w₁ w₂ bytes f t f′ t′ e₁ e₂ =
-    let d₁ = coordinates-answered limit b p z coordinates w₁ bytes f t e₁ in
-    let d₂ = report-answered limit b p report w₂ bytes f′ t′ e₂ in
-    let c = d₁ .counted in
-    go (c .rows) (c .rank) (c .state) (d₁ .right)
-    (coordinates-output limit b p z coordinates w₁ (d₁ .passes) c) (report-output limit b p report w₂ (d₂ .passes) c)
-    (c .free) (c .torsion) (chain-cycle limit b p z coordinates w₁ (d₁ .passes))
-  where
-    out₁ : List ℤ
-    out₁ = coordinateCall limit b p z coordinates w₁ .output
-
-    out₂ : List ℤ
-    out₂ = reportCall limit b p report w₂ .output
-
-    go : (s r : ℕ) (x : State) → Right (sectionsOf b) p s r x
-        → out₁ ≡ written (coordinateList (cells b p) s x z) coordinates → out₂ ≡ written (reportList (cells b p) s r x) report
-        → f ≡ freeRank s r → t ≡ torsionCount r x → IsCycle b p (chainOf z)
-        → IsBoundary b p (λ i. chainOf z i -ℤ combination (t + f) (chainOf out₁) (generatorIn out₂ t (cells b p)) i)
-    go s r x R o₁ o₂ ef et cz = rw (ef, et, o₁, o₂) (coordinates-combine b p R z coordinates report cz)
+pub coordinateCounts : CoordinateCounts
+coordinateCounts limit b p z coordinates work bytes f t e =
+    let d = coordinates-answered limit b p z coordinates work bytes e in
+    as-counted (λ f t. HasCounts (sectionsOf b) p f t) (d .counted .free) (d .counted .torsion) (has-counts (d .right))
 
 pub sameCounts : SameCounts
-sameCounts limit b p f t f′ t′ c d = reducedWith-unique (counted f t c) (counted f′ t′ d)
+sameCounts b p f t f′ t′ = counts-unique
+
+-- ==== Demand 3
+
+-- of the reductions R, done with s rows of Q, rank r and the state x, P holds
+OfReduced : (ℕ → ℕ → State → Type 0) → Reductions → Type 0
+OfReduced P tooWide = ⊥
+OfReduced P (reduced s r x) = P s r x
+
+same-reduced : (P : ℕ → ℕ → State → Type 0) {R : Reductions} {s r s′ r′ : ℕ} {x x′ : State} → R ≡ reduced s r x → R ≡ reduced s′ r′ x′ → P s′ r′ x′ → P s r x
+unfolding OfReduced
+same-reduced P e d h = subst (OfReduced P) (sym d ∙ e) h
+
+-- the two reductions that stand behind a list of coordinates, and the cycle that it belongs to
+record CoordinatesBehind (b : List ℕ) (p : ℕ) (z : Chain) (c : ℕ → ℤ) : Type 0 where
+  rows : ℕ
+  rank : ℕ
+  state : State
+  reductions : reductionsOf b p ≡ reduced rows rank state
+  right : Right (sectionsOf b) p rows rank state
+  chain : List ℤ
+  agrees : (i : ℕ) → i < count (sectionsOf b) p → slot chain i ≡ z i
+  cycle : IsCycle (sectionsOf b) p (slot chain)
+  reads : ReadsCoordinates (sectionsOf b) p rows rank state chain c
+
+coordinates-behind : (b : List ℕ) (p : ℕ) → Bytes b → (z : Chain) (c : ℕ → ℤ) → CoordinatesOf b p z c → CoordinatesBehind b p z c
+coordinates-behind b p bytes _ _ (claims.CoordinatesOf.by-library limit z coordinates work f t e) =
+    let d = coordinates-answered limit b p z coordinates work bytes e in
+    record {
+      rows = d .counted .rows;
+      rank = d .counted .rank;
+      state = d .counted .state;
+      reductions = d .counted .reductions;
+      right = d .right;
+      chain = z;
+      agrees = λ i l. refl;
+      cycle = chain-cycle limit b p z coordinates work (d .passes);
+      reads = coordinates-read limit b p z coordinates work bytes e;
+    }
+coordinates-behind b p bytes _ _ (claims.CoordinatesOf.by-host chain coordinates e) =
+    let d = host-coordinated b bytes p chain coordinates e in
+    record {
+      rows = d .rows;
+      rank = d .rank;
+      state = d .state;
+      reductions = d .reductions;
+      right = d .right;
+      chain = chainFrom (count (sectionsOf b) p) chain;
+      agrees = given-coefficient (count (sectionsOf b) p) chain (d .chain-passed .size);
+      cycle = d .chain-passed .cycle;
+      reads = d .reads;
+    }
+
+-- a boundary stays one where its coefficients are those of another chain
+boundary-of : (b : List ℕ) (p : ℕ) {y z : Chain} → ((i : ℕ) → i < count (sectionsOf b) p → y i ≡ z i) → IsBoundary (sectionsOf b) p y → IsBoundary (sectionsOf b) p z
+boundary-of b p same h = boundary-same (record { at = same }) h
+
+pub coordinatesDecide : CoordinatesDecide
+coordinatesDecide b p bytes y z c d of-y of-z f t counts =
+    let B = coordinates-behind b p bytes y c of-y in
+    let D = coordinates-behind b p bytes z d of-z in
+    let reads = same-reduced (λ s r x. ReadsCoordinates (sectionsOf b) p s r x (D .chain) d) (B .reductions) (D .reductions) (D .reads) in
+    let iff = coordinates-decide (B .right) (B .reads) reads (B .cycle) (D .cycle) in
+    let own = counts-unique counts (has-counts (B .right)) in
+    let same : (i : ℕ) → i < count (sectionsOf b) p → slot (B .chain) i -ℤ slot (D .chain) i ≡ y i -ℤ z i = λ i l. ap₂ _-ℤ_ (B .agrees i l) (D .agrees i l) in (
+      λ h. boundary-of b p same (iff .0 (λ j l. h j (omega (arith, own .0, own .1)))),
+      λ h j l. iff .1 (boundary-of b p (λ i m. sym (same i m)) h) j (omega (arith, own .0, own .1)),
+    )
+
+-- the two reductions that stand behind a report
+record ReportBehind (b : List ℕ) (p : ℕ) (report : ℕ → ℤ) : Type 0 where
+  rows : ℕ
+  rank : ℕ
+  state : State
+  reductions : reductionsOf b p ≡ reduced rows rank state
+  reads : Reads (sectionsOf b) p rows rank state report
+
+report-behind : (b : List ℕ) (p : ℕ) → Bytes b → (report : ℕ → ℤ) → ReportOf b p report → ReportBehind b p report
+report-behind b p bytes _ (claims.ReportOf.by-library limit report work f t e) =
+    let d = report-answered limit b p report work bytes e in
+    record {
+      rows = d .counted .rows;
+      rank = d .counted .rank;
+      state = d .counted .state;
+      reductions = d .counted .reductions;
+      reads = report-reads limit b p report work bytes e;
+    }
+report-behind b p bytes _ (claims.ReportOf.by-host report e) =
+    let d = host-reported b bytes p report e in record { rows = d .rows; rank = d .rank; state = d .state; reductions = d .reductions; reads = d .reads }
+
+pub coordinatesCombine : CoordinatesCombine
+coordinatesCombine b p bytes z c report of-z of-report f t counts =
+    let B = coordinates-behind b p bytes z c of-z in
+    let D = report-behind b p bytes report of-report in
+    let reads = same-reduced (λ s r x. Reads (sectionsOf b) p s r x report) (B .reductions) (D .reductions) (D .reads) in
+    let own = counts-unique counts (has-counts (B .right)) in
+    as-counted (λ f t. IsBoundary (sectionsOf b) p (λ i. z i -ℤ combined f t i)) (own .0) (own .1)
+    (boundary-of b p
+    (λ i l. ap (λ (v : ℤ). v -ℤ combined (freeRank (B .rows) (B .rank)) (torsionCount (B .rank) (B .state)) i) (B .agrees i l))
+    (coordinates-combine (B .right) (B .reads) reads (B .cycle)))
   where
-    counted : (f t : ℕ) → Counts limit b p f t → ReducedWith (reductionsOf b p) f t
-    counted f t (by-report report work e) = report-counted limit b p report work f t e
-    counted f t (by-coordinates z coordinates work e) = coordinates-counted limit b p z coordinates work f t e
+    combined : ℕ → ℕ → Chain
+    combined f t = combination (t + f) c (generatorIn report t (count (sectionsOf b) p))
 
-pub notACycle : NotACycle
-notACycle limit b p z coordinates work bytes =
-    let iff = coordinates-earlier-iff limit b p z coordinates work 12 (λ e. omega arith) (λ e. omega arith) in
-    let sheet = refusalBefore-le limit b p coordinateSlots (length coordinates) (length work) in (
-      λ e. let h = orElse-above (sheetBefore limit b p z coordinates work) (chainRefusal b p z) sheet (omega arith) (iff .0 e) in (h .0, not-a-cycle-iff b p z .0 (h .1)),
-      λ h. iff .1 (rw (h .0) (not-a-cycle-iff b p z .1 (h .1))),
-    )
+-- ==== The host calls
 
-pub coordinatesDone : CoordinatesDone
-coordinatesDone limit b p z coordinates work bytes e c =
-    coordinates-done limit b p z coordinates work bytes (coordinates-passed limit b p z coordinates work .1 (e, c))
+pub hostReportNumbers : HostReportNumbers
+hostReportNumbers b p report bytes = host-report-answers b bytes p report
 
-pub coordinatesTooWide : CoordinatesTooWide
-coordinatesTooWide limit b p z coordinates work bytes =
-    let iff = coordinates-wide-iff limit b p z coordinates work bytes in
-    let passed = coordinates-passed limit b p z coordinates work in (
-      λ e. let w = iff .0 e in let q = passed .0 (w .0) in (q .0, q .1, w .1),
-      λ h. iff .1 (passed .1 (h .0, h .1), h .2),
-    )
+pub hostCoordinateNumbers : HostCoordinateNumbers
+hostCoordinateNumbers b p chain coordinates bytes = host-coordinates-answer b bytes p chain coordinates
+
+pub hostReportLeft : HostReportLeft
+hostReportLeft b p report bytes = host-report-left b bytes p report
+
+pub hostCoordinatesLeft : HostCoordinatesLeft
+hostCoordinatesLeft b p chain coordinates bytes = host-coordinates-left b bytes p chain coordinates
+
+pub hostReports : HostReports
+hostReports b p report bytes e =
+    let d = host-reported b bytes p report e in
+    record {
+      free = freeRank (d .rows) (d .rank);
+      torsion = torsionCount (d .rank) (d .state);
+      is-right = report-is-right (d .right) (d .reads);
+      past = d .kept;
+    }
+
+pub hostCoordinateCounts : HostCoordinateCounts
+hostCoordinateCounts b p chain coordinates bytes e =
+    let d = host-coordinated b bytes p chain coordinates e in
+    record { free = freeRank (d .rows) (d .rank); torsion = torsionCount (d .rank) (d .state); counts = has-counts (d .right); past = d .kept }
+
+-- ==== The program
+
+pub programRefuses : ProgramRefuses
+programRefuses = refused-iff
+
+pub programPrints : ProgramPrints
+programPrints = dimensions-printed

@@ -1,3 +1,2 @@
 -- What the proofs of the host calls share.
-mod HostCalls
 mod Through

@@ -14,7 +14,7 @@ use Rattle.integers.specs.Order.{lt-pos, eq-of-sub}
 use Rattle.integers.specs.Solve.{solve, terms}
 use Rattle.integers.specs.Divides.{zero-dvd, dvd-zero}
 use Rattle.integers.specs.Division.{_∣ℤ_, floor, modulo}
-use Rattle.integers.specs.Floor.{modulo-is, modulo-eq-iff}
+use Rattle.integers.specs.Floor.{modulo-is, modulo-zero, modulo-eq-iff}
 use Rattle.matrices.specs.Matrix.{Matrix}
 use Rattle.matrices.specs.Vector.{apply}
 use Rattle.smith.specs.Rank.{IsOnes}
@@ -26,9 +26,6 @@ use Rattle.homology_groups.specs.Presents.{generator, divides-from, rema
 -- coordinate j of z, with u rows of kind 1 before it
 unfoldable pub coordinate : ℕ → ℕ → (ℕ → ℤ) → Matrix → Chain → ℕ → ℤ
 coordinate n u e Q z j = modulo (apply n Q z (u + j)) (e (u + j))
-
-pub modulo-zero : (a : ℤ) → modulo a (pos 0) ≡ a
-modulo-zero a = modulo-is a (pos 0) ∙ ap (λ (t : ℤ). a -ℤ t) (mul-zero (floor a (pos 0))) ∙ add-zero a
 
 -- equal remainders, for an order or for 0
 modulo-equal-iff : (a b d : ℤ) → pos 0 ≤ℤ d → (modulo a d ≡ modulo b d) ↔ d ∣ℤ (a -ℤ b)

@@ -14,4 +14,3 @@ pub mod Presents
 pub mod CoordinateList
 pub mod BoundaryLaws
 pub mod Unique
-pub mod Splits

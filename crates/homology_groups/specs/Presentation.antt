@@ -1,5 +1,5 @@
 -- What it means that generators and orders describe the homology group of A (m rows, n columns) and B (n rows, l columns).
-use Prim.Native.Nat.{ℕ, suc, _+_, _≤_, _<_}
+use Prim.Native.Nat.{ℕ, suc, _<_}
 use mathlib.Core.Path.{_≡_}
 use mathlib.Core.Logic.{_≢_, _↔_}
 use lib.IntN.{ℤ, pos, _-ℤ_}
@@ -24,8 +24,7 @@ pub record Presentation (m n l : ℕ) (A B : Matrix) (k : ℕ) (g : ℕ → Chai
   pub proper : (j : ℕ) → j < k → o j ≢ pos 1
   pub chain : (j : ℕ) → suc j < k → o j ∣ℤ o (suc j)
 
--- of k generators with the orders o, the first t have an order that is not 0 and the other b are free
-pub record Splits (k : ℕ) (o : ℕ → ℤ) (t b : ℕ) : Type 0 where
-  pub total : t + b ≡ k
-  pub torsion : (j : ℕ) → j < t → o j ≢ pos 0
-  pub free : (j : ℕ) → t ≤ j → j < k → o j ≡ pos 0
+-- two lists of orders of k and k′ generators that say the same
+pub record SameOrders (k : ℕ) (o : ℕ → ℤ) (k′ : ℕ) (o′ : ℕ → ℤ) : Type 0 where
+  pub count : k ≡ k′
+  pub orders : (j : ℕ) → j < k → o j ≡ o′ j

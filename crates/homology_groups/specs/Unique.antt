@@ -19,7 +19,7 @@ use Rattle.smith.specs.Divisors.{dvd-chain, dvd-eq}
 use Rattle.homology_groups.specs.Chain.{Chain, Same, Boundary, combination}
 use Rattle.homology_groups.specs.ChainLaws.{boundary-same}
 use Rattle.homology_groups.specs.BoundaryLaws.{boundary-add, boundary-sub, boundary-scale, boundary-combination}
-use Rattle.homology_groups.specs.Presentation.{Spanned, Presentation}
+use Rattle.homology_groups.specs.Presentation.{Spanned, Presentation, SameOrders}
 
 -- Generators are the rows of a matrix; the combinations of k of them with the rows of C are the rows of C times it.
 combination-mul : (k : ℕ) (C : Matrix) (g : ℕ → Chain) (i a : ℕ) → combination k (C i) g a ≡ mul k C g i a
@@ -125,11 +125,6 @@ module _ {m n l k k′ : ℕ} {A B : Matrix} {g g′ : ℕ → Chain} {o o′ : 
   order-divides : (j : ℕ) → j < k → k ≡ k′ → o j ∣ℤ o′ j
   order-divides j a e =
       orders-divide j (suc j) (o′ j) (omega arith) (omega arith) (λ i b. dvd-chain k′ o′ (P′ .chain) i j (omega arith) (omega arith))
-
--- two lists of orders of k and k′ generators that say the same
-pub record SameOrders (k : ℕ) (o : ℕ → ℤ) (k′ : ℕ) (o′ : ℕ → ℤ) : Type 0 where
-  pub count : k ≡ k′
-  pub orders : (j : ℕ) → j < k → o j ≡ o′ j
 
 pub presentation-unique : {m n l k k′ : ℕ} {A B : Matrix} {g g′ : ℕ → Chain} {o o′ : ℕ → ℤ} → Presentation m n l A B k g o → Presentation m n l A B k′ g′ o′ → SameOrders k o k′ o′
 presentation-unique {k} {k′} {o} {o′} P P′ = record { count = count; orders = orders }

@@ -1,6 +1,6 @@
 -- Laws of division rounded towards minus infinity. `Division a d q r`: a = q·d + r with 0 ≤ r < d.
 -- For a positive divisor: `floor-division`, `natAbs-modulo`, `floor-unique`, `modulo-unique`, `dvd-iff-modulo`, `modulo-eq-iff`.
--- For every divisor: `floor-modulo`, `natAbs-floor`, and `floor-neg`: floor (-a) (-d) is floor a d unless d is 0.
+-- For every divisor: `modulo-zero`, `floor-modulo`, `natAbs-floor`, and `floor-neg`: floor (-a) (-d) is floor a d unless d is 0.
 use mathlib.Core.Path.{_≡_, refl, sym, _∙_, ap, subst}
 use mathlib.Core.Logic.{_≢_, _↔_}
 use mathlib.Core.List.{[], _∷_}
@@ -10,7 +10,7 @@ use native.Mathlib.Decide.{decLe}
 use native.Mathlib.Omega.{arith}
 use lib.IntN.{ℤ, pos, negsuc, negℤ, natAbs, _+ℤ_, _-ℤ_, _*ℤ_}
 use lib.Signed.{_≤ℤ_, _<ℤ_, ≤ℤ-refl}
-use Rattle.integers.specs.Ring.{add-zero}
+use Rattle.integers.specs.Ring.{add-zero, mul-zero}
 use Rattle.integers.specs.Solve.{solve, terms}
 use Rattle.integers.specs.Order.{le-pos, lt-pos, pos-lt, natAbs-mul, natAbs-zero, eq-of-sub}
 use Rattle.integers.specs.Division.{floor, modulo, _∣ℤ_}
@@ -18,6 +18,9 @@ use Rattle.integers.specs.Division.{floor, modulo, _∣ℤ_}
 pub modulo-is : (a d : ℤ) → modulo a d ≡ a -ℤ floor a d *ℤ d
 unfolding modulo
 modulo-is a d = refl
+
+pub modulo-zero : (a : ℤ) → modulo a (pos 0) ≡ a
+modulo-zero a = modulo-is a (pos 0) ∙ ap (λ (t : ℤ). a -ℤ t) (mul-zero (floor a (pos 0))) ∙ add-zero a
 
 pub floor-modulo : (a d : ℤ) → a ≡ floor a d *ℤ d +ℤ modulo a d
 unfolding modulo

@@ -4,14 +4,15 @@ use mathlib.Core.Path.{_≡_, refl, sym, _∙_, ap}
 use mathlib.Core.Logic.{_≢_}
 use mathlib.Core.List.{[], _∷_}
 use mathlib.Core.Bool.{cond}
-use Prim.Native.Nat.{ℕ, zero, suc, _+_, _<_}
+use Prim.Native.Nat.{ℕ, zero, suc, _+_, _*_, _≤_, _<_}
 use native.Mathlib.Nat as Nat
 use native.Mathlib.Omega.{arith}
 use native.Mathlib.Decide.{ℕ-discrete}
 use borrow.Author.Tests.{eq-eqb, ne-eqb}
 use lib.Dec.{eqb}
-use lib.IntN.{ℤ, pos, negℤ, _+ℤ_, _-ℤ_, _*ℤ_}
+use lib.IntN.{ℤ, pos, negℤ, natAbs, _+ℤ_, _-ℤ_, _*ℤ_}
 use Rattle.integers.specs.Ring.{add-assoc, add-comm, zero-add, add-zero, sub-self, neg-add, zero-mul, mul-zero, add-mul, mul-add}
+use Rattle.integers.specs.Order.{natAbs-add}
 use Rattle.integers.specs.Solve.{solve, terms}
 use Rattle.matrices.specs.Sum.{sum}
 
@@ -127,3 +128,11 @@ sum-pair n j k f g lj lk d h e =
     differences : (f k -ℤ g k) +ℤ (f j -ℤ g j) ≡ pos 0
     differences = cc
         (interchange (f k) (negℤ (g k)) (f j) (negℤ (g j)), neg-add (g k) (g j), add-comm (f k) (f j), add-comm (g k) (g j), e, sub-self (g j +ℤ g k))
+
+-- ---- a bound from a bound of the terms
+
+pub natAbs-sum : (n : ℕ) (f : ℕ → ℤ) (bound : ℕ) → ((i : ℕ) → i < n → natAbs (f i) ≤ bound) → natAbs (sum n f) ≤ n * bound
+unfolding sum
+natAbs-sum zero f bound h = omega arith
+natAbs-sum (suc n) f bound h =
+    omega (arith, Nat.suc-mul n bound, natAbs-add (sum n f) (f n), natAbs-sum n f bound (λ i l. h i (omega arith)), h n (omega arith))

@@ -4,7 +4,7 @@ use mathlib.Core.Bool.{Bool, cond}
 use mathlib.Core.List.{List, [], _∷_, _++_}
 use Prim.Native.Nat.{ℕ, zero, suc, _+_, _-_, _*_, _/_, _%_, _^_}
 use lib.Dec.{eqb, ltb}
-use lib.ListN.{length, getD, drop, replicate}
+use lib.ListN.{length, getD, take, drop, replicate}
 use lib.IntN.{ℤ, pos, negsuc}
 use Rattle.lists.specs.Tabulate.{tabulate}
 use Rattle.complexes.specs.Complex.{count}
@@ -30,6 +30,21 @@ unfoldable pub numbersBytes : List ℤ → List ℕ
 numbersBytes [] = []
 numbersBytes (x ∷ l) = numberBytes x ++ numbersBytes l
 
+-- ---- numbers read from bytes
+
+-- the number whose bytes these are, low byte first
+unfoldable pub unsignedOf : List ℕ → ℕ
+unsignedOf [] = 0
+unsignedOf (b ∷ l) = b + 256 * unsignedOf l
+
+-- the signed 64-bit number whose eight bytes these are
+unfoldable pub signedOf : List ℕ → ℤ
+signedOf b = cond (ltb (unsignedOf b) (2 ^ 63)) (pos (unsignedOf b)) (negsuc (2 ^ 64 - suc (unsignedOf b)))
+
+-- number i of the bytes b
+unfoldable pub numberAt : List ℕ → ℕ → ℤ
+numberAt b i = signedOf (take 8 (drop (8 * i) b))
+
 -- the signed 32-bit number whose four bytes stand at byte i
 unfoldable pub coefficientAt : List ℕ → ℕ → ℤ
 coefficientAt b i = signed (getD b i 0 + 256 * (getD b (i + 1) 0 + 256 * (getD b (i + 2) 0 + 256 * getD b (i + 3) 0)))
@@ -37,13 +52,17 @@ coefficientAt b i = signed (getD b i 0 + 256 * (getD b (i + 1) 0 + 256 * (getD b
     signed : ℕ → ℤ
     signed n = cond (ltb n (2 ^ 31)) (pos n) (negsuc (2 ^ 32 - suc n))
 
+-- coefficient i of a chain
+abbrev pub coefficientIn : List ℕ → ℕ → ℤ
+coefficientIn chain i = coefficientAt chain (4 * i)
+
 -- A chain of 4 × n bytes; a chain of other than 4 × n bytes stands for one of another length than n.
 unfoldable pub otherLength : ℕ → List ℤ
 otherLength zero = pos 0 ∷ []
 otherLength (suc n) = []
 
 unfoldable pub chainFrom : ℕ → List ℕ → List ℤ
-chainFrom n chain = cond (eqb (length chain) (4 * n)) (tabulate n (λ i. coefficientAt chain (4 * i))) (otherLength n)
+chainFrom n chain = cond (eqb (length chain) (4 * n)) (tabulate n (λ i. coefficientIn chain i)) (otherLength n)
 
 -- ---- the calls
 

@@ -1,5 +1,5 @@
 -- Numbers as bytes: length-numberBytes, length-numbersBytes, numbersBytes-append. The numbers of 64 bits can be read back from the bytes:
--- numberOf-numberBytes, numberAt-numbersBytes; so numberBytes-injective and numbersBytes-injective.
+-- signedOf-numberBytes, numberAt-numbersBytes; so numberBytes-injective and numbersBytes-injective.
 use mathlib.Core.Path.{_≡_, refl, sym, _∙_, ap}
 use mathlib.Core.Bool.{cond}
 use mathlib.Core.List.{List, [], _∷_, _++_, append-assoc, append-nil}
@@ -12,7 +12,7 @@ use lib.ListN.{length, getD, take, drop, length-append}
 use lib.Seq.{take-at, drop-append-add, ext-getD}
 use lib.IntN.{ℤ, pos, negsuc}
 use lib.Signed.{mag}
-use Rattle.reports.specs.Host.{lowBytes, numberBytes, numbersBytes}
+use Rattle.reports.specs.Host.{lowBytes, numberBytes, numbersBytes, unsignedOf, signedOf, numberAt}
 
 -- ---- lengths
 
@@ -46,39 +46,26 @@ numbersBytes-snoc l x =
 
 -- ---- reading back
 
--- the number whose bytes these are, low byte first
-unfoldable pub unsignedOf : List ℕ → ℕ
-unsignedOf [] = 0
-unsignedOf (b ∷ l) = b + 256 * unsignedOf l
-
 pub unsignedOf-lowBytes : (size n : ℕ) → n < 256 ^ size → unsignedOf (lowBytes size n) ≡ n
 unfolding lowBytes unsignedOf
 unsignedOf-lowBytes zero n h = omega arith
 unsignedOf-lowBytes (suc size) n h =
     omega (arith, unsignedOf-lowBytes size (n / 256) (omega (arith, pow-succ' 256 size)))
 
--- the signed 64-bit number whose eight bytes these are
-unfoldable pub numberOf : List ℕ → ℤ
-numberOf b = cond (ltb (unsignedOf b) (2 ^ 63)) (pos (unsignedOf b)) (negsuc (2 ^ 64 - suc (unsignedOf b)))
-
 -- a signed 64-bit number
 pub record Word (x : ℤ) : Type 0 where
   pub within : mag x < 2 ^ 63
 
-pub numberOf-numberBytes : (x : ℤ) → Word x → numberOf (numberBytes x) ≡ x
-unfolding numberBytes numberOf
-numberOf-numberBytes (pos n) h =
+pub signedOf-numberBytes : (x : ℤ) → Word x → signedOf (numberBytes x) ≡ x
+unfolding numberBytes signedOf
+signedOf-numberBytes (pos n) h =
     rw (unsignedOf-lowBytes 8 n (omega (arith, h .within)), lt-ltb n (2 ^ 63) (h .within))
-numberOf-numberBytes (negsuc n) h =
+signedOf-numberBytes (negsuc n) h =
     rw (unsignedOf-lowBytes 8 (2 ^ 64 - suc n) (omega (arith, h .within)), le-ltb (2 ^ 64 - suc n) (2 ^ 63) (omega (arith, h .within)))
     (ap negsuc (omega (arith, h .within)))
 
 pub numberBytes-injective : (x y : ℤ) → Word x → Word y → numberBytes x ≡ numberBytes y → x ≡ y
-numberBytes-injective x y h k e = sym (numberOf-numberBytes x h) ∙ ap numberOf e ∙ numberOf-numberBytes y k
-
--- number i of the bytes b
-unfoldable pub numberAt : List ℕ → ℕ → ℤ
-numberAt b i = numberOf (take 8 (drop (8 * i) b))
+numberBytes-injective x y h k e = sym (signedOf-numberBytes x h) ∙ ap signedOf e ∙ signedOf-numberBytes y k
 
 -- whatever follows them, the bytes of the numbers give number i
 pub numberAt-numbersBytes : (l : List ℤ) (rest : List ℕ) (i : ℕ) → i < length l → Word (getD l i (pos 0))
@@ -86,13 +73,13 @@ pub numberAt-numbersBytes : (l : List ℤ) (rest : List ℕ) (i : ℕ) → i < l
 unfolding numberAt numbersBytes
 numberAt-numbersBytes [] rest i h w = absurd (omega arith)
 numberAt-numbersBytes (x ∷ l) rest zero h w =
-    ap (λ (t : List ℕ). numberOf (take 8 t)) (append-assoc (numberBytes x) (numbersBytes l) rest)
-    ∙ ap numberOf (take-at (numberBytes x) (numbersBytes l ++ rest) 8 (length-numberBytes x))
-    ∙ numberOf-numberBytes x w
+    ap (λ (t : List ℕ). signedOf (take 8 t)) (append-assoc (numberBytes x) (numbersBytes l) rest)
+    ∙ ap signedOf (take-at (numberBytes x) (numbersBytes l ++ rest) 8 (length-numberBytes x))
+    ∙ signedOf-numberBytes x w
 numberAt-numbersBytes (x ∷ l) rest (suc i) h w =
-    ap (λ (t : List ℕ). numberOf (take 8 (drop (8 * suc i) t))) (append-assoc (numberBytes x) (numbersBytes l) rest)
-    ∙ ap (λ (t : ℕ). numberOf (take 8 (drop t (numberBytes x ++ (numbersBytes l ++ rest))))) past
-    ∙ ap (λ (t : List ℕ). numberOf (take 8 t)) (drop-append-add (numberBytes x) (numbersBytes l ++ rest) (8 * i))
+    ap (λ (t : List ℕ). signedOf (take 8 (drop (8 * suc i) t))) (append-assoc (numberBytes x) (numbersBytes l) rest)
+    ∙ ap (λ (t : ℕ). signedOf (take 8 (drop t (numberBytes x ++ (numbersBytes l ++ rest))))) past
+    ∙ ap (λ (t : List ℕ). signedOf (take 8 t)) (drop-append-add (numberBytes x) (numbersBytes l ++ rest) (8 * i))
     ∙ numberAt-numbersBytes l rest i (omega arith) w
   where
     past : 8 * suc i ≡ length (numberBytes x) + 8 * i

@@ -25,7 +25,7 @@ pub orElse-le : {most : ℕ} (first later : ℕ) → first ≤ most → later �
 orElse-le zero later a b = b
 orElse-le (suc n) later a b = a
 
-refusal-le : (limit : ℕ) (b : List ℕ) → refusal limit b ≤ 7
+pub refusal-le : (limit : ℕ) (b : List ℕ) → refusal limit b ≤ 7
 unfolding refusal
 refusal-le limit b =
     refuse-le 1 (tooShort b) _ (omega arith)

@@ -1,17 +1,13 @@
 -- The remainder of a division by a positive number, from the one that has the dividend's sign: `modulo-remZ` where that is not negative,
--- `modulo-remZ-add` where it is. `modulo-zero`: modulo 0 a number stays.
+-- `modulo-remZ-add` where it is.
 use mathlib.Core.Path.{_≡_, _∙_, ap}
 use mathlib.Core.List.{[], _∷_}
 use lib.IntN.{ℤ, pos, _+ℤ_, _-ℤ_, _*ℤ_}
 use lib.Signed.{_≤ℤ_, _<ℤ_, quotZ, remZ}
-use Rattle.integers.specs.Ring.{mul-zero, add-zero}
 use Rattle.integers.specs.Solve.{solve, terms}
 use Rattle.integers.specs.Floor.{modulo-is}
 use Rattle.integers.specs.Division.{floor, modulo}
 use Rattle.integers.specs.Truncate.{quotZ-remZ, floor-quotZ, floor-quotZ-pred}
-
-pub modulo-zero : (a : ℤ) → modulo a (pos 0) ≡ a
-modulo-zero a = modulo-is a (pos 0) ∙ ap (λ (t : ℤ). a -ℤ t) (mul-zero (floor a (pos 0))) ∙ add-zero a
 
 module _ (a d : ℤ) (positive : pos 0 <ℤ d) where
   abbrev q : ℤ

@@ -32,7 +32,7 @@ use Rattle.reports.specs.Call.{libraryLimit, coefficientLimit, boundaryNotZero}
 use Rattle.lines.proofs.Words.{read, cast-fits, cast-is, zero-of-bits}
 use Rattle.boundaries.specs.Face.{Sums, AddsFaces}
 use Rattle.boundaries.proofs.Sheet.{complex}
-use Rattle.boundaries.proofs.Sums.{natAbs-sum}
+use Rattle.matrices.specs.SumLaws.{natAbs-sum}
 use Rattle.boundaries.proofs.chain.boundary_not_zero.Statement.{statement}
 use Rattle.boundaries.proofs.chain.boundary_not_zero.Tie as tie
 

@@ -16,7 +16,8 @@ use Rattle.integers.specs.Floor.{natAbs-modulo}
 use Rattle.integers.specs.Division.{modulo}
 use Rattle.lines.proofs.Words.{read, sfits-below, zero-of-bits}
 use Rattle.operations.proofs.Division.{quotient-fits, remainder-read}
-use Rattle.writers.proofs.Remainder.{modulo-zero, modulo-remZ, modulo-remZ-add}
+use Rattle.integers.specs.Floor.{modulo-zero}
+use Rattle.writers.proofs.Remainder.{modulo-remZ, modulo-remZ-add}
 use Rattle.writers.proofs.coordinates.residue.Statement.{statement}
 use Rattle.writers.proofs.coordinates.residue.Tie as tie
 

@@ -16,32 +16,34 @@ use Rattle.matrices.specs.Vector.{apply}
 use Rattle.complexes.specs.Boundary.{countBelow, boundary}
 use Rattle.sheet_format.specs.Check.{sectionsOf, some, refuse}
 use Rattle.sheet_format.specs.CheckLaws.{some-false}
+use Rattle.complexes.specs.Complex.{count}
 use Rattle.reports.specs.Call.{coefficientLimit, chainRefusal, chainLengthDiffers, coefficientExceeds, boundaryNotZero}
-use Rattle.demands.specs.Written.{chainOf, cells, IsCycle}
-use Rattle.demands.specs.Claims.{NoCycle}
+use Rattle.answers.specs.Homology.{IsCycle}
+use Rattle.answers.specs.Right.{slot}
+use Rattle.answers.specs.Called.{NoCycle}
 
 -- ---- 11
 
-coefficients-iff : (z : List ℤ) → (coefficientExceeds z ≡ false) ↔ ((i : ℕ) → natAbs (chainOf z i) ≤ coefficientLimit)
+coefficients-iff : (z : List ℤ) → (coefficientExceeds z ≡ false) ↔ ((i : ℕ) → natAbs (slot z i) ≤ coefficientLimit)
 unfolding coefficientExceeds
 coefficients-iff z = (forward, backward)
   where
     exceeds : ℕ → Bool
-    exceeds i = ltb coefficientLimit (natAbs (chainOf z i))
+    exceeds i = ltb coefficientLimit (natAbs (slot z i))
 
-    at : ((i : ℕ) → i < length z → exceeds i ≡ false) → (i : ℕ) → Dec (i < length z) → natAbs (chainOf z i) ≤ coefficientLimit
-    at h i (yes l) = ltb-false coefficientLimit (natAbs (chainOf z i)) (h i l)
+    at : ((i : ℕ) → i < length z → exceeds i ≡ false) → (i : ℕ) → Dec (i < length z) → natAbs (slot z i) ≤ coefficientLimit
+    at h i (yes l) = ltb-false coefficientLimit (natAbs (slot z i)) (h i l)
     at h i (no l) = rw (List·getD-eq-default z (pos 0) {n = i} (omega arith)) zero-le
 
-    forward : some (length z) exceeds ≡ false → (i : ℕ) → natAbs (chainOf z i) ≤ coefficientLimit
+    forward : some (length z) exceeds ≡ false → (i : ℕ) → natAbs (slot z i) ≤ coefficientLimit
     forward e i = at (some-false (length z) exceeds .0 e) i (decLt i (length z))
 
-    backward : ((i : ℕ) → natAbs (chainOf z i) ≤ coefficientLimit) → some (length z) exceeds ≡ false
-    backward h = some-false (length z) exceeds .1 (λ i l. le-ltb coefficientLimit (natAbs (chainOf z i)) (h i))
+    backward : ((i : ℕ) → natAbs (slot z i) ≤ coefficientLimit) → some (length z) exceeds ≡ false
+    backward h = some-false (length z) exceeds .1 (λ i l. le-ltb coefficientLimit (natAbs (slot z i)) (h i))
 
 -- ---- 12
 
-cycle-iff : (b : List ℕ) (p : ℕ) (z : List ℤ) → (boundaryNotZero (sectionsOf b) p z ≡ false) ↔ IsCycle b p (chainOf z)
+cycle-iff : (b : List ℕ) (p : ℕ) (z : List ℤ) → (boundaryNotZero (sectionsOf b) p z ≡ false) ↔ IsCycle (sectionsOf b) p (slot z)
 unfolding boundaryNotZero
 cycle-iff b p z = (forward, backward)
   where
@@ -49,30 +51,30 @@ cycle-iff b p z = (forward, backward)
     rows = countBelow (sectionsOf b) p
 
     value : ℕ → ℤ
-    value i = apply (cells b p) (boundary (sectionsOf b) p) (chainOf z) i
+    value i = apply (count (sectionsOf b) p) (boundary (sectionsOf b) p) (slot z) i
 
     nonzero : ℕ → Bool
     nonzero i = not (eqb (natAbs (value i)) 0)
 
-    forward : some rows nonzero ≡ false → IsCycle b p (chainOf z)
+    forward : some rows nonzero ≡ false → IsCycle (sectionsOf b) p (slot z)
     forward e = record {
       vanishes = λ i l. natAbs-zero (value i) (eqb-true (natAbs (value i)) 0 (not-false (eqb (natAbs (value i)) 0) (some-false rows nonzero .0 e i l)));
     }
 
-    backward : IsCycle b p (chainOf z) → some rows nonzero ≡ false
+    backward : IsCycle (sectionsOf b) p (slot z) → some rows nonzero ≡ false
     backward c = some-false rows nonzero .1 (λ i l. ap (λ (t : ℤ). not (eqb (natAbs t) 0)) (c .vanishes i l))
 
 -- ---- the three
 
 pub record ChainPasses (b : List ℕ) (p : ℕ) (z : List ℤ) : Type 0 where
-  pub size : length z ≡ cells b p
-  pub small : (i : ℕ) → natAbs (chainOf z i) ≤ coefficientLimit
-  pub cycle : IsCycle b p (chainOf z)
+  pub size : length z ≡ count (sectionsOf b) p
+  pub small : (i : ℕ) → natAbs (slot z i) ≤ coefficientLimit
+  pub cycle : IsCycle (sectionsOf b) p (slot z)
 
-size-iff : (b : List ℕ) (p : ℕ) (z : List ℤ) → (chainLengthDiffers (sectionsOf b) p z ≡ false) ↔ (length z ≡ cells b p)
+size-iff : (b : List ℕ) (p : ℕ) (z : List ℤ) → (chainLengthDiffers (sectionsOf b) p z ≡ false) ↔ (length z ≡ count (sectionsOf b) p)
 size-iff b p z = (
-  λ e. eqb-true (length z) (cells b p) (not-false (eqb (length z) (cells b p)) e),
-  λ e. ap not (eq-eqb (length z) (cells b p) e),
+  λ e. eqb-true (length z) (count (sectionsOf b) p) (not-false (eqb (length z) (count (sectionsOf b) p)) e),
+  λ e. ap not (eq-eqb (length z) (count (sectionsOf b) p) e),
 )
 
 -- a refusal of another number than the check's: the check passes
@@ -88,14 +90,14 @@ chain-passes b p z e =
     let m = refuse-other 12 (boundaryNotZero (sectionsOf b) p z) 0 0 (λ h. omega arith) (l .1) in
     record { size = size-iff b p z .0 (k .0); small = coefficients-iff z .0 (l .0); cycle = cycle-iff b p z .0 (m .0) }
 
-pub not-a-cycle-iff : (b : List ℕ) (p : ℕ) (z : List ℤ) → (chainRefusal b p z ≡ 12) ↔ NoCycle b p z
+pub not-a-cycle-iff : (b : List ℕ) (p : ℕ) (z : List ℤ) → (chainRefusal b p z ≡ 12) ↔ NoCycle (sectionsOf b) p z
 unfolding chainRefusal
 not-a-cycle-iff b p z = (forward, backward)
   where
     twelve : Bool → ℕ
     twelve t = refuse 12 t 0
 
-    forward : chainRefusal b p z ≡ 12 → NoCycle b p z
+    forward : chainRefusal b p z ≡ 12 → NoCycle (sectionsOf b) p z
     forward e =
         let k = refuse-other 10 (chainLengthDiffers (sectionsOf b) p z) _ 12 (λ h. omega arith) e in
         let l = refuse-other 11 (coefficientExceeds z) _ 12 (λ h. omega arith) (k .1) in
@@ -108,11 +110,11 @@ not-a-cycle-iff b p z = (forward, backward)
         zero≢twelve : _≡_ {A = ℕ} 0 12 → ⊥
         zero≢twelve h = omega arith
 
-    told : NoCycle b p z → (t : Bool) → boundaryNotZero (sectionsOf b) p z ≡ t → t ≡ true
+    told : NoCycle (sectionsOf b) p z → (t : Bool) → boundaryNotZero (sectionsOf b) p z ≡ t → t ≡ true
     told h true e = refl
     told h false e = absurd (h .no-cycle (cycle-iff b p z .0 e))
 
-    backward : NoCycle b p z → chainRefusal b p z ≡ 12
+    backward : NoCycle (sectionsOf b) p z → chainRefusal b p z ≡ 12
     backward h =
         rw (
           size-iff b p z .1 (h .size),

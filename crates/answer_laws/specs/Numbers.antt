@@ -13,9 +13,9 @@ use Rattle.reduction_steps.specs.Table.{entry}
 use Rattle.reduction_steps.specs.State.{State}
 use Rattle.reports.specs.Report.{kind, freeRank, torsionCount, reportList, coordinateAt, coordinateList}
 use Rattle.reports.specs.ReportLaws.{length-reportList, getD-report-order, getD-report-generator, length-coordinateList, getD-coordinateList}
-use Rattle.demands.specs.Written.{chainOf}
-use Rattle.demands.specs.ReportedPlaces.{Places, reported-places}
-use Rattle.demands.specs.TwoReductions.{Right}
+use Rattle.answers.specs.Right.{slot}
+use Rattle.answer_laws.specs.ReportedPlaces.{Places, reported-places}
+use Rattle.answer_laws.specs.TwoReductions.{Right}
 
 module _ {K : Sections} {p s r : ℕ} {x : State} (R : Right K p s r x) where
   ones-of : Ones s (kind x)
@@ -70,7 +70,7 @@ module _ {K : Sections} {p s r : ℕ} {x : State} (R : Right K p s r x) where
   coordinates-length z = length-coordinateList (count K p) s x z ∙ places .size ∙ sym total
 
   pub coordinate-is : (z : List ℤ) (j : ℕ) → j < torsionCount r x + freeRank s r
-      → getD (coordinateList (count K p) s x z) j (pos 0) ≡ coordinate (count K p) ones (kind x) (entry (x .rowFollower)) (chainOf z) j
+      → getD (coordinateList (count K p) s x z) j (pos 0) ≡ coordinate (count K p) ones (kind x) (entry (x .rowFollower)) (slot z) j
   unfolding coordinate coordinateAt
   coordinate-is z j h =
       getD-coordinateList (count K p) s x z j (omega (arith, places .size, total))

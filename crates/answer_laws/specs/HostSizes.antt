@@ -19,22 +19,22 @@ use Rattle.reports.specs.Call.{done, refused, hostLimit, reportSlots, coordinat
 use Rattle.reports.specs.RefusalLaws.{Passed, refusalBefore-zero}
 use Rattle.reports.specs.CallLaws.{ReducedWith, CallRefused, earlier, wide, call-refused}
 use Rattle.reports.specs.HostCallLaws.{reportRoom, workRoom, counts-within}
-use Rattle.demands.specs.Written.{cells}
-use Rattle.demands.specs.Numbers.{report-length, coordinates-length}
-use Rattle.demands.specs.Calls.{Answered}
-use Rattle.demands.specs.BothCalls.{reportBefore, reportNumbers, report-answered, sheetBefore, coordinatesBefore, coordinates-passed, coordinates-answered}
+use Rattle.answer_laws.specs.Numbers.{report-length, coordinates-length}
+use Rattle.answer_laws.specs.Calls.{Answered}
+use Rattle.answer_laws.specs.ReportCall.{reportBefore, reportNumbers, report-answered}
+use Rattle.answer_laws.specs.CoordinateCall.{sheetBefore, coordinatesBefore, coordinates-passed, coordinates-answered}
 
 -- the numbers of a report, with f free generators and t orders
 abbrev pub reportNumbersOf : List ℕ → ℕ → ℕ → ℕ → ℕ
-reportNumbersOf b p f t = 2 + t + (t + f) * cells b p
+reportNumbersOf b p f t = 2 + t + (t + f) * count (sectionsOf b) p
 
 -- dimension p of the sheet b, which is accepted, gives f free generators and t orders
 pub record Sized (b : List ℕ) (p f t : ℕ) : Type 0 where
   pub counted : ReducedWith (reductionsOf b p) f t
-  pub cells-within : cells b p ≤ hostLimit
-  pub total-within : t + f ≤ cells b p
-  pub report-size : length (reportList (cells b p) (counted .rows) (counted .rank) (counted .state)) ≡ reportNumbersOf b p f t
-  pub coordinates-size : (z : List ℤ) → length (coordinateList (cells b p) (counted .rows) (counted .state) z) ≡ t + f
+  pub cells-within : count (sectionsOf b) p ≤ hostLimit
+  pub total-within : t + f ≤ count (sectionsOf b) p
+  pub report-size : length (reportList (count (sectionsOf b) p) (counted .rows) (counted .rank) (counted .state)) ≡ reportNumbersOf b p f t
+  pub coordinates-size : (z : List ℤ) → length (coordinateList (count (sectionsOf b) p) (counted .rows) (counted .state) z) ≡ t + f
 
 sized : (b : List ℕ) (p before f t : ℕ) → refusal hostLimit b ≡ 0 → Answered b p before f t → Sized b p f t
 unfolding torsionCount
@@ -49,7 +49,7 @@ sized b p before f t accepted d =
 
 -- the report's numbers fit where all that check 9 asks for do
 pub numbers-fit : {b : List ℕ} {p f t : ℕ} → Sized b p f t → reportNumbersOf b p f t ≤ reportSlots (sectionsOf b) p
-numbers-fit {b} {p} s = omega (arith, s .total-within, mul-le-mul-right (cells b p) (s .total-within))
+numbers-fit {b} {p} s = omega (arith, s .total-within, mul-le-mul-right (count (sectionsOf b) p) (s .total-within))
 
 -- a report call that is done, with this report slice
 pub record ReportSized (b : List ℕ) (p : ℕ) (report : List ℤ) (f t : ℕ) : Type 0 where
@@ -66,7 +66,7 @@ module _ (b : List ℕ) (bytes : Bytes b) (p : ℕ) where
   report-sized report work f t e = record { is-sized = s; fits = omega (arith, numbers-fit s, h .output-slots) }
     where
       d : Answered b p (reportBefore hostLimit b p report work) f t
-      d = report-answered hostLimit b p report work bytes f t e
+      d = report-answered hostLimit b p report work bytes e
 
       h : Passed hostLimit b p reportSlots (length report) (length work)
       h = refusalBefore-zero hostLimit b p reportSlots (length report) (length work) .0 (d .passes)
@@ -78,7 +78,7 @@ module _ (b : List ℕ) (bytes : Bytes b) (p : ℕ) where
   coordinates-sized z coordinates work f t e = record { is-sized = s; fits = omega (arith, s .total-within, h .output-slots) }
     where
       d : Answered b p (coordinatesBefore hostLimit b p z coordinates work) f t
-      d = coordinates-answered hostLimit b p z coordinates work bytes f t e
+      d = coordinates-answered hostLimit b p z coordinates work bytes e
 
       h : Passed hostLimit b p coordinateSlots (length coordinates) (length work)
       h = refusalBefore-zero hostLimit b p coordinateSlots (length coordinates) (length work) .0 (coordinates-passed hostLimit b p z coordinates work .0 (d .passes) .0)

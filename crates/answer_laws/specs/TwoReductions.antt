@@ -1,5 +1,7 @@
--- The two reductions of a dimension of a complex, both done, leave what `homology_groups` asks for: reductions-right.
+-- The two reductions of a dimension of a complex, both done, leave what `homology_groups` asks for (reductions-right), within the limit
+-- (reductions-within).
 use mathlib.Core.Path.{_≡_, sym, _∙_, subst}
+use mathlib.Core.Bool.{true}
 use Prim.Native.Nat.{ℕ, suc, _+_, _-_, _≤_}
 use native.Mathlib.Nat.{le-trans, min-le-left, min-le-right}
 use native.Mathlib.Omega.{arith}
@@ -23,7 +25,7 @@ use Rattle.reduction_laws.specs.SmithForm.{reduce-smith}
 use Rattle.reports.specs.Reductions.{firstSizes, firstStart, secondSizes, secondStart, product, reduced, reductions}
 use Rattle.reports.specs.ReductionsLaws.{BothDone, reductions-done}
 use Rattle.reports.specs.Report.{kind}
-use Rattle.demands.specs.Starts.{first-shaped, first-within, second-shaped, second-within, entry-drop}
+use Rattle.answer_laws.specs.Starts.{first-shaped, first-within, second-shaped, second-within, entry-drop}
 
 -- s rows of Q, rank r and the state x are right for dimension p of K
 pub record Right (K : Sections) (p s r : ℕ) (x : State) : Type 0 where
@@ -128,22 +130,27 @@ module _ {top most : ℕ} {K : Sections} (complex : Complex top most K) (rule : 
   pub first-reduced : (r₁ : ℕ) (x₁ : State) → reduce limit (firstSizes K p) rule (firstStart K p) ≡ done r₁ x₁ → machine.Reduced limit (firstSizes K p) (firstStart K p) r₁ x₁
   first-reduced = reduce-smith limit (firstSizes K p) rule is (firstStart K p) (first-shaped K p) (first-within complex limit p one)
 
-  pub reductions-right : (s r : ℕ) (x : State) → reductions rule limit K p ≡ reduced s r x → Right K p s r x
-  reductions-right s r x e = subst (λ (t : ℕ). Right K p t r x) (sym (B .rows)) (both-right r₁ x₁ S₁ r x S₂)
-    where
-      B : BothDone rule limit K p s r x
-      B = reductions-done rule limit K p s r x e
+  module _ (s r : ℕ) (x : State) (e : reductions rule limit K p ≡ reduced s r x) where
+    abbrev both : BothDone rule limit K p s r x
+    both = reductions-done rule limit K p s r x e
 
-      r₁ : ℕ
-      r₁ = B .firstRank
+    abbrev r₁ : ℕ
+    r₁ = both .firstRank
 
-      x₁ : State
-      x₁ = B .firstState
+    abbrev x₁ : State
+    x₁ = both .firstState
 
-      S₁ : machine.Reduced limit (firstSizes K p) (firstStart K p) r₁ x₁
-      S₁ = first-reduced r₁ x₁ (B .first)
+    first-smith : machine.Reduced limit (firstSizes K p) (firstStart K p) r₁ x₁
+    first-smith = first-reduced r₁ x₁ (both .first)
 
-      S₂ : machine.Reduced limit (secondSizes K p r₁) (secondStart K p r₁ x₁) r x
-      S₂ =
-          reduce-smith limit (secondSizes K p r₁) rule is (secondStart K p r₁ x₁)
-          (second-shaped K p r₁ x₁ (S₁ .shaped)) (second-within K p r₁ x₁ limit (S₁ .within) (B .narrow)) r x (B .second)
+    second-smith : machine.Reduced limit (secondSizes K p r₁) (secondStart K p r₁ x₁) r x
+    second-smith =
+        reduce-smith limit (secondSizes K p r₁) rule is (secondStart K p r₁ x₁)
+        (second-shaped K p r₁ x₁ (first-smith .shaped)) (second-within K p r₁ x₁ limit (first-smith .within) (both .narrow)) r x (both .second)
+
+    pub reductions-right : Right K p s r x
+    reductions-right = subst (λ (t : ℕ). Right K p t r x) (sym (both .rows)) (both-right r₁ x₁ first-smith r x second-smith)
+
+    -- the state that is left lies within the limit
+    pub reductions-within : within limit x ≡ true
+    reductions-within = second-smith .within

@@ -1,0 +1,133 @@
+-- A call, of the library or of the host, whose refusals before the reduction come to `before` and whose reductions to R. `told`: the number that
+-- it answers, which is as document 01 says (told-answers). On an accepted sheet: reductionsOf-wide, reductionsOf-right, reductionsOf-within.
+-- What the library's call leaves in its slices: output-left, output-kept, work-left.
+use mathlib.Core.Path.{_≡_, refl, sym, _∙_, ap}
+use mathlib.Core.Logic.{_↔_, _≢_}
+use mathlib.Core.Bool.{true}
+use mathlib.Core.List.{List}
+use Prim.Native.Nat.{ℕ, zero, suc, _≤_}
+use native.Mathlib.Omega.{arith}
+use lib.ListN.{length, getD}
+use lib.IntN.{ℤ, pos}
+use Rattle.complexes.specs.Complex.{Sections, Complex}
+use Rattle.sheet_format.specs.Layout.{top}
+use Rattle.sheet_format.specs.Check.{sectionsOf}
+use Rattle.sheet_format.specs.Sheet.{Bytes}
+use Rattle.sheet_format.specs.Accept.{accepted-complex}
+use Rattle.reduction_steps.specs.State.{State, within}
+use Rattle.reduction_steps.specs.Pivot.{release1}
+use Rattle.reduction_steps.specs.PivotLaws.{release1-is-rule}
+use Rattle.reports.specs.Reductions.{Reductions, tooWide, reduced}
+use Rattle.reports.specs.ReductionsLaws.{tooWide≢reduced}
+use Rattle.reports.specs.Call.{done, entryLimit, written, finished, refusalBefore, reductionsOf}
+use Rattle.reports.specs.CallLaws.{call, ReducedWith, call-done, call-output}
+use Rattle.reports.specs.WrittenLaws.{length-written, getD-written-past}
+use Rattle.reports.specs.RefusalLaws.{refusalBefore-zero}
+use Rattle.answers.specs.Wide.{GoesWide}
+use Rattle.answers.specs.Called.{answerNumber, Answers, KeptPast, WorkLeft}
+use Rattle.answer_laws.specs.TwoReductions.{Right, reductions-right, reductions-within}
+use Rattle.answer_laws.specs.WideLaws.{wide-iff}
+
+-- ---- the number
+
+abbrev pub told : ℕ → Reductions → ℕ
+told zero tooWide = 13
+told zero (reduced s r x) = 0
+told (suc k) R = suc k
+
+pub told-answers : {W : Type 0} (before : ℕ) (R : Reductions) → before ≤ 12 → (before ≡ 0 → (R ≡ tooWide) ↔ W) → Answers before W (told before R)
+told-answers zero tooWide h iff = record {
+  earlier = λ k d e. (λ q. absurd (e (sym q)), λ q. absurd (d (sym q)));
+  too-wide = (λ q. (refl, iff refl .0 refl), λ q. refl);
+  is-done = (λ q. absurd (omega arith), λ q. absurd (q .1 (iff refl .0 refl)));
+}
+told-answers zero (reduced s r x) h iff = record {
+  earlier = λ k d e. (λ q. q, λ q. q);
+  too-wide = (λ q. absurd (omega arith), λ q. absurd (tooWide≢reduced (sym (iff refl .1 (q .1)))));
+  is-done = (λ q. (refl, λ w. tooWide≢reduced (sym (iff refl .1 w))), λ q. refl);
+}
+told-answers (suc b) R h iff = record {
+  earlier = λ k d e. (λ q. q, λ q. q);
+  too-wide = (λ q. absurd (omega arith), λ q. absurd (omega (arith, q .0)));
+  is-done = (λ q. absurd (omega arith), λ q. absurd (omega (arith, q .0)));
+}
+
+-- done: nothing was refused, and the reductions are done
+pub record ToldDone (before : ℕ) (R : Reductions) : Type 0 where
+  pub passes : before ≡ 0
+  pub rows : ℕ
+  pub rank : ℕ
+  pub state : State
+  pub reductions : R ≡ reduced rows rank state
+
+pub told-done : (before : ℕ) (R : Reductions) → told before R ≡ 0 → ToldDone before R
+told-done zero tooWide e = absurd (omega arith)
+told-done zero (reduced s r x) e = record { passes = refl; rows = s; rank = r; state = x; reductions = refl }
+told-done (suc k) R e = absurd (omega arith)
+
+-- ---- the library's call
+
+module _ (numbers : ℕ → ℕ → State → List ℤ) (output work : List ℤ) where
+  pub call-number : (before : ℕ) (R : Reductions) → answerNumber (call before R numbers output work .answer) ≡ told before R
+  unfolding finished
+  call-number zero tooWide = refl
+  call-number zero (reduced s r x) = refl
+  call-number (suc k) R = refl
+
+  pub output-left : (before : ℕ) (R : Reductions) → told before R ≢ 0 → call before R numbers output work .output ≡ output
+  unfolding finished
+  output-left zero tooWide d = refl
+  output-left zero (reduced s r x) d = absurd (d refl)
+  output-left (suc k) R d = refl
+
+  pub work-left : (before : ℕ) (R : Reductions) → before ≤ 12 → WorkLeft (told before R) work (call before R numbers output work .work)
+  unfolding finished
+  work-left zero tooWide h = record { after-done = λ e. absurd (omega arith); after-wide = λ e. refl; otherwise = λ d e. absurd (e refl) }
+  work-left zero (reduced s r x) h = record { after-done = λ e. refl; after-wide = λ e. absurd (omega arith); otherwise = λ d e. absurd (d refl) }
+  work-left (suc k) R h = record { after-done = λ e. absurd (omega arith); after-wide = λ e. absurd (omega arith); otherwise = λ d e. refl }
+
+  pub output-kept : (before : ℕ) (R : Reductions) → before ≡ 0 → {f t : ℕ} (c : ReducedWith R f t) (many : ℕ)
+      → length (numbers (c .rows) (c .rank) (c .state)) ≡ many → many ≤ length output → KeptPast (pos 0) many output (call before R numbers output work .output)
+  output-kept before R z c many e h = record {
+    size = ap length is ∙ length-written list output (omega arith);
+    past = λ i l. ap (λ (o : List ℤ). getD o i (pos 0)) is ∙ getD-written-past list output (pos 0) i (omega arith);
+  }
+    where
+      list : List ℤ
+      list = numbers (c .rows) (c .rank) (c .state)
+
+      is : call before R numbers output work .output ≡ written list output
+      is = call-output before R numbers output work z (c .rows) (c .rank) (c .state) (c .reductions)
+
+-- ---- an accepted sheet
+
+-- a call that passes the checks 1 to 9 has a complex
+pub passed-complex : (limit : ℕ) (b : List ℕ) (p : ℕ) (slots : Sections → ℕ → ℕ) (output work : ℕ) → Bytes b → refusalBefore limit b p slots output work ≡ 0 → Complex top limit (sectionsOf b)
+passed-complex limit b p slots output work bytes e = accepted-complex limit b bytes (refusalBefore-zero limit b p slots output work .0 e .accepted)
+
+module _ {limit : ℕ} (b : List ℕ) (p : ℕ) (complex : Complex top limit (sectionsOf b)) where
+  pub reductionsOf-wide : (reductionsOf b p ≡ tooWide) ↔ GoesWide entryLimit release1 (sectionsOf b) p
+  unfolding reductionsOf
+  reductionsOf-wide = wide-iff complex release1 release1-is-rule entryLimit p (omega arith)
+
+  module _ (s r : ℕ) (x : State) (e : reductionsOf b p ≡ reduced s r x) where
+    pub reductionsOf-right : Right (sectionsOf b) p s r x
+    unfolding reductionsOf
+    reductionsOf-right = reductions-right complex release1 release1-is-rule entryLimit p (omega arith) s r x e
+
+    pub reductionsOf-within : within entryLimit x ≡ true
+    unfolding reductionsOf
+    reductionsOf-within = reductions-within complex release1 release1-is-rule entryLimit p (omega arith) s r x e
+
+-- a call that is done with f and t: two reductions that are right
+pub record Answered (b : List ℕ) (p before f t : ℕ) : Type 0 where
+  pub passes : before ≡ 0
+  pub counted : ReducedWith (reductionsOf b p) f t
+  pub right : Right (sectionsOf b) p (counted .rows) (counted .rank) (counted .state)
+
+pub answered : {limit : ℕ} (b : List ℕ) (p before : ℕ) → (before ≡ 0 → Complex top limit (sectionsOf b)) → (numbers : ℕ → ℕ → State → List ℤ)
+    (output work : List ℤ) (f t : ℕ) → call before (reductionsOf b p) numbers output work .answer ≡ done f t → Answered b p before f t
+answered b p before complex numbers output work f t e =
+    let d = call-done before (reductionsOf b p) numbers output work f t e in
+    let c = d .counted in
+    record { passes = d .passes; counted = c; right = reductionsOf-right b p (complex (d .passes)) (c .rows) (c .rank) (c .state) (c .reductions) }

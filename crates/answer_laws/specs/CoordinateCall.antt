@@ -1,0 +1,107 @@
+-- The laws of `Calls` for the library's coordinate call: what it answers (coordinates-answer), what it leaves (coordinates-left,
+-- coordinates-work, coordinates-kept), and the numbers that stand in its output (coordinates-read).
+use mathlib.Core.Path.{_≡_, _∙_, ap}
+use mathlib.Core.Logic.{_↔_, _≢_}
+use mathlib.Core.List.{List}
+use Prim.Native.Nat.{ℕ, _+_, _≤_}
+use native.Mathlib.Nat.{le-trans}
+use native.Mathlib.Omega.{arith}
+use lib.ListN.{length, getD}
+use lib.IntN.{ℤ, pos}
+use Rattle.complexes.specs.Complex.{count, Complex}
+use Rattle.sheet_format.specs.Layout.{top}
+use Rattle.sheet_format.specs.Check.{sectionsOf}
+use Rattle.sheet_format.specs.Sheet.{Bytes}
+use Rattle.reduction_steps.specs.State.{State}
+use Rattle.reduction_steps.specs.Pivot.{release1}
+use Rattle.reports.specs.Report.{coordinateList}
+use Rattle.reports.specs.ReportLaws.{coordinates-fit}
+use Rattle.reports.specs.Call.{Called, done, entryLimit, written, orElse, refusalBefore, chainRefusal, coordinateSlots, reductionsOf, coordinateCall}
+use Rattle.reports.specs.RefusalLaws.{orElse-zero, orElse-le, refusalBefore-le, chainRefusal-le, refusalBefore-zero}
+use Rattle.reports.specs.WrittenLaws.{getD-written}
+use Rattle.reports.specs.CallLaws.{ReducedWith, call-output}
+use Rattle.answers.specs.Homology.{IsCycle}
+use Rattle.answers.specs.Right.{slot}
+use Rattle.answers.specs.Wide.{GoesWide}
+use Rattle.answers.specs.Called.{answerNumber, Answers, KeptPast, WorkLeft}
+use Rattle.answer_laws.specs.ChainChecks.{chain-passes}
+use Rattle.answer_laws.specs.Numbers.{coordinates-length}
+use Rattle.answer_laws.specs.CoordinatesRight.{ReadsCoordinates}
+use Rattle.answer_laws.specs.Calls.{told, told-answers, call-number, output-left, output-kept, work-left, passed-complex, reductionsOf-wide, Answered, answered}
+
+module _ (limit : ℕ) (b : List ℕ) (p : ℕ) (z coordinates work : List ℤ) where
+  -- the refusals 1 to 9 of the coordinate call, then 10 to 12
+  abbrev pub sheetBefore : ℕ
+  sheetBefore = refusalBefore limit b p coordinateSlots (length coordinates) (length work)
+
+  abbrev pub coordinatesBefore : ℕ
+  coordinatesBefore = orElse sheetBefore (chainRefusal b p z)
+
+  abbrev pub coordinatesNumbers : ℕ → ℕ → State → List ℤ
+  coordinatesNumbers s r x = coordinateList (count (sectionsOf b) p) s x z
+
+  abbrev pub coordinatesCalled : Called
+  coordinatesCalled = coordinateCall limit b p z coordinates work
+
+  coordinatesBefore-le : coordinatesBefore ≤ 12
+  coordinatesBefore-le =
+      orElse-le sheetBefore (chainRefusal b p z)
+      (le-trans (refusalBefore-le limit b p coordinateSlots (length coordinates) (length work)) (omega arith)) (chainRefusal-le b p z)
+
+  pub coordinates-passed : (coordinatesBefore ≡ 0) ↔ ((sheetBefore ≡ 0) × (chainRefusal b p z ≡ 0))
+  coordinates-passed = orElse-zero sheetBefore (chainRefusal b p z)
+
+  coordinates-complex : Bytes b → coordinatesBefore ≡ 0 → Complex top limit (sectionsOf b)
+  coordinates-complex bytes e = passed-complex limit b p coordinateSlots (length coordinates) (length work) bytes (coordinates-passed .0 e .0)
+
+  pub chain-cycle : coordinatesBefore ≡ 0 → IsCycle (sectionsOf b) p (slot z)
+  chain-cycle e = chain-passes b p z (coordinates-passed .0 e .1) .cycle
+
+  pub coordinates-number : answerNumber (coordinatesCalled .answer) ≡ told coordinatesBefore (reductionsOf b p)
+  unfolding coordinateCall
+  coordinates-number = call-number coordinatesNumbers coordinates work coordinatesBefore (reductionsOf b p)
+
+  pub coordinates-answer : Bytes b → Answers coordinatesBefore (GoesWide entryLimit release1 (sectionsOf b) p) (answerNumber (coordinatesCalled .answer))
+  coordinates-answer bytes =
+      rw coordinates-number (told-answers coordinatesBefore (reductionsOf b p) coordinatesBefore-le (λ e. reductionsOf-wide b p (coordinates-complex bytes e)))
+
+  pub coordinates-left : answerNumber (coordinatesCalled .answer) ≢ 0 → coordinatesCalled .output ≡ coordinates
+  unfolding coordinateCall
+  coordinates-left d = output-left coordinatesNumbers coordinates work coordinatesBefore (reductionsOf b p) (rw coordinates-number at d)
+
+  pub coordinates-work : WorkLeft (answerNumber (coordinatesCalled .answer)) work (coordinatesCalled .work)
+  unfolding coordinateCall
+  coordinates-work = rw coordinates-number (work-left coordinatesNumbers coordinates work coordinatesBefore (reductionsOf b p) coordinatesBefore-le)
+
+  module _ (bytes : Bytes b) {f t : ℕ} (e : coordinatesCalled .answer ≡ done f t) where
+    pub coordinates-answered : Answered b p coordinatesBefore f t
+    unfolding coordinateCall
+    coordinates-answered = answered b p coordinatesBefore (coordinates-complex bytes) coordinatesNumbers coordinates work f t e
+
+    abbrev c : ReducedWith (reductionsOf b p) f t
+    c = coordinates-answered .counted
+
+    size : length (coordinatesNumbers (c .rows) (c .rank) (c .state)) ≡ t + f
+    size = cc (coordinates-length (coordinates-answered .right) z, c .torsion, c .free)
+
+    output-is : coordinatesCalled .output ≡ written (coordinatesNumbers (c .rows) (c .rank) (c .state)) coordinates
+    unfolding coordinateCall
+    output-is = call-output coordinatesBefore (reductionsOf b p) coordinatesNumbers coordinates work (coordinates-answered .passes) (c .rows) (c .rank) (c .state) (c .reductions)
+
+    pub coordinates-read : ReadsCoordinates (sectionsOf b) p (c .rows) (c .rank) (c .state) z (slot (coordinatesCalled .output))
+    coordinates-read = record {
+      places = λ j l.
+          ap (λ (o : List ℤ). getD o j (pos 0)) output-is
+          ∙ getD-written (coordinatesNumbers (c .rows) (c .rank) (c .state)) coordinates (pos 0) j (omega (arith, coordinates-length (coordinates-answered .right) z));
+    }
+
+    pub coordinates-kept : KeptPast (pos 0) (t + f) coordinates (coordinatesCalled .output)
+    unfolding coordinateCall
+    coordinates-kept =
+        output-kept coordinatesNumbers coordinates work coordinatesBefore (reductionsOf b p) (coordinates-answered .passes) c (t + f) size (le-trans fits slots)
+      where
+        fits : t + f ≤ coordinateSlots (sectionsOf b) p
+        fits = rw size at (coordinates-fit (count (sectionsOf b) p) (c .rows) (c .state) z (coordinates-answered .right .rows-bound))
+
+        slots : coordinateSlots (sectionsOf b) p ≤ length coordinates
+        slots = refusalBefore-zero limit b p coordinateSlots (length coordinates) (length work) .0 (coordinates-passed .0 (coordinates-answered .passes) .0) .output-slots

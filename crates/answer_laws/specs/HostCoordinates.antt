@@ -1,0 +1,140 @@
+-- fildwuk_coordinates: what it answers (host-coordinates-answer), what it leaves (host-coordinates-left, `kept`), and that the numbers which a
+-- caller reads from its bytes are those of two reductions that are right (host-coordinated).
+use mathlib.Core.Path.{_≡_, sym, _∙_}
+use mathlib.Core.Logic.{_↔_, _≢_}
+use mathlib.Core.Bool.{Bool, true, false, cond}
+use mathlib.Core.List.{List}
+use Prim.Native.Nat.{ℕ, zero, suc, _+_, _*_, _≤_, _<_}
+use native.Mathlib.Nat.{le-trans}
+use native.Mathlib.Omega.{arith}
+use lib.Dec.{eqb}
+use lib.ListN.{length}
+use lib.IntN.{ℤ, pos}
+use Rattle.lists.specs.Tabulate.{tabulate}
+use Rattle.lists.specs.TabulateLaws.{getD-tabulate}
+use Rattle.complexes.specs.Complex.{count, Complex}
+use Rattle.sheet_format.specs.Layout.{top}
+use Rattle.sheet_format.specs.Check.{sectionsOf}
+use Rattle.sheet_format.specs.Sheet.{Bytes}
+use Rattle.reduction_steps.specs.State.{State, within}
+use Rattle.reduction_steps.specs.Pivot.{release1}
+use Rattle.reports.specs.Reductions.{reduced}
+use Rattle.reports.specs.Report.{freeRank, torsionCount, coordinateList}
+use Rattle.reports.specs.ReportLaws.{coordinates-fit}
+use Rattle.reports.specs.Call.{libraryLimit, hostLimit, entryLimit, orElse, refusalBefore, chainRefusal, coordinateSlots, workSlots, reductionsOf}
+use Rattle.reports.specs.RefusalLaws.{orElse-zero, orElse-le, refusalBefore-le, chainRefusal-le, refusalBefore-zero}
+use Rattle.reports.specs.Host.{coefficientIn, otherLength, chainFrom, slotsIn, hostCoordinates, numberAt}
+use Rattle.answers.specs.Right.{slot}
+use Rattle.answers.specs.Wide.{GoesWide}
+use Rattle.answers.specs.Called.{Answers, KeptPast}
+use Rattle.answer_laws.specs.TwoReductions.{Right}
+use Rattle.answer_laws.specs.ChainChecks.{ChainPasses, chain-passes}
+use Rattle.answer_laws.specs.Numbers.{coordinates-length}
+use Rattle.answer_laws.specs.CoordinatesRight.{ReadsCoordinates}
+use Rattle.answer_laws.specs.Calls.{told, told-answers, ToldDone, told-done, passed-complex, reductionsOf-wide, reductionsOf-right, reductionsOf-within}
+use Rattle.answer_laws.specs.Fits.{coordinates-word}
+use Rattle.answer_laws.specs.HostCalls.{host-number, host-left, host-reads, host-kept}
+
+-- a chain of n coefficients has those that its bytes give
+pub given-coefficient : (n : ℕ) (chain : List ℕ) → length (chainFrom n chain) ≡ n → (i : ℕ) → i < n → slot (chainFrom n chain) i ≡ coefficientIn chain i
+unfolding chainFrom otherLength
+given-coefficient n chain e i l = go (eqb (length chain) (4 * n)) e
+  where
+    from : Bool → List ℤ
+    from t = cond t (tabulate n (λ i. coefficientIn chain i)) (otherLength n)
+
+    other : (m : ℕ) → length (otherLength m) ≡ m → ⊥
+    other zero h = absurd (omega arith)
+    other (suc m) h = absurd (omega arith)
+
+    go : (t : Bool) → length (from t) ≡ n → slot (from t) i ≡ coefficientIn chain i
+    go true h = getD-tabulate n (λ i. coefficientIn chain i) i (pos 0) l
+    go false h = absurd (other n h)
+
+module _ (b : List ℕ) (bytes : Bytes b) (p : ℕ) (chain output : List ℕ) where
+  -- the chain that the bytes give
+  abbrev pub given : List ℤ
+  given = chainFrom (count (sectionsOf b) p) chain
+
+  -- the refusals 1 to 9 of fildwuk_coordinates, which has work slots enough, then 10 to 12
+  abbrev pub hostSheetBefore : ℕ
+  hostSheetBefore = refusalBefore hostLimit b p coordinateSlots (slotsIn output) (workSlots (sectionsOf b) p)
+
+  abbrev pub hostCoordinatesBefore : ℕ
+  hostCoordinatesBefore = orElse hostSheetBefore (chainRefusal b p given)
+
+  abbrev numbers : ℕ → ℕ → State → List ℤ
+  numbers s r x = coordinateList (count (sectionsOf b) p) s x given
+
+  passed : (hostCoordinatesBefore ≡ 0) ↔ ((hostSheetBefore ≡ 0) × (chainRefusal b p given ≡ 0))
+  passed = orElse-zero hostSheetBefore (chainRefusal b p given)
+
+  complex : hostCoordinatesBefore ≡ 0 → Complex top hostLimit (sectionsOf b)
+  complex e = passed-complex hostLimit b p coordinateSlots (slotsIn output) (workSlots (sectionsOf b) p) bytes (passed .0 e .0)
+
+  number : hostCoordinates b p chain output .number ≡ told hostCoordinatesBefore (reductionsOf b p)
+  unfolding hostCoordinates
+  number = host-number numbers output hostCoordinatesBefore (reductionsOf b p)
+
+  pub host-coordinates-answer : Answers hostCoordinatesBefore (GoesWide entryLimit release1 (sectionsOf b) p) (hostCoordinates b p chain output .number)
+  host-coordinates-answer =
+      rw number
+      (told-answers hostCoordinatesBefore (reductionsOf b p)
+      (orElse-le hostSheetBefore (chainRefusal b p given)
+      (le-trans (refusalBefore-le hostLimit b p coordinateSlots (slotsIn output) (workSlots (sectionsOf b) p)) (omega arith)) (chainRefusal-le b p given))
+      (λ e. reductionsOf-wide b p (complex e)))
+
+  pub host-coordinates-left : hostCoordinates b p chain output .number ≢ 0 → hostCoordinates b p chain output .output ≡ output
+  unfolding hostCoordinates
+  host-coordinates-left d = host-left numbers output hostCoordinatesBefore (reductionsOf b p) (rw number at d)
+
+  -- the chain is a cycle, and the two reductions behind its coordinates are right
+  pub record HostCoordinated : Type 0 where
+    pub rows : ℕ
+    pub rank : ℕ
+    pub state : State
+    pub right : Right (sectionsOf b) p rows rank state
+    pub reductions : reductionsOf b p ≡ reduced rows rank state
+    pub chain-passed : ChainPasses b p given
+    pub reads : ReadsCoordinates (sectionsOf b) p rows rank state given (numberAt (hostCoordinates b p chain output .output))
+    pub kept : KeptPast 0 (8 * (torsionCount rank state + freeRank rows rank)) output (hostCoordinates b p chain output .output)
+
+  pub host-coordinated : hostCoordinates b p chain output .number ≡ 0 → HostCoordinated
+  unfolding hostCoordinates
+  host-coordinated e = record {
+    rows = d .rows;
+    rank = d .rank;
+    state = d .state;
+    right = right;
+    reductions = d .reductions;
+    chain-passed = cycle;
+    reads = record {
+      places = λ j l.
+          host-reads numbers output hostCoordinatesBefore (reductionsOf b p) d j (omega (arith, coordinates-length right given))
+          (coordinates-word right small few given (cycle .small) j);
+    };
+    kept = rw (coordinates-length right given) at (host-kept numbers output hostCoordinatesBefore (reductionsOf b p) d fits);
+  }
+    where
+      d : ToldDone hostCoordinatesBefore (reductionsOf b p)
+      d = told-done hostCoordinatesBefore (reductionsOf b p) (sym number ∙ e)
+
+      cycle : ChainPasses b p given
+      cycle = chain-passes b p given (passed .0 (d .passes) .1)
+
+      right : Right (sectionsOf b) p (d .rows) (d .rank) (d .state)
+      right = reductionsOf-right b p (complex (d .passes)) (d .rows) (d .rank) (d .state) (d .reductions)
+
+      small : within entryLimit (d .state) ≡ true
+      small = reductionsOf-within b p (complex (d .passes)) (d .rows) (d .rank) (d .state) (d .reductions)
+
+      few : count (sectionsOf b) p ≤ libraryLimit
+      few = omega (arith, complex (d .passes) .within p)
+
+      fits : 8 * length (numbers (d .rows) (d .rank) (d .state)) ≤ length output
+      fits =
+          omega (
+            arith,
+            coordinates-fit (count (sectionsOf b) p) (d .rows) (d .state) given (right .rows-bound),
+            refusalBefore-zero hostLimit b p coordinateSlots (slotsIn output) (workSlots (sectionsOf b) p) .0 (passed .0 (d .passes) .0) .output-slots,
+          )

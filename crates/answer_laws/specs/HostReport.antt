@@ -1,0 +1,102 @@
+-- fildwuk_report: what it answers (host-report-answers), what it leaves (host-report-left, `kept`), and that the numbers which a caller reads from
+-- its bytes are those of two reductions that are right (host-reported).
+use mathlib.Core.Path.{_≡_, sym, _∙_}
+use mathlib.Core.Logic.{_≢_}
+use mathlib.Core.Bool.{true}
+use mathlib.Core.List.{List}
+use Prim.Native.Nat.{ℕ, _*_, _≤_}
+use native.Mathlib.Nat.{le-trans}
+use native.Mathlib.Omega.{arith}
+use lib.ListN.{length}
+use lib.IntN.{ℤ}
+use Rattle.complexes.specs.Complex.{count, Complex}
+use Rattle.sheet_format.specs.Layout.{top}
+use Rattle.sheet_format.specs.Check.{sectionsOf}
+use Rattle.sheet_format.specs.Sheet.{Bytes}
+use Rattle.reduction_steps.specs.State.{State, within}
+use Rattle.reduction_steps.specs.Pivot.{release1}
+use Rattle.reports.specs.Reductions.{reduced}
+use Rattle.reports.specs.Report.{freeRank, torsionCount, reportList}
+use Rattle.reports.specs.ReportLaws.{report-fits}
+use Rattle.reports.specs.Call.{libraryLimit, hostLimit, entryLimit, refusalBefore, reportSlots, workSlots, reductionsOf}
+use Rattle.reports.specs.RefusalLaws.{refusalBefore-le, refusalBefore-zero}
+use Rattle.reports.specs.Host.{slotsIn, hostReport, numberAt}
+use Rattle.answers.specs.Right.{reportLength}
+use Rattle.answers.specs.Wide.{GoesWide}
+use Rattle.answers.specs.Called.{Answers, KeptPast}
+use Rattle.answer_laws.specs.TwoReductions.{Right}
+use Rattle.answer_laws.specs.Numbers.{report-length}
+use Rattle.answer_laws.specs.ReportRight.{Reads}
+use Rattle.answer_laws.specs.Calls.{told, told-answers, ToldDone, told-done, passed-complex, reductionsOf-wide, reductionsOf-right, reductionsOf-within}
+use Rattle.answer_laws.specs.Fits.{report-word}
+use Rattle.answer_laws.specs.HostCalls.{host-number, host-left, host-reads, host-kept}
+
+module _ (b : List ℕ) (bytes : Bytes b) (p : ℕ) (output : List ℕ) where
+  -- the refusals 1 to 9 of fildwuk_report, which has work slots enough
+  abbrev pub hostReportBefore : ℕ
+  hostReportBefore = refusalBefore hostLimit b p reportSlots (slotsIn output) (workSlots (sectionsOf b) p)
+
+  abbrev numbers : ℕ → ℕ → State → List ℤ
+  numbers s r x = reportList (count (sectionsOf b) p) s r x
+
+  complex : hostReportBefore ≡ 0 → Complex top hostLimit (sectionsOf b)
+  complex = passed-complex hostLimit b p reportSlots (slotsIn output) (workSlots (sectionsOf b) p) bytes
+
+  number : hostReport b p output .number ≡ told hostReportBefore (reductionsOf b p)
+  unfolding hostReport
+  number = host-number numbers output hostReportBefore (reductionsOf b p)
+
+  pub host-report-answers : Answers hostReportBefore (GoesWide entryLimit release1 (sectionsOf b) p) (hostReport b p output .number)
+  host-report-answers =
+      rw number
+      (told-answers hostReportBefore (reductionsOf b p)
+      (le-trans (refusalBefore-le hostLimit b p reportSlots (slotsIn output) (workSlots (sectionsOf b) p)) (omega arith))
+      (λ e. reductionsOf-wide b p (complex e)))
+
+  pub host-report-left : hostReport b p output .number ≢ 0 → hostReport b p output .output ≡ output
+  unfolding hostReport
+  host-report-left d = host-left numbers output hostReportBefore (reductionsOf b p) (rw number at d)
+
+  -- the two reductions behind a report that is done are right
+  pub record HostReported : Type 0 where
+    pub rows : ℕ
+    pub rank : ℕ
+    pub state : State
+    pub right : Right (sectionsOf b) p rows rank state
+    pub reductions : reductionsOf b p ≡ reduced rows rank state
+    pub reads : Reads (sectionsOf b) p rows rank state (numberAt (hostReport b p output .output))
+    pub kept : KeptPast 0 (8 * reportLength (sectionsOf b) p (freeRank rows rank) (torsionCount rank state)) output (hostReport b p output .output)
+
+  pub host-reported : hostReport b p output .number ≡ 0 → HostReported
+  unfolding hostReport
+  host-reported e = record {
+    rows = d .rows;
+    rank = d .rank;
+    state = d .state;
+    right = right;
+    reductions = d .reductions;
+    reads = record {
+      slots = λ i l. host-reads numbers output hostReportBefore (reductionsOf b p) d i (omega (arith, report-length right)) (report-word right small few i);
+    };
+    kept = rw (report-length right) at (host-kept numbers output hostReportBefore (reductionsOf b p) d fits);
+  }
+    where
+      d : ToldDone hostReportBefore (reductionsOf b p)
+      d = told-done hostReportBefore (reductionsOf b p) (sym number ∙ e)
+
+      right : Right (sectionsOf b) p (d .rows) (d .rank) (d .state)
+      right = reductionsOf-right b p (complex (d .passes)) (d .rows) (d .rank) (d .state) (d .reductions)
+
+      small : within entryLimit (d .state) ≡ true
+      small = reductionsOf-within b p (complex (d .passes)) (d .rows) (d .rank) (d .state) (d .reductions)
+
+      few : count (sectionsOf b) p ≤ libraryLimit
+      few = omega (arith, complex (d .passes) .within p)
+
+      fits : 8 * length (numbers (d .rows) (d .rank) (d .state)) ≤ length output
+      fits =
+          omega (
+            arith,
+            report-fits (count (sectionsOf b) p) (d .rows) (d .rank) (d .state) (right .rank-bound) (right .rows-bound),
+            refusalBefore-zero hostLimit b p reportSlots (slotsIn output) (workSlots (sectionsOf b) p) .0 (d .passes) .output-slots,
+          )

@@ -1,0 +1,136 @@
+-- The program's text: for an accepted sheet a text for each dimension, each that of a report that is right or `R 13` (dimensions-printed); for any
+-- other sheet, and for it alone, `R` and the number of its refusal (refused-iff).
+use mathlib.Core.Path.{_≡_, refl, sym, _∙_, ap, subst}
+use mathlib.Core.Logic.{_↔_, _≢_}
+use mathlib.Core.List.{List, [], _∷_, _++_, map, append-assoc, append-nil}
+use Prim.Native.Nat.{ℕ, zero, suc, _+_, _≤_, _<_}
+use native.Mathlib.Nat.{add-zero, zero-add}
+use native.Mathlib.Omega.{arith}
+use borrow.Author.Tests.{lt-ltb}
+use lib.ListN.{length, getD, length-append}
+use lib.IntN.{ℤ, pos}
+use Rattle.complexes.specs.Complex.{Sections, count, Complex}
+use Rattle.sheet_format.specs.Layout.{top}
+use Rattle.sheet_format.specs.Check.{sectionsOf, refusal}
+use Rattle.sheet_format.specs.Sheet.{Bytes}
+use Rattle.sheet_format.specs.Accept.{accepted-complex}
+use Rattle.reduction_steps.specs.State.{State}
+use Rattle.reduction_steps.specs.Pivot.{release1}
+use Rattle.reports.specs.Reductions.{Reductions, tooWide, reduced}
+use Rattle.reports.specs.ReductionsLaws.{tooWide≢reduced}
+use Rattle.reports.specs.Report.{kind, reported, freeRank, torsionCount, reportList, coordinateList}
+use Rattle.reports.specs.ReportLaws.{length-coordinateList}
+use Rattle.reports.specs.RefusalLaws.{refusal-le}
+use Rattle.reports.specs.Call.{hostLimit, entryLimit, reductionsOf}
+use Rattle.reports.specs.Text.{digits, decimal, spaced, line, refusalLine, generatorLines, reportText, dimensionText, dimensionsText, textFor, programText}
+use Rattle.reports.specs.TextLaws.{reportText-reportList}
+use Rattle.answers.specs.Right.{slot}
+use Rattle.answers.specs.Wide.{GoesWide}
+use Rattle.answers.specs.Printed.{DimensionPrinted, too-wide, reports, inTurn, DimensionsPrinted}
+use Rattle.answer_laws.specs.TwoReductions.{Right}
+use Rattle.answer_laws.specs.Numbers.{coordinates-length}
+use Rattle.answer_laws.specs.ReportRight.{report-is-right}
+use Rattle.answer_laws.specs.Calls.{reductionsOf-wide, reductionsOf-right}
+
+-- the text of dimension p
+abbrev textOf : List ℕ → ℕ → List ℕ
+textOf b p = dimensionText p (count (sectionsOf b) p) (reductionsOf b p)
+
+turns : (b : List ℕ) (more p : ℕ) → inTurn (p + more) (textOf b) ≡ inTurn p (textOf b) ++ dimensionsText b more p
+unfolding inTurn dimensionsText
+turns b zero p = ap (λ (k : ℕ). inTurn k (textOf b)) (add-zero p) ∙ sym (append-nil (inTurn p (textOf b)))
+turns b (suc more) p =
+    ap (λ (k : ℕ). inTurn k (textOf b)) next
+    ∙ turns b more (suc p)
+    ∙ append-assoc (inTurn p (textOf b)) (textOf b p) (dimensionsText b more (suc p))
+  where
+    next : p + suc more ≡ suc p + more
+    next = omega arith
+
+turns-all : (b : List ℕ) → inTurn (suc top) (textOf b) ≡ dimensionsText b (suc top) 0
+unfolding inTurn
+turns-all b = ap (λ (k : ℕ). inTurn k (textOf b)) (sym (zero-add (suc top))) ∙ turns b (suc top) 0
+
+-- ---- one dimension
+
+module _ (b : List ℕ) (bytes : Bytes b) (accepted : refusal hostLimit b ≡ 0) where
+  complex : Complex top hostLimit (sectionsOf b)
+  complex = accepted-complex hostLimit b bytes accepted
+
+  module _ (p : ℕ) where
+    abbrev n : ℕ
+    n = count (sectionsOf b) p
+
+    narrow : (s r : ℕ) (x : State) → reductionsOf b p ≡ reduced s r x → GoesWide entryLimit release1 (sectionsOf b) p → ⊥
+    narrow s r x e w = tooWide≢reduced (sym (reductionsOf-wide b p complex .1 w) ∙ e)
+
+    -- the numbers of the report give the text
+    report-text : (s r : ℕ) (x : State) → Right (sectionsOf b) p s r x
+        → dimensionText p n (reduced s r x) ≡ reportText p n (torsionCount r x) (torsionCount r x + freeRank s r) (reportList n s r x)
+    report-text s r x right =
+        sym (reportText-reportList p n s r x [])
+        ∙ ap (λ (l : List ℤ). reportText p n (torsionCount r x) (length (reported (kind x) s)) l) (append-nil (reportList n s r x))
+        ∙ ap (λ (k : ℕ). reportText p n (torsionCount r x) k (reportList n s r x)) (sym (length-coordinateList n s x []) ∙ coordinates-length right [])
+
+    printed : (R : Reductions) → reductionsOf b p ≡ R → DimensionPrinted b p (dimensionText p n R)
+    unfolding dimensionText
+    printed tooWide e = too-wide (reductionsOf-wide b p complex .0 e) refl
+    printed (reduced s r x) e =
+        let right = reductionsOf-right b p complex s r x e in
+        reports (narrow s r x e) (freeRank s r) (torsionCount r x) (reportList n s r x)
+        (report-is-right right (record { slots = λ i l. refl })) (report-text s r x right)
+
+  -- ---- all dimensions
+
+  pub dimensions-printed : DimensionsPrinted b
+  unfolding programText textFor
+  dimensions-printed = record {
+    texts = textOf b;
+    in-turn = ap (λ (k : ℕ). textFor k b) accepted ∙ sym (turns-all b);
+    each = λ p l. printed p (reductionsOf b p) refl;
+  }
+
+-- ---- a refused sheet
+
+-- a number of one digit
+line-small : (k : ℕ) → k < 10 → refusalLine k ≡ 82 ∷ 32 ∷ (48 + k) ∷ 10 ∷ []
+unfolding spaced decimal digits
+line-small k h = rw (lt-ltb k 10 h)
+
+line-injective : (j k : ℕ) → j < 10 → k < 10 → refusalLine j ≡ refusalLine k → j ≡ k
+line-injective j k a b e = omega (arith, ap (λ (l : List ℕ). getD l 2 0) (sym (line-small j a) ∙ e ∙ line-small k b))
+
+-- a dimension's text has a letter and a line feed
+text-long : (p n : ℕ) (R : Reductions) → 2 ≤ length (dimensionText p n R)
+unfolding dimensionText
+text-long p n tooWide = omega (arith, length-append (spaced (pos 13 ∷ [])) (10 ∷ []))
+text-long p n (reduced s r x) =
+    omega (arith, length-append (line 72 heading) (generatorLines n x (reported (kind x) s)), length-append (spaced heading) (10 ∷ []))
+  where
+    heading : List ℤ
+    heading = pos p ∷ pos (freeRank s r) ∷ pos (torsionCount r x) ∷ map (kind x) (reported (kind x) r)
+
+turns-long : (b : List ℕ) (n : ℕ) → n + n ≤ length (inTurn n (textOf b))
+unfolding inTurn
+turns-long b zero = omega arith
+turns-long b (suc n) =
+    omega (arith, turns-long b n, text-long n (count (sectionsOf b) n) (reductionsOf b n), length-append (inTurn n (textOf b)) (textOf b n))
+
+module _ (b : List ℕ) where
+  accepted-other : refusal hostLimit b ≡ 0 → (k : ℕ) → k < 10 → programText b ≢ refusalLine k
+  unfolding programText textFor
+  accepted-other e k h q =
+      absurd (omega (arith, turns-long b (suc top), ap length (turns-all b ∙ sym (ap (λ (i : ℕ). textFor i b) e) ∙ q ∙ line-small k h)))
+
+  refused-text : (k : ℕ) → k ≢ 0 → refusal hostLimit b ≡ k → programText b ≡ refusalLine k
+  unfolding programText textFor
+  refused-text zero d e = absurd (d refl)
+  refused-text (suc k) d e = rw e
+
+  pub refused-iff : (k : ℕ) → k ≢ 0 → k ≤ 7 → (programText b ≡ refusalLine k) ↔ (refusal hostLimit b ≡ k)
+  refused-iff k d h = (λ q. from (refusal hostLimit b) refl q, refused-text k d)
+    where
+      from : (j : ℕ) → refusal hostLimit b ≡ j → programText b ≡ refusalLine k → refusal hostLimit b ≡ k
+      from zero e q = absurd (accepted-other e k (omega arith) q)
+      from (suc j) e q =
+          e ∙ line-injective (suc j) k (omega (arith, e, refusal-le hostLimit b)) (omega arith) (sym (refused-text (suc j) (λ z. absurd (omega arith)) e) ∙ q)

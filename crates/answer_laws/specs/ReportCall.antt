@@ -1,0 +1,93 @@
+-- The laws of `Calls` for the library's report call: what it answers (report-answers), what it leaves (report-left, report-work, report-kept), and
+-- the numbers that stand in its output (report-reads).
+use mathlib.Core.Path.{_≡_, _∙_, ap}
+use mathlib.Core.Logic.{_≢_}
+use mathlib.Core.List.{List}
+use Prim.Native.Nat.{ℕ, _≤_}
+use native.Mathlib.Nat.{le-trans}
+use native.Mathlib.Omega.{arith}
+use lib.ListN.{length, getD}
+use lib.IntN.{ℤ, pos}
+use Rattle.complexes.specs.Complex.{count, Complex}
+use Rattle.sheet_format.specs.Layout.{top}
+use Rattle.sheet_format.specs.Check.{sectionsOf}
+use Rattle.sheet_format.specs.Sheet.{Bytes}
+use Rattle.reduction_steps.specs.State.{State}
+use Rattle.reduction_steps.specs.Pivot.{release1}
+use Rattle.reports.specs.Report.{reportList}
+use Rattle.reports.specs.ReportLaws.{report-fits}
+use Rattle.reports.specs.Call.{Called, done, entryLimit, written, refusalBefore, reportSlots, reductionsOf, reportCall}
+use Rattle.reports.specs.RefusalLaws.{refusalBefore-le, refusalBefore-zero}
+use Rattle.reports.specs.WrittenLaws.{getD-written}
+use Rattle.reports.specs.CallLaws.{ReducedWith, call-output}
+use Rattle.answers.specs.Right.{slot, reportLength}
+use Rattle.answers.specs.Wide.{GoesWide}
+use Rattle.answers.specs.Called.{answerNumber, Answers, KeptPast, WorkLeft}
+use Rattle.answer_laws.specs.Numbers.{report-length}
+use Rattle.answer_laws.specs.ReportRight.{Reads}
+use Rattle.answer_laws.specs.Calls.{told, told-answers, call-number, output-left, output-kept, work-left, passed-complex, reductionsOf-wide, Answered, answered}
+
+module _ (limit : ℕ) (b : List ℕ) (p : ℕ) (report work : List ℤ) where
+  -- the refusals 1 to 9 of the report call
+  abbrev pub reportBefore : ℕ
+  reportBefore = refusalBefore limit b p reportSlots (length report) (length work)
+
+  abbrev pub reportNumbers : ℕ → ℕ → State → List ℤ
+  reportNumbers s r x = reportList (count (sectionsOf b) p) s r x
+
+  abbrev pub reportCalled : Called
+  reportCalled = reportCall limit b p report work
+
+  reportBefore-le : reportBefore ≤ 12
+  reportBefore-le = le-trans (refusalBefore-le limit b p reportSlots (length report) (length work)) (omega arith)
+
+  report-complex : Bytes b → reportBefore ≡ 0 → Complex top limit (sectionsOf b)
+  report-complex bytes = passed-complex limit b p reportSlots (length report) (length work) bytes
+
+  pub report-number : answerNumber (reportCalled .answer) ≡ told reportBefore (reductionsOf b p)
+  unfolding reportCall
+  report-number = call-number reportNumbers report work reportBefore (reductionsOf b p)
+
+  pub report-answers : Bytes b → Answers reportBefore (GoesWide entryLimit release1 (sectionsOf b) p) (answerNumber (reportCalled .answer))
+  report-answers bytes = rw report-number (told-answers reportBefore (reductionsOf b p) reportBefore-le (λ e. reductionsOf-wide b p (report-complex bytes e)))
+
+  pub report-left : answerNumber (reportCalled .answer) ≢ 0 → reportCalled .output ≡ report
+  unfolding reportCall
+  report-left d = output-left reportNumbers report work reportBefore (reductionsOf b p) (rw report-number at d)
+
+  pub report-work : WorkLeft (answerNumber (reportCalled .answer)) work (reportCalled .work)
+  unfolding reportCall
+  report-work = rw report-number (work-left reportNumbers report work reportBefore (reductionsOf b p) reportBefore-le)
+
+  pub report-output : reportBefore ≡ 0 → {f t : ℕ} (c : ReducedWith (reductionsOf b p) f t) → reportCalled .output ≡ written (reportList (count (sectionsOf b) p) (c .rows) (c .rank) (c .state)) report
+  unfolding reportCall
+  report-output e c = call-output reportBefore (reductionsOf b p) reportNumbers report work e (c .rows) (c .rank) (c .state) (c .reductions)
+
+  module _ (bytes : Bytes b) {f t : ℕ} (e : reportCalled .answer ≡ done f t) where
+    pub report-answered : Answered b p reportBefore f t
+    unfolding reportCall
+    report-answered = answered b p reportBefore (report-complex bytes) reportNumbers report work f t e
+
+    abbrev c : ReducedWith (reductionsOf b p) f t
+    c = report-answered .counted
+
+    size : length (reportNumbers (c .rows) (c .rank) (c .state)) ≡ reportLength (sectionsOf b) p f t
+    size = cc (report-length (report-answered .right), c .torsion, c .free)
+
+    pub report-reads : Reads (sectionsOf b) p (c .rows) (c .rank) (c .state) (slot (reportCalled .output))
+    report-reads = record {
+      slots = λ i l.
+          ap (λ (o : List ℤ). getD o i (pos 0)) (report-output (report-answered .passes) c)
+          ∙ getD-written (reportNumbers (c .rows) (c .rank) (c .state)) report (pos 0) i (omega (arith, report-length (report-answered .right)));
+    }
+
+    pub report-kept : KeptPast (pos 0) (reportLength (sectionsOf b) p f t) report (reportCalled .output)
+    unfolding reportCall
+    report-kept =
+        output-kept reportNumbers report work reportBefore (reductionsOf b p) (report-answered .passes) c (reportLength (sectionsOf b) p f t) size (le-trans fits slots)
+      where
+        fits : reportLength (sectionsOf b) p f t ≤ reportSlots (sectionsOf b) p
+        fits = rw size at (report-fits (count (sectionsOf b) p) (c .rows) (c .rank) (c .state) (report-answered .right .rank-bound) (report-answered .right .rows-bound))
+
+        slots : reportSlots (sectionsOf b) p ≤ length report
+        slots = refusalBefore-zero limit b p reportSlots (length report) (length work) .0 (report-answered .passes) .output-slots
