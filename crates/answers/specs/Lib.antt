@@ -1,7 +1,25 @@
--- What it means that an answer is right, for any complex: the owner's demands are stated in these words.
--- `Homology`: cycles, boundaries and the group. `Right`: a report. `Wide`: the reduction goes too wide. `Called`: what a call answers and leaves. `Printed`: the program's text.
+-- What it means that an answer is right, for any complex: the owner's demands are stated in these words. Definitions: `Homology`, cycles,
+-- boundaries and the group; `Right`, a report; `Wide`, the reduction goes too wide; `Called`, what a call answers and leaves; `Printed`, the
+-- program's text. The other files prove it of what the two reductions of an accepted sheet, the calls and the program come to.
 pub mod Homology
 pub mod Right
 pub mod Wide
 pub mod Called
 pub mod Printed
+pub mod ReportedPlaces
+pub mod Starts
+pub mod TwoReductions
+pub mod WideLaws
+pub mod ChainChecks
+pub mod Numbers
+pub mod ReportRight
+pub mod CoordinatesRight
+pub mod Calls
+pub mod ReportCall
+pub mod CoordinateCall
+pub mod HostSizes
+pub mod Fits
+pub mod HostCalls
+pub mod HostReport
+pub mod HostCoordinates
+pub mod ProgramText

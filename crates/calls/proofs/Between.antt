@@ -20,7 +20,7 @@ use Rattle.reduction_laws.specs.Tables.{entry-table, table-ext, tableWithin-tab
 use Rattle.reduction_laws.specs.Shape.{Shaped}
 use Rattle.reports.specs.Reductions.{firstSizes, secondSizes, secondStart, product}
 use Rattle.reports.specs.Call.{workSlots, entryLimit}
-use Rattle.answer_laws.specs.Starts.{second-shaped, entry-drop}
+use Rattle.answers.specs.Starts.{second-shaped, entry-drop}
 use Rattle.lines.specs.Slice.{lineAt}
 use Rattle.lines.specs.Matrices.{contents, Holds, Exceeds}
 use Rattle.lines.specs.declared.matrix.Matrix.{Matrix}

@@ -24,7 +24,7 @@ use Rattle.reports.specs.Reductions as reports
 use Rattle.reports.specs.Reductions.{firstSizes, firstStart, secondSizes, secondStart, product, afterSecond}
 use Rattle.reports.specs.ReductionsLaws.{first-wide, product-wide, after-second, second-wide}
 use Rattle.reports.specs.Call.{workSlots, entryLimit, libraryLimit, reductionsOf}
-use Rattle.answer_laws.specs.TwoReductions.{first-reduced, reductions-right}
+use Rattle.answers.specs.TwoReductions.{first-reduced, reductions-right}
 use Rattle.lines.specs.Matrices.{contents, Held, Holds, Exceeds, Became}
 use Rattle.lines.specs.declared.matrix.Matrix.{Matrix}
 use Rattle.lines.specs.declared.line.Effect.{Effect}

@@ -14,7 +14,7 @@ use Rattle.complexes.specs.Complex.{Sections, count}
 use Rattle.sheet_format.specs.Layout.{top}
 use Rattle.sheet_format.specs.Check.{sectionsOf, refuse, refusal}
 use Rattle.reports.specs.Call.{workSlots, orElse, refusalBefore, chainRefusal, coefficientExceeds, boundaryNotZero, coefficientLimit}
-use Rattle.answer_laws.specs.ChainChecks.{chain-passes, not-a-cycle-iff}
+use Rattle.answers.specs.ChainChecks.{chain-passes, not-a-cycle-iff}
 use Rattle.refusal.specs.Number.{numberOf}
 use Rattle.refusal.specs.declared.Refusal.{Refusal}
 use Rattle.refusal.specs.declared.Refusal.the-variants.{SheetTooShort, CountExceedsLimit, OffsetDiffers, LengthDiffers, VerticesDoNotRise, CellsDoNotRise, FaceMissing, DimensionExceedsTop, SliceTooShort, ChainLengthDiffers, CoefficientExceedsLimit, BoundaryNotZero, TooWide}

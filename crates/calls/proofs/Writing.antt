@@ -13,7 +13,7 @@ use Rattle.sheet_format.specs.Check.{sectionsOf}
 use Rattle.reduction_steps.specs.Pivot.{release1}
 use Rattle.reduction_steps.specs.PivotLaws.{release1-is-rule}
 use Rattle.reports.specs.Call.{workSlots, reportSlots, entryLimit, coefficientLimit, libraryLimit, reductionsOf}
-use Rattle.answer_laws.specs.TwoReductions.{Right, reductions-right}
+use Rattle.answers.specs.TwoReductions.{Right, reductions-right}
 use Rattle.lines.specs.Slice.{at}
 use Rattle.operations.specs.Laid.{Laid, stateOf}
 use Rattle.writers.specs.Written.{Kinds, CanReport, CanCoordinate}

@@ -18,15 +18,15 @@ use Rattle.reports.specs.Call.{reductionsOf, reportCall}
 use Rattle.reports.specs.Host.{chainFrom}
 use Rattle.answers.specs.Homology.{IsCycle, IsBoundary}
 use Rattle.answers.specs.Right.{slot, generatorIn, IsRight, HasCounts}
-use Rattle.answer_laws.specs.TwoReductions.{Right}
-use Rattle.answer_laws.specs.ChainChecks.{not-a-cycle-iff}
-use Rattle.answer_laws.specs.ReportRight.{Reads, report-is-right, has-counts, counts-unique}
-use Rattle.answer_laws.specs.CoordinatesRight.{ReadsCoordinates, coordinates-decide, coordinates-combine}
-use Rattle.answer_laws.specs.ReportCall.{report-answers, report-left, report-work, report-kept, report-answered, report-reads}
-use Rattle.answer_laws.specs.CoordinateCall.{coordinates-answer, coordinates-left, coordinates-work, coordinates-kept, coordinates-answered, coordinates-read, chain-cycle}
-use Rattle.answer_laws.specs.HostReport.{host-report-answers, host-report-left, host-reported}
-use Rattle.answer_laws.specs.HostCoordinates.{host-coordinates-answer, host-coordinates-left, host-coordinated, given-coefficient}
-use Rattle.answer_laws.specs.ProgramText.{refused-iff, dimensions-printed}
+use Rattle.answers.specs.TwoReductions.{Right}
+use Rattle.answers.specs.ChainChecks.{not-a-cycle-iff}
+use Rattle.answers.specs.ReportRight.{Reads, report-is-right, has-counts, counts-unique}
+use Rattle.answers.specs.CoordinatesRight.{ReadsCoordinates, coordinates-decide, coordinates-combine}
+use Rattle.answers.specs.ReportCall.{report-answers, report-left, report-work, report-kept, report-answered, report-reads}
+use Rattle.answers.specs.CoordinateCall.{coordinates-answer, coordinates-left, coordinates-work, coordinates-kept, coordinates-answered, coordinates-read, chain-cycle}
+use Rattle.answers.specs.HostReport.{host-report-answers, host-report-left, host-reported}
+use Rattle.answers.specs.HostCoordinates.{host-coordinates-answer, host-coordinates-left, host-coordinated, given-coefficient}
+use Rattle.answers.specs.ProgramText.{refused-iff, dimensions-printed}
 use Rattle.demands.specs.Claims.{ReportNumbers, CoordinateNumbers, NotACycle, ReportLeaves, CoordinatesLeave, Acceptance, Reports, CoordinateCounts, SameCounts}
 use Rattle.demands.specs.Claims.{CoordinatesOf, ReportOf, CoordinatesDecide, CoordinatesCombine}
 use Rattle.demands.specs.Claims.{HostReportNumbers, HostCoordinateNumbers, HostReportLeft, HostCoordinatesLeft, HostReports, HostCoordinateCounts}

@@ -16,7 +16,7 @@ use Rattle.refusal.specs.Number.{numberOf}
 use Rattle.reports.specs.Call.{hostLimit, reportCall, coordinateCall}
 use Rattle.reports.specs.Host.{HostCalled, numbersBytes, chainFrom, slotsIn, hostReport, hostCoordinates}
 use Rattle.reports.specs.HostCallLaws.{HostRefused, HostDone, reportRoom, coordinateRoom, workRoom, report-refused, report-done, coordinates-refused, coordinates-done}
-use Rattle.answer_laws.specs.HostSizes.{ReportSized, CoordinatesSized, report-sized, coordinates-sized}
+use Rattle.answers.specs.HostSizes.{ReportSized, CoordinatesSized, report-sized, coordinates-sized}
 use Rattle.writers.specs.declared.reduced.Counts.{Counts}
 use Rattle.calls.specs.declared.answer.Answer.the-variants.{Done, Refused}
 use Rattle.calls.specs.Answer.{CallAnswers}

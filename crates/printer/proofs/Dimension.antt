@@ -20,8 +20,8 @@ use Rattle.reports.specs.CallLaws.{ReducedWith}
 use Rattle.reports.specs.HostCallLaws.{reportRoom, workRoom}
 use Rattle.reports.specs.Text.{refusalLine, dimensionText, reportText}
 use Rattle.reports.specs.TextLaws.{reportText-reportList}
-use Rattle.answer_laws.specs.ReportCall.{report-output}
-use Rattle.answer_laws.specs.HostSizes.{Sized, ReportSized, WentWide, report-sized, accepted-passes, accepted-refused}
+use Rattle.answers.specs.ReportCall.{report-output}
+use Rattle.answers.specs.HostSizes.{Sized, ReportSized, WentWide, report-sized, accepted-passes, accepted-refused}
 use Rattle.text.specs.Put.{PutsWithin}
 use Rattle.text.specs.PutLaws.{within-more}
 use Rattle.writers.specs.declared.reduced.Counts.{Counts}

@@ -13,7 +13,7 @@ use Rattle.sheet_format.specs.Sheet.{Bytes}
 use Rattle.reports.specs.Call.{hostLimit, coordinateCall}
 use Rattle.reports.specs.Host.{slotsIn}
 use Rattle.reports.specs.HostCallLaws.{coordinateRoom, workRoom}
-use Rattle.answer_laws.specs.HostSizes.{CoordinatesSized}
+use Rattle.answers.specs.HostSizes.{CoordinatesSized}
 use Rattle.writers.specs.declared.reduced.Counts.{Counts}
 use Rattle.calls.specs.declared.answer.Answer.{Answer}
 use Rattle.calls.specs.declared.answer.Answer.the-variants.{Done, Refused}

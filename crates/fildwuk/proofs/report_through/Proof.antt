@@ -12,7 +12,7 @@ use Rattle.sheet_format.specs.Sheet.{Bytes}
 use Rattle.reports.specs.Call.{hostLimit, reportCall}
 use Rattle.reports.specs.Host.{slotsIn}
 use Rattle.reports.specs.HostCallLaws.{reportRoom, workRoom}
-use Rattle.answer_laws.specs.HostSizes.{ReportSized}
+use Rattle.answers.specs.HostSizes.{ReportSized}
 use Rattle.writers.specs.declared.reduced.Counts.{Counts}
 use Rattle.calls.specs.declared.answer.Answer.{Answer}
 use Rattle.calls.specs.declared.answer.Answer.the-variants.{Done, Refused}

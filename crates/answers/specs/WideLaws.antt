@@ -14,9 +14,9 @@ use Rattle.reduction_laws.specs.Shape.{Shaped}
 use Rattle.reduction_laws.specs.SmithForm.{Reduced}
 use Rattle.reports.specs.Reductions.{reductions, tooWide, reduced, firstSizes, firstStart, secondSizes, secondStart, product, afterSecond}
 use Rattle.reports.specs.ReductionsLaws.{after-second, first-wide, product-wide, second-wide, tooWide≢reduced}
 use Rattle.answers.specs.Wide.{FirstReaches, SecondReaches, GoesWide, in-first, in-product, in-second}
-use Rattle.answer_laws.specs.Starts.{first-shaped, first-within, second-shaped, second-within}
-use Rattle.answer_laws.specs.TwoReductions.{first-reduced}
+use Rattle.answers.specs.Starts.{first-shaped, first-within, second-shaped, second-within}
+use Rattle.answers.specs.TwoReductions.{first-reduced}
 
 module _ (limit : ℕ) (rule : Rule) where
   -- the reduction leads from its start to its outcome

@@ -23,10 +23,10 @@ use Rattle.reduction_steps.specs.Table.{entry}
 use Rattle.reduction_steps.specs.State.{State}
 use Rattle.reports.specs.Report.{kind, freeRank, torsionCount, reportList}
 use Rattle.reports.specs.ReportLaws.{getD-report-free, getD-report-torsion}
 use Rattle.answers.specs.Homology.{Presents}
 use Rattle.answers.specs.Right.{slot, orderIn, generatorIn, IsRight, HasCounts, reportLength}
-use Rattle.answer_laws.specs.TwoReductions.{Right}
-use Rattle.answer_laws.specs.Numbers.{ones, is-ones, ones-bound, torsion-is, total, report-order, report-generator}
+use Rattle.answers.specs.TwoReductions.{Right}
+use Rattle.answers.specs.Numbers.{ones, is-ones, ones-bound, torsion-is, total, report-order, report-generator}
 
 -- slot i of generator j lies within k generators of n coefficients
 slot-below : (j k i n : ℕ) → j < k → i < n → j * n + i < k * n

@@ -19,10 +19,10 @@ use Rattle.reports.specs.Call.{done, refused, hostLimit, reportSlots, coordinat
 use Rattle.reports.specs.RefusalLaws.{Passed, refusalBefore-zero}
 use Rattle.reports.specs.CallLaws.{ReducedWith, CallRefused, earlier, wide, call-refused}
 use Rattle.reports.specs.HostCallLaws.{reportRoom, workRoom, counts-within}
-use Rattle.answer_laws.specs.Numbers.{report-length, coordinates-length}
-use Rattle.answer_laws.specs.Calls.{Answered}
-use Rattle.answer_laws.specs.ReportCall.{reportBefore, reportNumbers, report-answered}
-use Rattle.answer_laws.specs.CoordinateCall.{sheetBefore, coordinatesBefore, coordinates-passed, coordinates-answered}
+use Rattle.answers.specs.Numbers.{report-length, coordinates-length}
+use Rattle.answers.specs.Calls.{Answered}
+use Rattle.answers.specs.ReportCall.{reportBefore, reportNumbers, report-answered}
+use Rattle.answers.specs.CoordinateCall.{sheetBefore, coordinatesBefore, coordinates-passed, coordinates-answered}
 
 -- the numbers of a report, with f free generators and t orders
 abbrev pub reportNumbersOf : List ℕ → ℕ → ℕ → ℕ → ℕ

@@ -20,12 +20,12 @@ use Rattle.reports.specs.Call.{Called, done, entryLimit, written, refusalBefore
 use Rattle.reports.specs.RefusalLaws.{refusalBefore-le, refusalBefore-zero}
 use Rattle.reports.specs.WrittenLaws.{getD-written}
 use Rattle.reports.specs.CallLaws.{ReducedWith, call-output}
 use Rattle.answers.specs.Right.{slot, reportLength}
 use Rattle.answers.specs.Wide.{GoesWide}
 use Rattle.answers.specs.Called.{answerNumber, Answers, KeptPast, WorkLeft}
-use Rattle.answer_laws.specs.Numbers.{report-length}
-use Rattle.answer_laws.specs.ReportRight.{Reads}
-use Rattle.answer_laws.specs.Calls.{told, told-answers, call-number, output-left, output-kept, work-left, passed-complex, reductionsOf-wide, Answered, answered}
+use Rattle.answers.specs.Numbers.{report-length}
+use Rattle.answers.specs.ReportRight.{Reads}
+use Rattle.answers.specs.Calls.{told, told-answers, call-number, output-left, output-kept, work-left, passed-complex, reductionsOf-wide, Answered, answered}
 
 module _ (limit : ℕ) (b : List ℕ) (p : ℕ) (report work : List ℤ) where
   -- the refusals 1 to 9 of the report call

@@ -13,9 +13,9 @@ use Rattle.reports.specs.WrittenLaws.{length-written, getD-written-past}
 use Rattle.reports.specs.Host.{numbersBytes, finishedWith, numberAt}
 use Rattle.reports.specs.HostLaws.{Word, length-numbersBytes, numberAt-numbersBytes}
 use Rattle.reports.specs.HostCallLaws.{hostCall}
 use Rattle.answers.specs.Right.{slot}
 use Rattle.answers.specs.Called.{KeptPast}
-use Rattle.answer_laws.specs.Calls.{told, ToldDone}
+use Rattle.answers.specs.Calls.{told, ToldDone}
 
 module _ (numbers : ℕ → ℕ → State → List ℤ) (output : List ℕ) where
   pub host-number : (before : ℕ) (R : Reductions) → hostCall before R numbers output .number ≡ told before R

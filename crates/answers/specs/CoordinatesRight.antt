@@ -17,11 +17,11 @@ use Rattle.complexes.specs.Complex.{Sections, count}
 use Rattle.reduction_steps.specs.Table.{entry}
 use Rattle.reduction_steps.specs.State.{State}
 use Rattle.reports.specs.Report.{kind, freeRank, torsionCount, coordinateList}
 use Rattle.answers.specs.Homology.{IsCycle, IsBoundary}
 use Rattle.answers.specs.Right.{slot, generatorIn}
-use Rattle.answer_laws.specs.TwoReductions.{Right}
-use Rattle.answer_laws.specs.Numbers.{ones, is-ones, total, coordinate-is}
-use Rattle.answer_laws.specs.ReportRight.{Reads, reads-generator}
+use Rattle.answers.specs.TwoReductions.{Right}
+use Rattle.answers.specs.Numbers.{ones, is-ones, total, coordinate-is}
+use Rattle.answers.specs.ReportRight.{Reads, reads-generator}
 
 -- the numbers from place 0 on are the coordinates of z that s rows of Q, rank r and the state x give
 pub record ReadsCoordinates (K : Sections) (p s r : ℕ) (x : State) (z : List ℤ) (coordinates : ℕ → ℤ) : Type 0 where

@@ -23,8 +23,8 @@ use Rattle.reports.specs.Report.{kind, reported, columnsOf, freeRank, torsionCo
 use Rattle.reports.specs.ReportLaws.{length-reported-le}
 use Rattle.reports.specs.Call.{libraryLimit, entryLimit, coefficientLimit}
 use Rattle.reports.specs.HostLaws.{Word}
 use Rattle.answers.specs.Right.{slot}
-use Rattle.answer_laws.specs.TwoReductions.{Right}
+use Rattle.answers.specs.TwoReductions.{Right}
 
 -- ---- lists of small numbers
 

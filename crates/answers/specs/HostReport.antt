@@ -21,15 +21,15 @@ use Rattle.reports.specs.ReportLaws.{report-fits}
 use Rattle.reports.specs.Call.{libraryLimit, hostLimit, entryLimit, refusalBefore, reportSlots, workSlots, reductionsOf}
 use Rattle.reports.specs.RefusalLaws.{refusalBefore-le, refusalBefore-zero}
 use Rattle.reports.specs.Host.{slotsIn, hostReport, numberAt}
 use Rattle.answers.specs.Right.{reportLength}
 use Rattle.answers.specs.Wide.{GoesWide}
 use Rattle.answers.specs.Called.{Answers, KeptPast}
-use Rattle.answer_laws.specs.TwoReductions.{Right}
-use Rattle.answer_laws.specs.Numbers.{report-length}
-use Rattle.answer_laws.specs.ReportRight.{Reads}
-use Rattle.answer_laws.specs.Calls.{told, told-answers, ToldDone, told-done, passed-complex, reductionsOf-wide, reductionsOf-right, reductionsOf-within}
-use Rattle.answer_laws.specs.Fits.{report-word}
-use Rattle.answer_laws.specs.HostCalls.{host-number, host-left, host-reads, host-kept}
+use Rattle.answers.specs.TwoReductions.{Right}
+use Rattle.answers.specs.Numbers.{report-length}
+use Rattle.answers.specs.ReportRight.{Reads}
+use Rattle.answers.specs.Calls.{told, told-answers, ToldDone, told-done, passed-complex, reductionsOf-wide, reductionsOf-right, reductionsOf-within}
+use Rattle.answers.specs.Fits.{report-word}
+use Rattle.answers.specs.HostCalls.{host-number, host-left, host-reads, host-kept}
 
 module _ (b : List ℕ) (bytes : Bytes b) (p : ℕ) (output : List ℕ) where
   -- the refusals 1 to 9 of fildwuk_report, which has work slots enough

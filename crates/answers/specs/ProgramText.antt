@@ -24,13 +24,13 @@ use Rattle.reports.specs.RefusalLaws.{refusal-le}
 use Rattle.reports.specs.Call.{hostLimit, entryLimit, reductionsOf}
 use Rattle.reports.specs.Text.{digits, decimal, spaced, line, refusalLine, generatorLines, reportText, dimensionText, dimensionsText, textFor, programText}
 use Rattle.reports.specs.TextLaws.{reportText-reportList}
 use Rattle.answers.specs.Right.{slot}
 use Rattle.answers.specs.Wide.{GoesWide}
 use Rattle.answers.specs.Printed.{DimensionPrinted, too-wide, reports, inTurn, DimensionsPrinted}
-use Rattle.answer_laws.specs.TwoReductions.{Right}
-use Rattle.answer_laws.specs.Numbers.{coordinates-length}
-use Rattle.answer_laws.specs.ReportRight.{report-is-right}
-use Rattle.answer_laws.specs.Calls.{reductionsOf-wide, reductionsOf-right}
+use Rattle.answers.specs.TwoReductions.{Right}
+use Rattle.answers.specs.Numbers.{coordinates-length}
+use Rattle.answers.specs.ReportRight.{report-is-right}
+use Rattle.answers.specs.Calls.{reductionsOf-wide, reductionsOf-right}
 
 -- the text of dimension p
 abbrev textOf : List ℕ → ℕ → List ℕ

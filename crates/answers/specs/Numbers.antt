@@ -13,9 +13,9 @@ use Rattle.reduction_steps.specs.Table.{entry}
 use Rattle.reduction_steps.specs.State.{State}
 use Rattle.reports.specs.Report.{kind, freeRank, torsionCount, reportList, coordinateAt, coordinateList}
 use Rattle.reports.specs.ReportLaws.{length-reportList, getD-report-order, getD-report-generator, length-coordinateList, getD-coordinateList}
 use Rattle.answers.specs.Right.{slot}
-use Rattle.answer_laws.specs.ReportedPlaces.{Places, reported-places}
-use Rattle.answer_laws.specs.TwoReductions.{Right}
+use Rattle.answers.specs.ReportedPlaces.{Places, reported-places}
+use Rattle.answers.specs.TwoReductions.{Right}
 
 module _ {K : Sections} {p s r : ℕ} {x : State} (R : Right K p s r x) where
   ones-of : Ones s (kind x)

@@ -23,10 +23,10 @@ use Rattle.reports.specs.Call.{done, entryLimit, written, finished, refusalBefo
 use Rattle.reports.specs.CallLaws.{call, ReducedWith, call-done, call-output}
 use Rattle.reports.specs.WrittenLaws.{length-written, getD-written-past}
 use Rattle.reports.specs.RefusalLaws.{refusalBefore-zero}
 use Rattle.answers.specs.Wide.{GoesWide}
 use Rattle.answers.specs.Called.{answerNumber, Answers, KeptPast, WorkLeft}
-use Rattle.answer_laws.specs.TwoReductions.{Right, reductions-right, reductions-within}
-use Rattle.answer_laws.specs.WideLaws.{wide-iff}
+use Rattle.answers.specs.TwoReductions.{Right, reductions-right, reductions-within}
+use Rattle.answers.specs.WideLaws.{wide-iff}
 
 -- ---- the number
 

@@ -24,16 +24,16 @@ use Rattle.reports.specs.ReportLaws.{coordinates-fit}
 use Rattle.reports.specs.Call.{libraryLimit, hostLimit, entryLimit, orElse, refusalBefore, chainRefusal, coordinateSlots, workSlots, reductionsOf}
 use Rattle.reports.specs.RefusalLaws.{orElse-zero, orElse-le, refusalBefore-le, chainRefusal-le, refusalBefore-zero}
 use Rattle.reports.specs.Host.{coefficientIn, otherLength, chainFrom, slotsIn, hostCoordinates, numberAt}
 use Rattle.answers.specs.Right.{slot}
 use Rattle.answers.specs.Wide.{GoesWide}
 use Rattle.answers.specs.Called.{Answers, KeptPast}
-use Rattle.answer_laws.specs.TwoReductions.{Right}
-use Rattle.answer_laws.specs.ChainChecks.{ChainPasses, chain-passes}
-use Rattle.answer_laws.specs.Numbers.{coordinates-length}
-use Rattle.answer_laws.specs.CoordinatesRight.{ReadsCoordinates}
-use Rattle.answer_laws.specs.Calls.{told, told-answers, ToldDone, told-done, passed-complex, reductionsOf-wide, reductionsOf-right, reductionsOf-within}
-use Rattle.answer_laws.specs.Fits.{coordinates-word}
-use Rattle.answer_laws.specs.HostCalls.{host-number, host-left, host-reads, host-kept}
+use Rattle.answers.specs.TwoReductions.{Right}
+use Rattle.answers.specs.ChainChecks.{ChainPasses, chain-passes}
+use Rattle.answers.specs.Numbers.{coordinates-length}
+use Rattle.answers.specs.CoordinatesRight.{ReadsCoordinates}
+use Rattle.answers.specs.Calls.{told, told-answers, ToldDone, told-done, passed-complex, reductionsOf-wide, reductionsOf-right, reductionsOf-within}
+use Rattle.answers.specs.Fits.{coordinates-word}
+use Rattle.answers.specs.HostCalls.{host-number, host-left, host-reads, host-kept}
 
 -- a chain of n coefficients has those that its bytes give
 pub given-coefficient : (n : ℕ) (chain : List ℕ) → length (chainFrom n chain) ≡ n → (i : ℕ) → i < n → slot (chainFrom n chain) i ≡ coefficientIn chain i

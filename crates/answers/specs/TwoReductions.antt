@@ -25,7 +25,7 @@ use Rattle.reduction_laws.specs.SmithForm.{reduce-smith}
 use Rattle.reports.specs.Reductions.{firstSizes, firstStart, secondSizes, secondStart, product, reduced, reductions}
 use Rattle.reports.specs.ReductionsLaws.{BothDone, reductions-done}
 use Rattle.reports.specs.Report.{kind}
-use Rattle.answer_laws.specs.Starts.{first-shaped, first-within, second-shaped, second-within, entry-drop}
+use Rattle.answers.specs.Starts.{first-shaped, first-within, second-shaped, second-within, entry-drop}
 
 -- s rows of Q, rank r and the state x are right for dimension p of K
 pub record Right (K : Sections) (p s r : ℕ) (x : State) : Type 0 where

@@ -20,14 +20,14 @@ use Rattle.reports.specs.Call.{Called, done, entryLimit, written, orElse, refus
 use Rattle.reports.specs.RefusalLaws.{orElse-zero, orElse-le, refusalBefore-le, chainRefusal-le, refusalBefore-zero}
 use Rattle.reports.specs.WrittenLaws.{getD-written}
 use Rattle.reports.specs.CallLaws.{ReducedWith, call-output}
 use Rattle.answers.specs.Homology.{IsCycle}
 use Rattle.answers.specs.Right.{slot}
 use Rattle.answers.specs.Wide.{GoesWide}
 use Rattle.answers.specs.Called.{answerNumber, Answers, KeptPast, WorkLeft}
-use Rattle.answer_laws.specs.ChainChecks.{chain-passes}
-use Rattle.answer_laws.specs.Numbers.{coordinates-length}
-use Rattle.answer_laws.specs.CoordinatesRight.{ReadsCoordinates}
-use Rattle.answer_laws.specs.Calls.{told, told-answers, call-number, output-left, output-kept, work-left, passed-complex, reductionsOf-wide, Answered, answered}
+use Rattle.answers.specs.ChainChecks.{chain-passes}
+use Rattle.answers.specs.Numbers.{coordinates-length}
+use Rattle.answers.specs.CoordinatesRight.{ReadsCoordinates}
+use Rattle.answers.specs.Calls.{told, told-answers, call-number, output-left, output-kept, work-left, passed-complex, reductionsOf-wide, Answered, answered}
 
 module _ (limit : ℕ) (b : List ℕ) (p : ℕ) (z coordinates work : List ℤ) where
   -- the refusals 1 to 9 of the coordinate call, then 10 to 12
