@@ -101,6 +101,33 @@ def steps():
     ]
 
 
+def neighbours(pivots):
+    """Neighbouring Fibonacci numbers, the larger first, for which a stage tries so many pivots."""
+    small, large = 1, 2
+    for _ in range(pivots - 1):
+        small, large = large, small + large
+    return large, small
+
+
+def returns():
+    """Matrices with many returns to step a within a stage, some near 8, 16 and 24 pivots."""
+    a, b = neighbours(28)
+    mixed = [[35, 83, -66, -69], [-61, -12, -43, -18], [-9, 51, 57, -31]]
+    cases = [case(f"{n} pivots in a stage", [list(neighbours(n))])
+             for n in (7, 8, 9, 16, 17, 24, 25)]
+    return cases + [
+        case("27 returns from d in a stage", [[a, b]]),
+        case("27 returns from c in a stage", [[a], [b]]),
+        case("27 returns in a stage, no companions", [[b, a]], companions=0),
+        case("26 returns in a stage, negative entries", [[-b, a, 0], [0, 0, 0]]),
+        case("27 returns from d in each of two stages", [[a, b, 0, 0], [0, 0, a, b]]),
+        case("27 returns from c in each of two stages", [[a, 0], [b, 0], [0, a], [0, b]]),
+        case("13 returns in a stage, the first after e", [[987, 0], [0, 610]]),
+        case("18 returns in a stage, three rows", mixed, companions=0),
+        case("too wide after 14 returns", [[1597, 0], [0, 987]]),
+    ]
+
+
 def limits():
     """Matrices that reach the limit of 01 exactly, and that pass it by one."""
     top = ENTRY_LIMIT
@@ -136,7 +163,7 @@ def briefly_wide(limit):
 
 def named():
     """The named cases at the entry limit of 01."""
-    return (shapes() + steps() + limits() + companion_cases(WIDE_AT_LIMIT, ENTRY_LIMIT)
+    return (shapes() + steps() + returns() + limits() + companion_cases(WIDE_AT_LIMIT, ENTRY_LIMIT)
             + briefly_wide(ENTRY_LIMIT))
 
 

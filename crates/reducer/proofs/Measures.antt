@@ -1,7 +1,7 @@
--- The measures of the cycle of a stage. choiceMeasure: 4 times the absolute value of the entry that the rule chooses, plus 3. rowMeasure: 4 times
--- the pivot, plus 2. columnMeasure: 4 times the pivot, plus 1 where the pivot divides all of row k. A callee's measure is below its caller's:
--- chosen-falls, choice-below-row, column-below-row, choice-below-column, column-after-add.
-use mathlib.Core.Path.{_≡_, refl, sym, ap, subst}
+-- The measures of the cycle of a stage: 4 times the rounds left, plus the calls that the round under way may still make before it ends or returns to
+-- the choice. For the choice that is 0, for the row pass 3, for the column pass `columnCalls`, which step e lowers: calls-fall. The pivot's fall, by
+-- which a stage ends: chosen-at, smaller-chosen.
+use mathlib.Core.Path.{_≡_, refl, sym, subst}
 use Prim.Native.Nat.{ℕ, suc, _+_, _-_, _*_, _≤_, _<_}
 use native.Mathlib.Nat as Nat
 use native.Mathlib.Omega.{arith}
@@ -13,91 +13,91 @@ use Rattle.reduction_steps.specs.PivotLaws.{release1-is-rule}
 use Rattle.reduction_steps.specs.Step.{Row, noRow, row, firstIndivisible}
 use Rattle.reduction_laws.specs.Scans.{Indivisible, firstIndivisible-none, firstIndivisible-row}
 use Rattle.reduction_laws.specs.Letters.{Smaller}
+use Rattle.reducer.specs.Answer.{sizeAt}
 
--- the absolute value of the entry chosen, 0 where there is none
-sizeAt : Matrix → Choice → ℕ
-sizeAt A none = 0
-sizeAt A (place i j) = natAbs (A i j)
+-- ---- the calls of a round
 
--- 1 where the search found no entry that the pivot does not divide
-divided : Row → ℕ
-divided noRow = 1
-divided (row i) = 0
+-- 2 where the search found no entry that the pivot does not divide: step e may add a row
+callsAfter : Row → ℕ
+callsAfter noRow = 2
+callsAfter (row i) = 1
 
-divided-le : (r : Row) → divided r ≤ 1
-unfolding divided
-divided-le noRow = Nat.le-refl 1
-divided-le (row i) = omega arith
-
-module _ (m n k : ℕ) (A : Matrix) where
+module _ (n k : ℕ) (A : Matrix) where
   -- whether the pivot divides row k right of it
   rowSearch : Row
   rowSearch = firstIndivisible A (A k k) (suc k) (n - suc k) 1 k
 
-  pub choiceMeasure : ℕ
-  choiceMeasure = 4 * sizeAt A (release1 m n k A) + 3
+  -- the calls of the column pass at A, its own among them
+  pub columnCalls : ℕ
+  columnCalls = callsAfter rowSearch
 
-  pub rowMeasure : ℕ
-  rowMeasure = 4 * natAbs (A k k) + 2
+abbrev pub choiceMeasure : ℕ → ℕ
+choiceMeasure rounds = 4 * rounds
 
-  pub columnMeasure : ℕ
-  columnMeasure = 4 * natAbs (A k k) + divided rowSearch
+abbrev pub rowMeasure : ℕ → ℕ
+rowMeasure rounds = 4 * rounds + 3
 
-module _ (m n k : ℕ) (A : Matrix) where
-  -- from the choice to the row pass: the pivot of B is the entry chosen in A
-  pub chosen-falls : (i j : ℕ) (B : Matrix) → release1 m n k A ≡ place i j → natAbs (B k k) ≡ natAbs (A i j) → rowMeasure m n k B < choiceMeasure m n k A
-  unfolding choiceMeasure rowMeasure sizeAt
-  chosen-falls i j B e s = rw e (omega arith)
+abbrev pub columnMeasure : ℕ → ℕ → ℕ → Matrix → ℕ
+columnMeasure rounds n k A = 4 * rounds + columnCalls n k A
 
-  -- back to the choice: some nonzero entry is smaller than p
-  pub smaller-chosen : (p : ℕ) → Smaller m n k p A → suc (choiceMeasure m n k A) ≤ 4 * p
-  unfolding choiceMeasure sizeAt
-  smaller-chosen p x = go (release1 m n k A) refl
+module _ (n k : ℕ) (A : Matrix) where
+  pub calls-positive : 0 < columnCalls n k A
+  unfolding columnCalls callsAfter
+  calls-positive = go (rowSearch n k A)
     where
-      go : (c : Choice) → release1 m n k A ≡ c → suc (4 * sizeAt A c + 3) ≤ 4 * p
-      go none e = omega (arith, x .less)
-      go (place i j) e =
-          omega (arith, x .less, release1-is-rule .chosen m n k A i j e .least (x .row) (x .column) (x .row-from) (x .row-below) (x .column-from) (x .column-below) (x .nonzero))
+      go : (r : Row) → 0 < callsAfter r
+      go noRow = omega arith
+      go (row i) = omega arith
 
-  -- from the row pass to the column pass
-  pub column-below-row : (B : Matrix) → A k k ≡ B k k → columnMeasure m n k A < rowMeasure m n k B
-  unfolding columnMeasure rowMeasure
-  column-below-row B e = omega (arith, ap natAbs e, divided-le (rowSearch m n k A))
+  pub calls-bound : columnCalls n k A ≤ 2
+  unfolding columnCalls callsAfter
+  calls-bound = go (rowSearch n k A)
+    where
+      go : (r : Row) → callsAfter r ≤ 2
+      go noRow = Nat.le-refl 2
+      go (row i) = omega arith
 
   -- an entry of row k is not divisible
-  pub column-remains : k < n → Indivisible A (A k k) k (suc k) n → columnMeasure m n k A ≡ 4 * natAbs (A k k)
-  unfolding columnMeasure divided rowSearch
-  column-remains l x = go (rowSearch m n k A) refl
+  calls-remain : k < n → Indivisible A (A k k) k (suc k) n → columnCalls n k A ≡ 1
+  unfolding columnCalls callsAfter rowSearch
+  calls-remain l x = go (rowSearch n k A) refl
     where
-      go : (r : Row) → rowSearch m n k A ≡ r → 4 * natAbs (A k k) + divided r ≡ 4 * natAbs (A k k)
+      go : (r : Row) → rowSearch n k A ≡ r → callsAfter r ≡ 1
       go noRow e =
           absurd (x .indivisible (firstIndivisible-none A (A k k) (suc k) (n - suc k) 1 k e k (x .place) (omega arith) (omega arith) (x .from) (omega (arith, x .below))))
-      go (row i) e = omega arith
+      go (row i) e = refl
 
   -- every entry of row k is divisible
-  pub column-divided : k < n → ((j : ℕ) → k < j → j < n → A k k ∣ℤ A k j) → columnMeasure m n k A ≡ 4 * natAbs (A k k) + 1
-  unfolding columnMeasure divided rowSearch
-  column-divided l h = go (rowSearch m n k A) refl
+  calls-divided : k < n → ((j : ℕ) → k < j → j < n → A k k ∣ℤ A k j) → columnCalls n k A ≡ 2
+  unfolding columnCalls callsAfter rowSearch
+  calls-divided l h = go (rowSearch n k A) refl
     where
-      go : (r : Row) → rowSearch m n k A ≡ r → 4 * natAbs (A k k) + divided r ≡ 4 * natAbs (A k k) + 1
+      go : (r : Row) → rowSearch n k A ≡ r → callsAfter r ≡ 2
       go noRow e = refl
       go (row i) e =
           let f = firstIndivisible-row A (A k k) (suc k) (n - suc k) 1 k i e in
           let i-is : i ≡ k = omega (arith, f .from, f .below) in
           absurd (f .here .indivisible (subst (λ (a : ℕ). A k k ∣ℤ A a (f .here .place)) (sym i-is) (h (f .here .place) (f .here .from) (omega (arith, f .here .below)))))
 
--- the column pass after step e: the pivot stays, and row k has an entry that it does not divide
-pub column-after-add :
-    (m n k : ℕ) (A B : Matrix) → k < n → ((j : ℕ) → k < j → j < n → A k k ∣ℤ A k j) → Indivisible B (B k k) k (suc k) n → B k k ≡ A k k
-    → columnMeasure m n k B < columnMeasure m n k A
-column-after-add m n k A B l h x e = omega (arith, column-remains m n k B l x, column-divided m n k A l h, ap natAbs e)
+-- step e: row k was divisible, and after the addition it is not
+pub calls-fall :
+    (n k : ℕ) (A B : Matrix) → k < n → ((j : ℕ) → k < j → j < n → A k k ∣ℤ A k j) → Indivisible B (B k k) k (suc k) n
+    → columnCalls n k B < columnCalls n k A
+calls-fall n k A B l h x = omega (arith, calls-remain n k B l x, calls-divided n k A l h)
 
--- back from the column pass to the choice
-pub choice-below-column : (m n k : ℕ) (A B : Matrix) → Smaller m n k (natAbs (A k k)) B → choiceMeasure m n k B < columnMeasure m n k A
-unfolding columnMeasure
-choice-below-column m n k A B x = omega (arith, smaller-chosen m n k B (natAbs (A k k)) x)
+-- ---- the fall of the pivot
 
--- back from the row pass to the choice
-pub choice-below-row : (m n k : ℕ) (A B : Matrix) → Smaller m n k (natAbs (A k k)) B → choiceMeasure m n k B < rowMeasure m n k A
-unfolding rowMeasure
-choice-below-row m n k A B x = omega (arith, smaller-chosen m n k B (natAbs (A k k)) x)
+module _ (m n k : ℕ) (A : Matrix) where
+  pub chosen-at : (i j : ℕ) → release1 m n k A ≡ place i j → sizeAt A (release1 m n k A) ≡ natAbs (A i j)
+  unfolding sizeAt
+  chosen-at i j e = rw e
+
+  -- some nonzero entry is smaller than p
+  pub smaller-chosen : (p : ℕ) → Smaller m n k p A → sizeAt A (release1 m n k A) + 1 ≤ p
+  unfolding sizeAt
+  smaller-chosen p x = go (release1 m n k A) refl
+    where
+      go : (c : Choice) → release1 m n k A ≡ c → sizeAt A c + 1 ≤ p
+      go none e = omega (arith, x .less)
+      go (place i j) e =
+          omega (arith, x .less, release1-is-rule .chosen m n k A i j e .least (x .row) (x .column) (x .row-from) (x .row-below) (x .column-from) (x .column-below) (x .nonzero))

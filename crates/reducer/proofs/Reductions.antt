@@ -1,12 +1,13 @@
--- The loop over the stages (`Reducing`), and what it comes to: by `reaches-reduce`, an ended machine that it reaches is the reduction's outcome.
+-- The loop over the stages (`Reducing`) with its measure (`stagesLeft`), and what it comes to: by `reaches-reduce`, an ended machine that it reaches is
+-- the reduction's outcome.
 use mathlib.Core.Path.{_≡_, refl, sym, ap, _∙_, subst}
 use mathlib.Core.List.{List}
-use Prim.Native.Nat.{ℕ, _+_, zero-le}
+use Prim.Native.Nat.{ℕ, suc, _+_, _-_, _*_, _≤_, _<_, zero-le}
 use native.Mathlib.Numerals.{add-one}
 use native.Mathlib.Omega.{arith}
-use lib.IntN.{ℤ, pos}
+use lib.IntN.{ℤ, pos, natAbs}
 use lib.ListN.{length, replicate}
-use Rattle.reduction_steps.specs.Pivot.{release1}
+use Rattle.reduction_steps.specs.Pivot.{Choice, none, place, release1}
 use Rattle.reduction_steps.specs.PivotLaws.{release1-is-rule}
 use Rattle.reduction_steps.specs.Step.{Letter, Machine, at, Ended}
 use Rattle.reduction_laws.specs.Run.{reaches-refl, reaches-trans}
@@ -17,8 +18,9 @@ use Rattle.operations.specs.Laid.{Laid, sizesOf, stateOf}
 use Rattle.operations.specs.declared.layout.Layout.{Layout}
 use Rattle.reducer.specs.declared.stage.Stage.{Stage}
 use Rattle.reducer.specs.declared.stage.Stage.the-variants as stage
-use Rattle.reducer.specs.Answer.{Begun, reductionOf, Goes, StageCleared, StageExhausted, StageRefused, StageEnds, ReductionDone, ReductionRefused}
-use Rattle.reducer.proofs.States.{shaped-state, within-state}
+use Rattle.reducer.specs.Answer.{matrixOf, Begun, sizeAt, chosenSize, reductionOf, Goes, ChoiceEnds, ReductionDone, ReductionRefused}
+use Rattle.reducer.proofs.States.{entry-state, shaped-state, within-state}
+use Rattle.reducer.proofs.Words.{small-entry}
 
 -- from the slice w₀ the reduction has come to letter a of stage k with the slice w
 pub record Reducing (W : Layout) (w₀ : List ℤ) (k : ℕ) (w : List ℤ) : Type 0 where
@@ -37,38 +39,58 @@ reducing-start {W} {w} l s = record {
   same-length = refl;
 }
 
--- how a stage ended
-pub ends-cleared : {W : Layout} {k : ℕ} {x : Machine} {n : ℕ} {r : Stage} {w′ : List ℤ} → r ≡ stage.Cleared → StageEnds W k x n r w′ → StageCleared W k x n w′
-ends-cleared {W} {k} {x} {n} {r} {w′} e h = subst (λ (r : Stage). StageEnds W k x n r w′) e h
+-- the entry to be chosen lies within the limit
+chosen-small : {W : Layout} {k : ℕ} {w : List ℤ} → Begun W k w → chosenSize W k w ≤ limit
+unfolding sizeAt
+chosen-small {W} {k} {w} h = go (release1 (W .matrix .lines) (W .matrix .width) k (matrixOf W w)) refl
+  where
+    go : (c : Choice) → release1 (W .matrix .lines) (W .matrix .width) k (matrixOf W w) ≡ c → sizeAt (matrixOf W w) c ≤ limit
+    go none e = omega arith
+    go (place i j) e =
+        let l = release1-is-rule .chosen (W .matrix .lines) (W .matrix .width) k (matrixOf W w) i j e in
+        subst (λ (x : ℤ). natAbs x ≤ limit) (sym (entry-state W w i j (l .row-below) (l .column-below))) (small-entry (W .matrix) (h .small) i j)
 
-pub ends-exhausted : {W : Layout} {k : ℕ} {x : Machine} {n : ℕ} {r : Stage} {w′ : List ℤ} → r ≡ stage.Exhausted → StageEnds W k x n r w′ → StageExhausted W k x n w′
-ends-exhausted {W} {k} {x} {n} {r} {w′} e h = subst (λ (r : Stage). StageEnds W k x n r w′) e h
-
-pub ends-refused : (W : Layout) (k : ℕ) {x : Machine} {n : ℕ} {r : Stage} {y : Refusal} {w′ : List ℤ} → r ≡ stage.Refused y → StageEnds W k x n r w′ → StageRefused W x n y w′
-ends-refused W k {x} {n} {r} {y} {w′} e h = subst (λ (r : Stage). StageEnds W k x n r w′) e h
+-- The measure of the loop: a stage more counts for more than any entry, and within a stage the entry to be chosen falls.
+abbrev pub stagesLeft : Layout → ℕ → List ℤ → ℕ
+stagesLeft W k w = (W .matrix .lines - k) * suc limit + chosenSize W k w
 
 module _ {W : Layout} {w₀ : List ℤ} {k : ℕ} {w : List ℤ} (h : Reducing W w₀ k w) where
-  pub reducing-next : {w′ : List ℤ} → StageCleared W k (at Letter.a k (stateOf W w)) (length w) w′ → Reducing W w₀ (k + 1) w′
-  reducing-next {w′} e = subst (λ (n : ℕ). Reducing W w₀ n w′) (sym (add-one k)) (record {
-    laid = h .laid;
-    small = h .small;
-    goes = reaches-trans limit (sizesOf W) release1 (h .goes) (e .goes);
-    begun = e .begun;
-    same-length = e .same-length ∙ h .same-length;
-  })
+  -- the machine comes to letter a of stage l
+  onward : {l : ℕ} {w′ : List ℤ} → Goes W (at Letter.a k (stateOf W w)) (at Letter.a l (stateOf W w′)) → Begun W l w′ → length w′ ≡ length w → Reducing W w₀ l w′
+  onward g b s = record { laid = h .laid; small = h .small; goes = reaches-trans limit (sizesOf W) release1 (h .goes) g; begun = b; same-length = s ∙ h .same-length }
 
   ended : {y : Machine} → Goes W (at Letter.a k (stateOf W w)) y → Ended y → reductionOf W w₀ ≡ y
   ended g = reaches-reduce limit (sizesOf W) release1 release1-is-rule (stateOf W w₀) (shaped-state w₀ (h .laid)) (within-state W w₀ (h .small)) (reaches-trans limit (sizesOf W) release1 (h .goes) g)
 
-  pub reduced : {w′ : List ℤ} → StageExhausted W k (at Letter.a k (stateOf W w)) (length w) w′ → ReductionDone W (reductionOf W w₀) (length w₀) k w′
-  reduced e = record {
-    outcome = ended (e .goes) tt;
-    kept = record { same-length = e .kept .same-length ∙ h .same-length; small = e .kept .small };
-  }
+-- the stage k that begins with the slice w has come to r and the slice w′
+module _ {W : Layout} {w₀ : List ℤ} {k : ℕ} {w : List ℤ} (h : Reducing W w₀ k w) (rounds : ℕ) {r : Stage} (w′ : List ℤ) (e : ChoiceEnds W k rounds w r w′) where
+  ends-as : {r′ : Stage} → r ≡ r′ → ChoiceEnds W k rounds w r′ w′
+  ends-as i = subst (λ (r : Stage). ChoiceEnds W k rounds w r w′) i e
 
-  pub reduction-refused :
-      {y : Refusal} {w′ : List ℤ} → StageRefused W (at Letter.a k (stateOf W w)) (length w) y w′ → ReductionRefused (reductionOf W w₀) (length w₀) y w′
-  reduction-refused e = record {
-    outcome = ended (e .goes) tt;
-    cleared = record { number = e .cleared .number; zeros = e .cleared .zeros ∙ ap (λ (n : ℕ). replicate n (pos 0)) (h .same-length) };
-  }
+  pub reducing-next : r ≡ stage.Cleared → Reducing W w₀ (k + 1) w′
+  reducing-next i = let c = ends-as i in subst (λ (n : ℕ). Reducing W w₀ n w′) (sym (add-one k)) (onward h (c .goes) (c .begun) (c .same-length))
+
+  pub next-less : r ≡ stage.Cleared → stagesLeft W (k + 1) w′ < stagesLeft W k w
+  next-less i = let n = reducing-next i in omega (arith, n .begun .row-bound, chosen-small (n .begun))
+
+  pub reducing-again : r ≡ stage.Again → Reducing W w₀ k w′
+  reducing-again i = let c = ends-as i in onward h (c .goes) (c .begun) (c .same-length)
+
+  pub again-less : 0 < rounds → r ≡ stage.Again → stagesLeft W k w′ < stagesLeft W k w
+  again-less p i = omega (arith, ends-as i .falls)
+
+  pub reduced : r ≡ stage.Exhausted → ReductionDone W (reductionOf W w₀) (length w₀) k w′
+  reduced i =
+      let c = ends-as i in
+      record {
+        outcome = ended h (c .goes) tt;
+        kept = record { same-length = c .kept .same-length ∙ h .same-length; small = c .kept .small };
+      }
+
+  pub reduction-refused : {y : Refusal} → r ≡ stage.Refused y → ReductionRefused (reductionOf W w₀) (length w₀) y w′
+  reduction-refused i =
+      let c = ends-as i in
+      record {
+        outcome = ended h (c .goes) tt;
+        cleared = record { number = c .cleared .number; zeros = c .cleared .zeros ∙ ap (λ (n : ℕ). replicate n (pos 0)) (h .same-length) };
+      }

@@ -1,5 +1,6 @@
 -- Where the functions of a stage go, with what holds there (`Onward`): to-rows, rows-to-choice, rows-to-columns, columns-to-choice, row-clear,
--- columns-again. How a stage ends: onward-ends where it goes on, exhausted, cleared, and pass-stops and add-stops where it goes too wide.
+-- columns-again. How a stage ends: onward-ends where it goes on, again where no round is left, exhausted, cleared, and pass-stops and add-stops where
+-- it goes too wide.
 use mathlib.Core.Path.{_≡_, refl, sym, ap, _∙_, subst}
 use mathlib.Core.Bool.{Bool, true, false}
 use mathlib.Core.List.{List}
@@ -17,7 +18,7 @@ use Rattle.reduction_steps.specs.State.{Outcome, tooWide, made, onRow}
 use Rattle.reduction_steps.specs.Pivot.{Choice, none, place, release1, Least}
 use Rattle.reduction_steps.specs.PivotLaws.{release1-is-rule, release1-cong}
 use Rattle.reduction_steps.specs.Step.{Letter, Machine, at, wide, columnKeeps, rowKeeps, firstIndivisible, Row, noRow, row}
-use Rattle.reduction_laws.specs.Run.{reaches-next, reaches-trans}
+use Rattle.reduction_laws.specs.Run.{reaches-refl, reaches-next, reaches-trans}
 use Rattle.reduction_laws.specs.Shape.{Shaped}
 use Rattle.reduction_laws.specs.Steps.{step-a-none, step-a-wide, step-a-made, step-c-wide, step-c-made, step-d-wide, step-d-made, step-e-none, step-e-wide, step-e-made}
 use Rattle.reduction_laws.specs.Scans.{FirstRow, firstIndivisible-row}
@@ -32,66 +33,75 @@ use Rattle.reducer.specs.declared.pass.Pass.{Pass}
 use Rattle.reducer.specs.declared.pass.Pass.the-variants as pass
 use Rattle.reducer.specs.declared.stage.Stage.{Stage}
 use Rattle.reducer.specs.declared.stage.Stage.the-variants as stage
-use Rattle.reducer.specs.Answer.{matrixOf, RowsDone, Begun, Placed, ColumnClear, bringOf, rowPassOf, columnPassOf, Passed, PassMade, PassRefused, Goes, StageCleared, StageExhausted, StageRefused, StageEnds}
+use Rattle.reducer.specs.Answer.{matrixOf, RowsDone, Begun, Placed, ColumnClear, chosenSize, pivotSize, bringOf, rowPassOf, columnPassOf, Passed, PassMade, PassRefused, Goes, StageCleared, StageAgain, StageExhausted, StageRefused, StageEnds}
 use Rattle.reducer.proofs.States.{entry-state, shaped-state, rowsDone-moves}
 use Rattle.reducer.proofs.Tests.{columnKeeps-cong, rowKeeps-cong, firstIndivisible-cong}
-use Rattle.reducer.proofs.Measures.{choiceMeasure, rowMeasure, columnMeasure, chosen-falls, column-below-row, column-after-add, choice-below-column, choice-below-row}
+use Rattle.reducer.proofs.Measures.{columnCalls, calls-fall, chosen-at, smaller-chosen}
 
--- a measure of the matrix that a slice holds
-abbrev pub measured : (ℕ → ℕ → ℕ → Matrix → ℕ) → Layout → ℕ → List ℤ → ℕ
-measured μ W k w = μ (W .matrix .lines) (W .matrix .width) k (matrixOf W w)
-
--- From the machine x the layout has come to letter l with the slice w′, of which P holds, and the measure μ there lies below the bound.
-pub record Onward (P : Layout → ℕ → List ℤ → Type 0) (μ : ℕ → ℕ → ℕ → Matrix → ℕ) (l : Letter) (W : Layout) (k : ℕ) (x : Machine) (n bound : ℕ) (w′ : List ℤ) : Type 0 where
+-- From the machine x the layout has come to letter l with the slice w′, of which P holds. The absolute value to be brought down, which was `bound`, has
+-- fallen by `spent` at least.
+pub record Onward (P : Layout → ℕ → List ℤ → Type 0) (size : Layout → ℕ → List ℤ → ℕ) (l : Letter) (W : Layout) (k : ℕ) (x : Machine) (n spent bound : ℕ) (w′ : List ℤ) : Type 0 where
   pub holds : P W k w′
-  pub falls : measured μ W k w′ < bound
+  pub falls : size W k w′ + spent ≤ bound
   pub goes : Goes W x (at l k (stateOf W w′))
   pub same-length : length w′ ≡ n
 
 -- from the choice to the row pass
 abbrev pub ToRows : Layout → ℕ → List ℤ → List ℤ → Type 0
-ToRows W k w w′ = Onward Placed rowMeasure Letter.c W k (at Letter.a k (stateOf W w)) (length w) (measured choiceMeasure W k w) w′
+ToRows W k w w′ = Onward Placed pivotSize Letter.c W k (at Letter.a k (stateOf W w)) (length w) 0 (chosenSize W k w) w′
 
--- from the row pass back to the choice, or to the column pass
-abbrev pub RowsToChoice : Layout → ℕ → List ℤ → List ℤ → Type 0
-RowsToChoice W k w w′ = Onward Begun choiceMeasure Letter.a W k (at Letter.c k (stateOf W w)) (length w) (measured rowMeasure W k w) w′
+-- from letter l back to the choice
+abbrev pub ToChoice : Letter → Layout → ℕ → List ℤ → List ℤ → Type 0
+ToChoice l W k w w′ = Onward Begun chosenSize Letter.a W k (at l k (stateOf W w)) (length w) 1 (pivotSize W k w) w′
 
-abbrev pub RowsToColumns : Layout → ℕ → List ℤ → List ℤ → Type 0
-RowsToColumns W k w w′ = Onward ColumnClear columnMeasure Letter.d W k (at Letter.c k (stateOf W w)) (length w) (measured rowMeasure W k w) w′
-
--- from the column pass back to the choice, or to the column pass after step e
-abbrev pub ColumnsToChoice : Layout → ℕ → List ℤ → List ℤ → Type 0
-ColumnsToChoice W k w w′ = Onward Begun choiceMeasure Letter.a W k (at Letter.d k (stateOf W w)) (length w) (measured columnMeasure W k w) w′
-
-abbrev pub ColumnsAgain : Layout → ℕ → List ℤ → List ℤ → Type 0
-ColumnsAgain W k w w′ = Onward ColumnClear columnMeasure Letter.d W k (at Letter.d k (stateOf W w)) (length w) (measured columnMeasure W k w) w′
+-- from letter l to the column pass: from the row pass, or after step e
+abbrev pub ToColumns : Letter → Layout → ℕ → List ℤ → List ℤ → Type 0
+ToColumns l W k w w′ = Onward ColumnClear pivotSize Letter.d W k (at l k (stateOf W w)) (length w) 0 (pivotSize W k w) w′
 
 -- a stage that goes on from y ends as one from x that comes to y
 pub stage-after :
-    (W : Layout) (k : ℕ) (x y : Machine) (n : ℕ) (w : List ℤ) (r : Stage) (w′ : List ℤ) → Goes W x y → length w ≡ n → StageEnds W k y (length w) r w′
-    → StageEnds W k x n r w′
-stage-after W k x y n w stage.Cleared w′ g l e = record { goes = reaches-trans limit (sizesOf W) release1 g (e .goes); begun = e .begun; same-length = e .same-length ∙ l }
-stage-after W k x y n w stage.Exhausted w′ g l e = record {
+    (W : Layout) (k rounds′ rounds size′ size : ℕ) (x y : Machine) (n : ℕ) (w : List ℤ) (r : Stage) (w′ : List ℤ) → size′ + rounds ≤ size + rounds′ → Goes W x y → length w ≡ n
+    → StageEnds W k rounds′ size′ y (length w) r w′ → StageEnds W k rounds size x n r w′
+stage-after W k rounds′ rounds size′ size x y n w stage.Cleared w′ b g l e = record {
+  goes = reaches-trans limit (sizesOf W) release1 g (e .goes);
+  begun = e .begun;
+  same-length = e .same-length ∙ l;
+}
+stage-after W k rounds′ rounds size′ size x y n w stage.Exhausted w′ b g l e = record {
   goes = reaches-trans limit (sizesOf W) release1 g (e .goes);
   kept = record { same-length = e .kept .same-length ∙ l; small = e .kept .small };
 }
-stage-after W k x y n w (stage.Refused z) w′ g l e = record {
+stage-after W k rounds′ rounds size′ size x y n w stage.Again w′ b g l e = record {
+  goes = reaches-trans limit (sizesOf W) release1 g (e .goes);
+  begun = e .begun;
+  falls = omega (arith, e .falls);
+  same-length = e .same-length ∙ l;
+}
+stage-after W k rounds′ rounds size′ size x y n w (stage.Refused z) w′ b g l e = record {
   goes = reaches-trans limit (sizesOf W) release1 g (e .goes);
   cleared = record { number = e .cleared .number; zeros = e .cleared .zeros ∙ ap (λ (n : ℕ). replicate n (pos 0)) l };
 }
 
+-- what is spent is the rounds that the callee does not count
 pub onward-ends :
-    {P : Layout → ℕ → List ℤ → Type 0} {μ : ℕ → ℕ → ℕ → Matrix → ℕ} {l : Letter} {W : Layout} {k : ℕ} {x : Machine} {n bound : ℕ} {w : List ℤ}
-    → Onward P μ l W k x n bound w → (r : Stage) (w′ : List ℤ) → StageEnds W k (at l k (stateOf W w)) (length w) r w′ → StageEnds W k x n r w′
-onward-ends {P} {μ} {l} {W} {k} {x} {n} {bound} {w} o r w′ e = stage-after W k x (at l k (stateOf W w)) n w r w′ (o .goes) (o .same-length) e
+    {P : Layout → ℕ → List ℤ → Type 0} {size : Layout → ℕ → List ℤ → ℕ} {l : Letter} {W : Layout} {k : ℕ} {x : Machine} {n spent bound : ℕ} {w : List ℤ}
+    → Onward P size l W k x n spent bound w → (rounds′ rounds : ℕ) → rounds ≤ rounds′ + spent → (r : Stage) (w′ : List ℤ)
+    → StageEnds W k rounds′ (size W k w) (at l k (stateOf W w)) (length w) r w′ → StageEnds W k rounds bound x n r w′
+onward-ends {P} {size} {l} {W} {k} {x} {n} {spent} {bound} {w} o rounds′ rounds b r w′ e =
+    stage-after W k rounds′ rounds (size W k w) bound x (at l k (stateOf W w)) n w r w′ (omega (arith, o .falls)) (o .goes) (o .same-length) e
+
+-- no round is left, and the stage stays at letter a
+pub again : {W : Layout} {k : ℕ} {w : List ℤ} → Begun W k w → (rounds : ℕ) → rounds ≡ 0 → StageAgain W k rounds (chosenSize W k w) (at Letter.a k (stateOf W w)) (length w) w
+again {W} {k} {w} h rounds e = record {
+  goes = reaches-refl limit (sizesOf W) release1 (at Letter.a k (stateOf W w));
+  begun = h;
+  falls = omega arith;
+  same-length = refl;
+}
 
 -- the layout after an operation or a pass
 pub laid-kept : {W : Layout} {n : ℕ} (w′ : List ℤ) → Laid n W → length w′ ≡ n → Laid (length w′) W
 laid-kept {W} w′ h l = subst (λ (n : ℕ). Laid n W) (sym l) h
-
--- a measure below one that is t
-pub below : {m n t : ℕ} → n ≡ t → m < n → m < t
-below {m} e l = subst (λ (n : ℕ). m < n) e l
 
 -- what a pass answered
 pub passed-made : {W : Layout} {o : Outcome} {n : ℕ} {r : Pass} {w′ : List ℤ} → r ≡ pass.Made → Passed W o n r w′ → PassMade W o n w′
@@ -134,7 +144,7 @@ module _ (W : Layout) (k : ℕ) (w : List ℤ) where
         → ToRows W k w w′
     to-rows {w′} h p = record {
       holds = record { laid = laid-kept w′ (h .laid) (p .kept .same-length); small = p .kept .small; ready = after .ready; rows-done = rowsDone-moves (after .moves) shaped (h .rows-done) };
-      falls = chosen-falls (W .matrix .lines) (W .matrix .width) k (matrixOf W w) i j (matrixOf W w′) (sym choice-state ∙ sym e) (after .size);
+      falls = omega (arith, after .size, chosen-at (W .matrix .lines) (W .matrix .width) k (matrixOf W w) i j (sym choice-state ∙ sym e));
       goes = reaches-next limit (sizesOf W) release1 (step-a-made limit (sizesOf W) release1 k (stateOf W w) i j (stateOf W w′) (sym choice-state ∙ sym e) (p .outcome));
       same-length = p .kept .same-length;
     }
@@ -174,10 +184,10 @@ module _ {W : Layout} {k : ℕ} {w : List ℤ} (h : Placed W k w) where
 
     pub rows-to-choice :
         true ≡ columnKeeps (contents (W .matrix) w′) k (W .matrix .lines - suc k) (suc k)
-        → RowsToChoice W k w w′
+        → ToChoice Letter.c W k w w′
     rows-to-choice e = record {
       holds = record { laid = rows-laid; small = p .kept .small; row-bound = Nat.le-of-lt (h .ready .row); column-bound = Nat.le-of-lt (h .ready .column); rows-done = rows-still-done };
-      falls = choice-below-row (W .matrix .lines) (W .matrix .width) k (matrixOf W w) (matrixOf W w′)
+      falls = smaller-chosen (W .matrix .lines) (W .matrix .width) k (matrixOf W w′) (pivotSize W k w)
           (after-c-keeps limit (sizesOf W) k (stateOf W w) (stateOf W w′) (h .ready) after-rows (column-test true e));
       goes = rows-goes true e;
       same-length = p .kept .same-length;
@@ -185,10 +195,10 @@ module _ {W : Layout} {k : ℕ} {w : List ℤ} (h : Placed W k w) where
 
     pub rows-to-columns :
         false ≡ columnKeeps (contents (W .matrix) w′) k (W .matrix .lines - suc k) (suc k)
-        → RowsToColumns W k w w′
+        → ToColumns Letter.c W k w w′
     rows-to-columns e = record {
       holds = record { laid = rows-laid; small = p .kept .small; ready = after-c-clear limit (sizesOf W) k (stateOf W w) (stateOf W w′) after-rows (column-test false e); rows-done = rows-still-done };
-      falls = column-below-row (W .matrix .lines) (W .matrix .width) k (matrixOf W w′) (matrixOf W w) (after-rows .pivot);
+      falls = omega (arith, ap natAbs (after-rows .pivot));
       goes = rows-goes false e;
       same-length = p .kept .same-length;
     }
@@ -228,10 +238,10 @@ module _ {W : Layout} {k : ℕ} {w : List ℤ} (h : ColumnClear W k w) where
 
     pub columns-to-choice :
         true ≡ rowKeeps (contents (W .matrix) w′) k (W .matrix .width - suc k) (suc k)
-        → ColumnsToChoice W k w w′
+        → ToChoice Letter.d W k w w′
     columns-to-choice e = record {
       holds = record { laid = columns-laid; small = p .kept .small; row-bound = Nat.le-of-lt (h .ready .ready .row); column-bound = Nat.le-of-lt (h .ready .ready .column); rows-done = columns-rows-done };
-      falls = choice-below-column (W .matrix .lines) (W .matrix .width) k (matrixOf W w) (matrixOf W w′)
+      falls = smaller-chosen (W .matrix .lines) (W .matrix .width) k (matrixOf W w′) (pivotSize W k w)
           (after-d-keeps limit (sizesOf W) k (stateOf W w) (stateOf W w′) (h .ready) after-columns (row-test true e));
       goes = reaches-next limit (sizesOf W) release1 (step-d-made limit (sizesOf W) release1 k (stateOf W w) (stateOf W w′) true (p .outcome) (row-test true e));
       same-length = p .kept .same-length;
@@ -253,6 +263,11 @@ module _ {W : Layout} {k : ℕ} {w : List ℤ} (h : ColumnClear W k w) where
         ready = after-d-clear limit (sizesOf W) k (stateOf W w) (stateOf W w′) after-columns (row-test false e)
 
 -- ---- letter e
+
+-- from the column pass to the column pass after step e, which calls no further one
+pub record ColumnsAgain (W : Layout) (k : ℕ) (w w′ : List ℤ) : Type 0 where
+  pub onward : ToColumns Letter.d W k w w′
+  pub calls : columnCalls (W .matrix .width) k (matrixOf W w′) < columnCalls (W .matrix .width) k (matrixOf W w)
 
 module _ {W : Layout} {k : ℕ} {w w′ : List ℤ} (h : RowClear W k w w′) where
   ready-pivot : ReadyC (sizesOf W) k (stateOf W w′)
@@ -309,10 +324,13 @@ module _ {W : Layout} {k : ℕ} {w w′ : List ℤ} (h : RowClear W k w w′) wh
         {w″ : List ℤ} → onRow limit (sizesOf W) (subtract k i (negsuc 0)) (stateOf W w′) ≡ made (stateOf W w″) → Small w″ → length w″ ≡ length w′
         → ColumnsAgain W k w w″
     columns-again {w″} o s l = record {
-      holds = record { laid = laid-kept w″ (h .laid) l; small = s; ready = after .ready; rows-done = rowsDone-moves (after .moves) (ready-pivot .shaped) (h .rows-done) };
-      falls = column-after-add (W .matrix .lines) (W .matrix .width) k (matrixOf W w) (matrixOf W w″) (ready-pivot .column) (h .divided) (after .remains) (after .pivot ∙ h .pivot);
-      goes = reaches-trans limit (sizesOf W) release1 (h .goes) (reaches-next limit (sizesOf W) release1 (step-e-made limit (sizesOf W) release1 k (stateOf W w′) i (stateOf W w″) (found-state (row i) e) o));
-      same-length = l ∙ h .same-length;
+      onward = record {
+        holds = record { laid = laid-kept w″ (h .laid) l; small = s; ready = after .ready; rows-done = rowsDone-moves (after .moves) (ready-pivot .shaped) (h .rows-done) };
+        falls = omega (arith, ap natAbs (after .pivot ∙ h .pivot));
+        goes = reaches-trans limit (sizesOf W) release1 (h .goes) (reaches-next limit (sizesOf W) release1 (step-e-made limit (sizesOf W) release1 k (stateOf W w′) i (stateOf W w″) (found-state (row i) e) o));
+        same-length = l ∙ h .same-length;
+      };
+      calls = calls-fall (W .matrix .width) k (matrixOf W w) (matrixOf W w″) (ready-pivot .column) (h .divided) (after .remains);
     }
       where
         after : AfterE limit (sizesOf W) k (stateOf W w′) (stateOf W w″)

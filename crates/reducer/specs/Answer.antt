@@ -1,14 +1,14 @@
 -- What the passes, a stage and the whole reduction answer and leave in the slice, and what a stage starts from at each of its letters.
 use mathlib.Core.Path.{_≡_}
 use mathlib.Core.List.{List}
-use Prim.Native.Nat.{ℕ, suc, _-_, _≤_}
+use Prim.Native.Nat.{ℕ, suc, _+_, _-_, _≤_}
 use lib.ListN.{length, replicate}
-use lib.IntN.{ℤ, pos}
+use lib.IntN.{ℤ, pos, natAbs}
 use Rattle.matrices.specs.Matrix.{Matrix}
 use Rattle.reduction_steps.specs.Table.{entry}
 use Rattle.reduction_steps.specs.State.{Outcome, made, tooWide}
-use Rattle.reduction_steps.specs.Pivot.{release1}
-use Rattle.reduction_steps.specs.Step.{Machine, at, done, wide, a, bring, rowPass, columnPass, reduce, Reaches}
+use Rattle.reduction_steps.specs.Pivot.{Choice, none, place, release1}
+use Rattle.reduction_steps.specs.Step.{Letter, Machine, at, done, wide, a, bring, rowPass, columnPass, reduce, Reaches}
 use Rattle.reduction_laws.specs.StageLaws as stage-laws
 use Rattle.reduction_laws.specs.Letters.{ReadyC, ReadyD}
 use Rattle.lines.specs.Slice.{limit, Small}
@@ -54,6 +54,21 @@ pub record ColumnClear (W : Layout) (k : ℕ) (w : List ℤ) : Type 0 where
   pub small : Small w
   pub ready : ReadyD (sizesOf W) k (stateOf W w)
   pub rows-done : RowsDone W k w
+
+-- ---- absolute values that fall within stage k
+
+-- of the entry at the place chosen, 0 where there is none
+unfoldable pub sizeAt : Matrix → Choice → ℕ
+sizeAt A none = 0
+sizeAt A (place i j) = natAbs (A i j)
+
+-- of the entry that step a chooses
+abbrev pub chosenSize : Layout → ℕ → List ℤ → ℕ
+chosenSize W k w = sizeAt (matrixOf W w) (release1 (W .matrix .lines) (W .matrix .width) k (matrixOf W w))
+
+-- of the pivot
+abbrev pub pivotSize : Layout → ℕ → List ℤ → ℕ
+pivotSize W k w = natAbs (matrixOf W w k k)
 
 -- ---- what the steps make of the slice w
 
@@ -108,6 +123,13 @@ pub record StageCleared (W : Layout) (k : ℕ) (x : Machine) (n : ℕ) (w′ : L
   pub begun : Begun W (suc k) w′
   pub same-length : length w′ ≡ n
 
+-- or back to letter a of stage k after so many rounds, each of which has lowered the absolute value to be chosen, at first `size`
+pub record StageAgain (W : Layout) (k rounds size : ℕ) (x : Machine) (n : ℕ) (w′ : List ℤ) : Type 0 where
+  pub goes : Goes W x (at a k (stateOf W w′))
+  pub begun : Begun W k w′
+  pub falls : chosenSize W k w′ + rounds ≤ size
+  pub same-length : length w′ ≡ n
+
 -- or the layout is done with rank k
 pub record StageExhausted (W : Layout) (k : ℕ) (x : Machine) (n : ℕ) (w′ : List ℤ) : Type 0 where
   pub goes : Goes W x (done k (stateOf W w′))
@@ -118,10 +140,19 @@ pub record StageRefused (W : Layout) (x : Machine) (n : ℕ) (y : Refusal) (w′
   pub goes : Goes W x wide
   pub cleared : Cleared n y w′
 
-abbrev pub StageEnds : Layout → ℕ → Machine → ℕ → Stage → List ℤ → Type 0
-StageEnds W k x n stage.Cleared w′ = StageCleared W k x n w′
-StageEnds W k x n stage.Exhausted w′ = StageExhausted W k x n w′
-StageEnds W k x n (stage.Refused y) w′ = StageRefused W x n y w′
+abbrev pub StageEnds : Layout → ℕ → ℕ → ℕ → Machine → ℕ → Stage → List ℤ → Type 0
+StageEnds W k rounds size x n stage.Cleared w′ = StageCleared W k x n w′
+StageEnds W k rounds size x n stage.Exhausted w′ = StageExhausted W k x n w′
+StageEnds W k rounds size x n stage.Again w′ = StageAgain W k rounds size x n w′
+StageEnds W k rounds size x n (stage.Refused y) w′ = StageRefused W x n y w′
+
+-- from the choice, with the slice w and so many rounds left
+abbrev pub ChoiceEnds : Layout → ℕ → ℕ → List ℤ → Stage → List ℤ → Type 0
+ChoiceEnds W k rounds w r w′ = StageEnds W k rounds (chosenSize W k w) (at a k (stateOf W w)) (length w) r w′
+
+-- from the pass of letter l, in a round after which so many are left
+abbrev pub PassEnds : Letter → Layout → ℕ → ℕ → List ℤ → Stage → List ℤ → Type 0
+PassEnds l W k rounds w r w′ = StageEnds W k (suc rounds) (pivotSize W k w) (at l k (stateOf W w)) (length w) r w′
 
 -- the whole reduction, which ends at the machine y
 pub record ReductionDone (W : Layout) (y : Machine) (n r : ℕ) (w′ : List ℤ) : Type 0 where

@@ -3,6 +3,7 @@ ghost use lib.ListN.{length};
 ghost use Rattle.lines.specs.Slice.{Small};
 ghost use Rattle.operations.specs.Laid.{Laid};
 ghost use Rattle.reducer.specs.Answer.{reductionOf, Reduces};
+use crate::stage::ROUNDS;
 use crate::stage::Stage;
 use crate::stage::choose_pivot;
 use operations::layout::Layout;
@@ -22,8 +23,9 @@ pub fn reduce_matrix(layout: Layout, w: &mut [i32]) -> Reduction
 {
     let mut k: usize = 0;
     loop {
-        match choose_pivot(layout, w, k) {
+        match choose_pivot(layout, w, k, ROUNDS) {
             Stage::Cleared => k = k + 1,
+            Stage::Again => {}
             Stage::Exhausted => return Reduction::Done(k),
             Stage::Refused(refusal) => return Reduction::Refused(refusal),
         }

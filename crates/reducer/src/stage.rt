@@ -1,9 +1,7 @@
 // One stage of the reduction. Pivot choice, row pass and column pass call one another; the pivot's absolute value falls on each return to the
-// choice, and step e is followed by a column pass that leaves a remainder.
-ghost use lib.ListN.{length};
-ghost use Rattle.reduction_steps.specs.Step as steps;
-ghost use Rattle.operations.specs.Laid.{stateOf};
-ghost use Rattle.reducer.specs.Answer.{Begun, Placed, ColumnClear, StageEnds};
+// choice, and step e is followed by a column pass that leaves a remainder. The number of rounds bounds how deep the calls go.
+ghost use Rattle.reduction_steps.specs.Step.{c, d};
+ghost use Rattle.reducer.specs.Answer.{Begun, Placed, ColumnClear, ChoiceEnds, PassEnds};
 use crate::bring::bring_pivot;
 use crate::pass::Pass;
 use crate::pass::clear_column;
@@ -19,51 +17,61 @@ use operations::remainder::first_indivisible;
 use operations::remainder::row_keeps;
 use refusal::Refusal;
 
-// Cleared: the stage is over and k rises by one. Exhausted: there is no pivot, and the rank is k.
+// How many pivots one call of the cycle tries. A round takes at most four frames: the choice, the row pass, the column pass, and the column pass after
+// step e. The choice that finds no round left is one more, so that the cycle is at most 4 * ROUNDS + 1 = 33 frames deep. Its proof shows this: the
+// measure by which it ends (proofs/Measures.antt) is 4 * ROUNDS at the first call and falls with every call.
+pub const ROUNDS: usize = 8;
+
+// Cleared: the stage is over and k rises by one. Exhausted: there is no pivot, and the rank is k. Again: no round is left, and the stage goes on from
+// its choice.
 pub enum Stage {
     Cleared,
     Exhausted,
+    Again,
     Refused(Refusal),
 }
 
-// Steps a and b.
-pub fn choose_pivot(layout: Layout, w: &mut [i32], k: usize) -> Stage
+// Steps a and b, where a round is left.
+pub fn choose_pivot(layout: Layout, w: &mut [i32], k: usize, rounds: usize) -> Stage
     requires { ⌜ Begun layout k (now w) ⌝ }
-    ensures { λ r. ⌜ StageEnds layout k (steps.at steps.a k (stateOf layout (now (w .entry)))) (length (now (w .entry))) r (now (w .exit)) ⌝ }
+    ensures { λ r. ⌜ ChoiceEnds layout k rounds (now (w .entry)) r (now (w .exit)) ⌝ }
 {
+    if rounds == 0 {
+        return Stage::Again;
+    }
     let Pivot::At(i, j) = find_pivot(layout.matrix, w, k) else {
         return Stage::Exhausted;
     };
     let Pass::Made = bring_pivot(layout, w, k, i, j) else {
         return Stage::Refused(Refusal::TooWide);
     };
-    row_pass(layout, w, k)
+    row_pass(layout, w, k, rounds - 1)
 }
 
 // Step c.
-fn row_pass(layout: Layout, w: &mut [i32], k: usize) -> Stage
+fn row_pass(layout: Layout, w: &mut [i32], k: usize, rounds: usize) -> Stage
     requires { ⌜ Placed layout k (now w) ⌝ }
-    ensures { λ r. ⌜ StageEnds layout k (steps.at steps.c k (stateOf layout (now (w .entry)))) (length (now (w .entry))) r (now (w .exit)) ⌝ }
+    ensures { λ r. ⌜ PassEnds c layout k rounds (now (w .entry)) r (now (w .exit)) ⌝ }
 {
     let Pass::Made = clear_column(layout, w, k) else {
         return Stage::Refused(Refusal::TooWide);
     };
     if column_keeps(layout.matrix, w, k) {
-        return choose_pivot(layout, w, k);
+        return choose_pivot(layout, w, k, rounds);
     }
-    column_pass(layout, w, k)
+    column_pass(layout, w, k, rounds)
 }
 
 // Steps d and e.
-fn column_pass(layout: Layout, w: &mut [i32], k: usize) -> Stage
+fn column_pass(layout: Layout, w: &mut [i32], k: usize, rounds: usize) -> Stage
     requires { ⌜ ColumnClear layout k (now w) ⌝ }
-    ensures { λ r. ⌜ StageEnds layout k (steps.at steps.d k (stateOf layout (now (w .entry)))) (length (now (w .entry))) r (now (w .exit)) ⌝ }
+    ensures { λ r. ⌜ PassEnds d layout k rounds (now (w .entry)) r (now (w .exit)) ⌝ }
 {
     let Pass::Made = clear_row(layout, w, k) else {
         return Stage::Refused(Refusal::TooWide);
     };
     if row_keeps(layout.matrix, w, k) {
-        return choose_pivot(layout, w, k);
+        return choose_pivot(layout, w, k, rounds);
     }
     let Indivisible::Row(i) = first_indivisible(layout.matrix, w, k) else {
         return Stage::Cleared;
@@ -72,5 +80,5 @@ fn column_pass(layout: Layout, w: &mut [i32], k: usize) -> Stage
         clear(w);
         return Stage::Refused(Refusal::TooWide);
     };
-    column_pass(layout, w, k)
+    column_pass(layout, w, k, rounds)
 }

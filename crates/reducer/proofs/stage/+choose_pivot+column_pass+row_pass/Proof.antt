@@ -1,8 +1,8 @@
--- The cycle of calls of a stage: pivot choice, row pass and column pass meet their contracts. Each measure is 4 times a pivot's absolute value and a
--- number below 4 for the place in the cycle (`Measures`). Where a function goes, with what holds there, is a lemma of `Stages`. Assumes nothing.
+-- The cycle of calls of a stage: pivot choice, row pass and column pass meet their contracts. Each measure is 4 times the rounds left and a number
+-- below 4 for the place in the round (`Measures`). Where a function goes, with what holds there, is a lemma of `Stages`. Assumes nothing.
 use mathlib.Core.Path.{_≡_, refl, sym, ap, _∙_}
 use mathlib.Core.List.{List}
-use Prim.Native.Nat.{ℕ, _<_}
+use Prim.Native.Nat.{ℕ, _+_, _-_, _<_}
 use native.Mathlib.Nat as Nat
 use native.Mathlib.Omega.{arith}
 use lib.IntN.{ℤ, pos}
@@ -17,8 +17,8 @@ use Rattle.operations.specs.Scan.{pivotChoice, indivisibleRow}
 use Rattle.reducer.specs.Answer.{matrixOf, rowPassOf, columnPassOf, PassMade, StageRefused}
 use Rattle.reducer.proofs.States.{held-matrix, operated-done, operated-wide}
 use Rattle.reducer.proofs.Words.{pivot-positive}
-use Rattle.reducer.proofs.Measures.{choiceMeasure, rowMeasure, columnMeasure}
-use Rattle.reducer.proofs.Stages.{measured, ToRows, RowsToChoice, RowsToColumns, ColumnsToChoice, ColumnsAgain, onward-ends, below, laid-kept, passed-made, pass-stops, Chosen, exhausted, chosen-least, bring-goes, to-rows, rows-go, rows-to-choice, rows-to-columns, columns-go, columns-to-choice, RowClear, row-clear, Found, cleared, row-lower, row-within, add-stops, columns-again}
+use Rattle.reducer.proofs.Measures.{choiceMeasure, rowMeasure, columnMeasure, calls-positive, calls-bound}
+use Rattle.reducer.proofs.Stages.{ToRows, ToChoice, ToColumns, ColumnsAgain, onward-ends, again, laid-kept, passed-made, pass-stops, Chosen, exhausted, chosen-least, bring-goes, to-rows, rows-go, rows-to-choice, rows-to-columns, columns-go, columns-to-choice, RowClear, row-clear, Found, cleared, row-lower, row-within, add-stops, columns-again}
 use Rattle.reducer.proofs.stage.choose_pivot.Reads as choose-pivot
 use Rattle.reducer.proofs.stage.choose_pivot.Kinds as choose-pivot-kinds
 use Rattle.reducer.proofs.stage.+choose_pivot+column_pass+row_pass.Lts-choose_pivot as choose-pivot-lts
@@ -43,13 +43,13 @@ use Rattle.reducer.proofs.stage.+choose_pivot+column_pass+row_pass.Tie.
 -- ---- the measures, and what each function is given and asks of the others
 
 abbrev μ-choose-pivot : Measures 1 choose-pivot-kinds.ps ℕ
-μ-choose-pivot κs a = measured choiceMeasure (a .0) (a .1 .1 .0) (a .1 .0 .now)
+μ-choose-pivot κs a = choiceMeasure (a .1 .1 .1 .0)
 
 abbrev μ-column-pass : Measures 1 column-pass-kinds.ps ℕ
-μ-column-pass κs a = measured columnMeasure (a .0) (a .1 .1 .0) (a .1 .0 .now)
+μ-column-pass κs a = columnMeasure (a .1 .1 .1 .0) (a .0 .matrix .width) (a .1 .1 .0) (matrixOf (a .0) (a .1 .0 .now))
 
 abbrev μ-row-pass : Measures 1 row-pass-kinds.ps ℕ
-μ-row-pass κs a = measured rowMeasure (a .0) (a .1 .1 .0) (a .1 .0 .now)
+μ-row-pass κs a = rowMeasure (a .1 .1 .1 .0)
 
 abbrev choose-pivot-at : ℕ → In 1 choose-pivot-kinds.ps
 choose-pivot-at t =
@@ -120,8 +120,13 @@ row-pass-calls t = (
 
 -- ---- the pivot choice
 
+choose-pivot-returns : (t : ℕ) → choose-pivot-lts.Need-returns (choose-pivot-calls t) (choose-pivot-at t) choose-pivot.Post
+choose-pivot-returns t c = again (c .before .pre .1) (c .before .args .rounds) (c .if1 .taken)
+
 choose-pivot-find-pivot-requires : (t : ℕ) → choose-pivot-lts.Need-find-pivot-requires (choose-pivot-calls t) (choose-pivot-at t) choose-pivot.Post
-choose-pivot-find-pivot-requires t c κs = (held-matrix (c .before .pre .1 .laid), (c .before .pre .1 .small, c .before .pre .1 .column-bound))
+choose-pivot-find-pivot-requires t c κs =
+    let begun = c .before .before .pre .1 in
+    (held-matrix (begun .laid), (begun .small, begun .column-bound))
 
 choose-pivot-enum-known-i : (t : ℕ) → choose-pivot-lts.Need-enum-known-i (choose-pivot-calls t) (choose-pivot-at t) choose-pivot.Post
 choose-pivot-enum-known-i t c = c .match .keys1
@@ -132,15 +137,15 @@ choose-pivot-enum-told t c = c .match .keys2
 choose-pivot-same-length : (t : ℕ) → choose-pivot-lts.Need-same-length (choose-pivot-calls t) (choose-pivot-at t) choose-pivot.Post
 choose-pivot-same-length t c = refl
 
-choose-pivot-returns : (t : ℕ) → choose-pivot-lts.Need-returns (choose-pivot-calls t) (choose-pivot-at t) choose-pivot.Post
-choose-pivot-returns t c =
-    let start = c .before .before .before .before in
+choose-pivot-returns-2 : (t : ℕ) → choose-pivot-lts.Need-returns-2 (choose-pivot-calls t) (choose-pivot-at t) choose-pivot.Post
+choose-pivot-returns-2 t c =
+    let start = c .before .before .before .before .before in
     exhausted (start .args .layout) (start .args .k) (start .args .w .now) (start .pre .1) (sym (ap pivotChoice (c .enum-told .given .1)) ∙ c .before .before .find-pivot .ensures)
 
 -- the place that was found
 module _ (t : ℕ) (c : choose-pivot-lts.After-known-told (choose-pivot-calls t) (choose-pivot-at t) choose-pivot.Post) where
   abbrev start : choose-pivot-lts.Start (choose-pivot-calls t) (choose-pivot-at t) choose-pivot.Post
-  start = c .before .before .before .before .before
+  start = c .before .before .before .before .before .before
 
   abbrev pivot-row : ℕ
   pivot-row = c .before .i .given .0 .0
@@ -169,8 +174,8 @@ choose-pivot-enum-told-3 t c = c .match2 .keys2
 choose-pivot-same-length-2 : (t : ℕ) → choose-pivot-lts.Need-same-length-2 (choose-pivot-calls t) (choose-pivot-at t) choose-pivot.Post
 choose-pivot-same-length-2 t c = c .before .before .before .bring-pivot .kept .1 .0
 
-choose-pivot-returns-2 : (t : ℕ) → choose-pivot-lts.Need-returns-2 (choose-pivot-calls t) (choose-pivot-at t) choose-pivot.Post
-choose-pivot-returns-2 t c =
+choose-pivot-returns-3 : (t : ℕ) → choose-pivot-lts.Need-returns-3 (choose-pivot-calls t) (choose-pivot-at t) choose-pivot.Post
+choose-pivot-returns-3 t c =
     let place = c .before .before .before .before .before in
     let begun = start t place in
     pass-stops (begun .args .layout) (at Letter.a (begun .args .k) (stateOf (begun .args .layout) (begun .args .w .now))) (c .before .before .before .bring-pivot .result) (c .before .before .before .bring-pivot .last .1 .0)
@@ -188,16 +193,18 @@ to-row-pass t c =
     to-rows (begun .args .layout) (begun .args .k) (begun .args .w .now) (pivot-row t place) (pivot-column t place) (found t place) (begun .pre .1)
     (passed-made (c .enum-told2 .given .1) (c .before .before .before .bring-pivot .ensures))
 
+choose-pivot-sub-row-pass : (t : ℕ) → choose-pivot-lts.Need-sub-row-pass (choose-pivot-calls t) (choose-pivot-at t) choose-pivot.Post
+choose-pivot-sub-row-pass t c = omega (arith, c .before .before .before .before .before .before .before .before .before .before .before .if1 .left)
+
 choose-pivot-row-pass-requires : (t : ℕ) → choose-pivot-lts.Need-row-pass-requires (choose-pivot-calls t) (choose-pivot-at t) choose-pivot.Post
 choose-pivot-row-pass-requires t c κs =
-    let o = to-row-pass t (c .before) in
-    (below (start t (c .before .before .before .before .before .before) .pre .0) (o .falls), o .holds)
+    (omega (arith, start t (c .before .before .before .before .before .before) .pre .0, choose-pivot-sub-row-pass t c), to-row-pass t (c .before) .holds)
 
 choose-pivot-same-length-3 : (t : ℕ) → choose-pivot-lts.Need-same-length-3 (choose-pivot-calls t) (choose-pivot-at t) choose-pivot.Post
 choose-pivot-same-length-3 t c = c .before .row-pass .kept .1 .0 ∙ c .before .before .before .before .before .before .bring-pivot .kept .1 .0
 
-choose-pivot-returns-3 : (t : ℕ) → choose-pivot-lts.Need-returns-3 (choose-pivot-calls t) (choose-pivot-at t) choose-pivot.Post
-choose-pivot-returns-3 t c = onward-ends (to-row-pass t (c .before .before .before)) (c .before .row-pass .result) (c .before .row-pass .last .1 .0) (c .before .row-pass .ensures)
+choose-pivot-returns-4 : (t : ℕ) → choose-pivot-lts.Need-returns-4 (choose-pivot-calls t) (choose-pivot-at t) choose-pivot.Post
+choose-pivot-returns-4 t c = onward-ends (to-row-pass t (c .before .before .before)) _ _ (omega arith) (c .before .row-pass .result) (c .before .row-pass .last .1 .0) (c .before .row-pass .ensures)
 
 -- ---- the column pass
 
@@ -239,7 +246,7 @@ column-pass-row-keeps-requires t c κs =
 column-to-choice :
     (t : ℕ) (c : column-pass-lts.Then1 (column-pass-calls t) (column-pass-at t) column-pass.Post)
     → (let begun = column-start t (c .before .before .before) in
-    ColumnsToChoice (begun .args .layout) (begun .args .k) (begun .args .w .now) (c .before .before .before .before .before .before .clear-row .last .1 .0))
+    ToChoice Letter.d (begun .args .layout) (begun .args .k) (begun .args .w .now) (c .before .before .before .before .before .before .clear-row .last .1 .0))
 column-to-choice t c =
     columns-to-choice (column-start t (c .before .before .before) .pre .1) (columns-made t (c .before .before .before)) (sym (c .if1 .taken) ∙ c .before .row-keeps .ensures)
 
@@ -252,14 +259,14 @@ column-cleared t c =
 
 column-pass-choose-pivot-requires : (t : ℕ) → column-pass-lts.Need-choose-pivot-requires (column-pass-calls t) (column-pass-at t) column-pass.Post
 column-pass-choose-pivot-requires t c κs =
-    let o = column-to-choice t (c .before) in
-    (below (column-start t (c .before .before .before .before) .pre .0) (o .falls), o .holds)
+    let start = column-start t (c .before .before .before .before) in
+    (omega (arith, start .pre .0, calls-positive (start .args .layout .matrix .width) (start .args .k) (matrixOf (start .args .layout) (start .args .w .now))), column-to-choice t (c .before) .holds)
 
 column-pass-same-length-2 : (t : ℕ) → column-pass-lts.Need-same-length-2 (column-pass-calls t) (column-pass-at t) column-pass.Post
 column-pass-same-length-2 t c = c .before .choose-pivot .kept .1 .0 ∙ c .before .before .before .before .before .before .before .before .before .clear-row .kept .1 .0
 
 column-pass-returns-2 : (t : ℕ) → column-pass-lts.Need-returns-2 (column-pass-calls t) (column-pass-at t) column-pass.Post
-column-pass-returns-2 t c = onward-ends (column-to-choice t (c .before .before .before)) (c .before .choose-pivot .result) (c .before .choose-pivot .last .1 .0) (c .before .choose-pivot .ensures)
+column-pass-returns-2 t c = onward-ends (column-to-choice t (c .before .before .before)) _ _ (omega arith) (c .before .choose-pivot .result) (c .before .choose-pivot .last .1 .0) (c .before .choose-pivot .ensures)
 
 column-pass-first-indivisible-requires : (t : ℕ) → column-pass-lts.Need-first-indivisible-requires (column-pass-calls t) (column-pass-at t) column-pass.Post
 column-pass-first-indivisible-requires t c κs =
@@ -346,7 +353,8 @@ column-again t c =
 column-pass-column-pass-requires : (t : ℕ) → column-pass-lts.Need-column-pass-requires (column-pass-calls t) (column-pass-at t) column-pass.Post
 column-pass-column-pass-requires t c κs =
     let o = column-again t (c .before) in
-    (below (begun t (c .before .before .before .before .before .before) .pre .0) (o .falls), o .holds)
+    let start = begun t (c .before .before .before .before .before .before) in
+    (omega (arith, start .pre .0, o .calls), o .onward .holds)
 
 column-pass-same-length-5 : (t : ℕ) → column-pass-lts.Need-same-length-5 (column-pass-calls t) (column-pass-at t) column-pass.Post
 column-pass-same-length-5 t c =
@@ -355,7 +363,7 @@ column-pass-same-length-5 t c =
     ∙ column-cleared t (else t (c .before .before .before .before .before .before .before .before)) .same-length
 
 column-pass-returns-5 : (t : ℕ) → column-pass-lts.Need-returns-5 (column-pass-calls t) (column-pass-at t) column-pass.Post
-column-pass-returns-5 t c = onward-ends (column-again t (c .before .before .before)) (c .before .column-pass .result) (c .before .column-pass .last .1 .0) (c .before .column-pass .ensures)
+column-pass-returns-5 t c = onward-ends (column-again t (c .before .before .before) .onward) _ _ (omega arith) (c .before .column-pass .result) (c .before .column-pass .last .1 .0) (c .before .column-pass .ensures)
 
 -- ---- the row pass
 
@@ -397,38 +405,38 @@ row-pass-column-keeps-requires t c κs =
 row-to-choice :
     (t : ℕ) (c : row-pass-lts.Then1 (row-pass-calls t) (row-pass-at t) row-pass.Post)
     → (let begun = row-start t (c .before .before .before) in
-    RowsToChoice (begun .args .layout) (begun .args .k) (begun .args .w .now) (c .before .before .before .before .before .before .clear-column .last .1 .0))
+    ToChoice Letter.c (begun .args .layout) (begun .args .k) (begun .args .w .now) (c .before .before .before .before .before .before .clear-column .last .1 .0))
 row-to-choice t c =
     rows-to-choice (row-start t (c .before .before .before) .pre .1) (rows-made t (c .before .before .before)) (sym (c .if1 .taken) ∙ c .before .column-keeps .ensures)
 
 row-to-columns :
     (t : ℕ) (c : row-pass-lts.Else1 (row-pass-calls t) (row-pass-at t) row-pass.Post)
     → (let begun = row-start t (c .before .before .before) in
-    RowsToColumns (begun .args .layout) (begun .args .k) (begun .args .w .now) (c .before .before .before .before .before .before .clear-column .last .1 .0))
+    ToColumns Letter.c (begun .args .layout) (begun .args .k) (begun .args .w .now) (c .before .before .before .before .before .before .clear-column .last .1 .0))
 row-to-columns t c =
     rows-to-columns (row-start t (c .before .before .before) .pre .1) (rows-made t (c .before .before .before)) (sym (c .if1 .left) ∙ c .before .column-keeps .ensures)
 
 row-pass-choose-pivot-requires : (t : ℕ) → row-pass-lts.Need-choose-pivot-requires (row-pass-calls t) (row-pass-at t) row-pass.Post
 row-pass-choose-pivot-requires t c κs =
-    let o = row-to-choice t (c .before) in
-    (below (row-start t (c .before .before .before .before) .pre .0) (o .falls), o .holds)
+    let start = row-start t (c .before .before .before .before) in
+    (omega (arith, start .pre .0), row-to-choice t (c .before) .holds)
 
 row-pass-same-length-2 : (t : ℕ) → row-pass-lts.Need-same-length-2 (row-pass-calls t) (row-pass-at t) row-pass.Post
 row-pass-same-length-2 t c = c .before .choose-pivot .kept .1 .0 ∙ c .before .before .before .before .before .before .before .before .before .clear-column .kept .1 .0
 
 row-pass-returns-2 : (t : ℕ) → row-pass-lts.Need-returns-2 (row-pass-calls t) (row-pass-at t) row-pass.Post
-row-pass-returns-2 t c = onward-ends (row-to-choice t (c .before .before .before)) (c .before .choose-pivot .result) (c .before .choose-pivot .last .1 .0) (c .before .choose-pivot .ensures)
+row-pass-returns-2 t c = onward-ends (row-to-choice t (c .before .before .before)) _ _ (omega arith) (c .before .choose-pivot .result) (c .before .choose-pivot .last .1 .0) (c .before .choose-pivot .ensures)
 
 row-pass-column-pass-requires : (t : ℕ) → row-pass-lts.Need-column-pass-requires (row-pass-calls t) (row-pass-at t) row-pass.Post
 row-pass-column-pass-requires t c κs =
-    let o = row-to-columns t (c .before) in
-    (below (row-start t (c .before .before .before .before) .pre .0) (o .falls), o .holds)
+    let start = row-start t (c .before .before .before .before) in
+    (omega (arith, start .pre .0, calls-bound (start .args .layout .matrix .width) (start .args .k) (matrixOf (start .args .layout) (c .before .before .before .before .before .before .before .clear-column .last .1 .0))), row-to-columns t (c .before) .holds)
 
 row-pass-same-length-3 : (t : ℕ) → row-pass-lts.Need-same-length-3 (row-pass-calls t) (row-pass-at t) row-pass.Post
 row-pass-same-length-3 t c = c .before .column-pass .kept .1 .0 ∙ c .before .before .before .before .before .before .before .before .before .clear-column .kept .1 .0
 
 row-pass-returns-3 : (t : ℕ) → row-pass-lts.Need-returns-3 (row-pass-calls t) (row-pass-at t) row-pass.Post
-row-pass-returns-3 t c = onward-ends (row-to-columns t (c .before .before .before)) (c .before .column-pass .result) (c .before .column-pass .last .1 .0) (c .before .column-pass .ensures)
+row-pass-returns-3 t c = onward-ends (row-to-columns t (c .before .before .before)) _ _ (omega arith) (c .before .column-pass .result) (c .before .column-pass .last .1 .0) (c .before .column-pass .ensures)
 
 pub +choose-pivot+column-pass+row-pass-spec : {M : Type 1} → statement M
 +choose-pivot+column-pass+row-pass-spec =
@@ -436,13 +444,14 @@ pub +choose-pivot+column-pass+row-pass-spec : {M : Type 1} → statement M
     (λ t. choose-pivot-lts.spec
     (choose-pivot-calls t)
     (choose-pivot-at t) choose-pivot.Post
+    (choose-pivot-returns t)
     (choose-pivot-find-pivot-requires t)
     (choose-pivot-enum-known-i t)
     (choose-pivot-enum-told t)
     (choose-pivot-same-length t)
-    (choose-pivot-returns t)
-    (choose-pivot-bring-pivot-requires t) (choose-pivot-enum-told-2 t) (choose-pivot-enum-told-3 t) (choose-pivot-same-length-2 t) (choose-pivot-returns-2 t)
-    (choose-pivot-row-pass-requires t) (choose-pivot-same-length-3 t) (choose-pivot-returns-3 t))
+    (choose-pivot-returns-2 t)
+    (choose-pivot-bring-pivot-requires t) (choose-pivot-enum-told-2 t) (choose-pivot-enum-told-3 t) (choose-pivot-same-length-2 t) (choose-pivot-returns-3 t)
+    (choose-pivot-sub-row-pass t) (choose-pivot-row-pass-requires t) (choose-pivot-same-length-3 t) (choose-pivot-returns-4 t))
     (λ t. column-pass-lts.spec
     (column-pass-calls t)
     (column-pass-at t) column-pass.Post
