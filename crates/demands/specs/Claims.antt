@@ -18,7 +18,7 @@ use Rattle.reduction_steps.specs.Pivot.{release1}
 use Rattle.reduction_steps.specs.Step as machine
 use Rattle.reduction_steps.specs.Step.{Machine, at, wide, a, Reaches}
 use Rattle.reports.specs.Reductions.{firstSizes, firstStart, secondSizes, secondStart, product}
-use Rattle.reports.specs.Call.{Answer, done, refused, entryLimit, coefficientLimit, refusalBefore, chainRefusal, reportSlots, coordinateSlots, reportCall, coordinateCall}
+use Rattle.reports.specs.Call.{Answer, done, refused, libraryLimit, entryLimit, coefficientLimit, refusalBefore, chainRefusal, reportSlots, coordinateSlots, reportCall, coordinateCall}
 use Rattle.demands.specs.Written.{chainOf, cells, IsCycle, IsBoundary, Presents, orderIn, generatorIn}
 
 -- an answer done, with some counts
@@ -35,7 +35,7 @@ Goes z x y = Reaches entryLimit z release1 x y
 
 -- a sheet is accepted exactly when it is the layout of a complex within the limit
 abbrev pub Acceptance : Type 0
-Acceptance = (limit : ℕ) → limit ≤ 256 → (b : List ℕ) → Bytes b → (refusal limit b ≡ 0) ↔ IsSheet limit b
+Acceptance = (limit : ℕ) → limit ≤ libraryLimit → (b : List ℕ) → Bytes b → (refusal limit b ≡ 0) ↔ IsSheet limit b
 
 -- The report done with b = f and t: its generators, with its orders and then f free ones, present the homology group over the whole numbers;
 -- each order exceeds 1; and any other list of generators and orders that presents the group has the same free rank and the same orders.

@@ -8,7 +8,7 @@ const INPUT_ROOM: usize = 977;
 fn main() {
     let mut input = [0u8; INPUT_ROOM];
     let length = io::read_full(STDIN_FILENO, &mut input);
-    let mut out = [0u8; printer::TEXT_ROOM];
+    let mut out = [0u8; printer::room::TEXT_ROOM];
     let written = printer::print_sheet(&input[..length], &mut out);
     io::write_all(STDOUT_FILENO, &out[..written]);
 }
