@@ -2,8 +2,9 @@
 pub mod room;
 
 ghost use mathlib.Core.Path.{_≡_};
-ghost use Prim.Native.Nat.{suc, _+_, _≤_};
-ghost use lib.ListN.{length};
+ghost use mathlib.Core.List.{List};
+ghost use Prim.Native.Nat.{ℕ, suc, _+_, _≤_};
+ghost use lib.ListN.{length, take};
 ghost use Rattle.complexes.specs.Complex.{count};
 ghost use Rattle.sheet_format.specs.Layout.{top};
 ghost use Rattle.sheet_format.specs.Check.{refusal, sectionsOf};
@@ -12,6 +13,7 @@ ghost use Rattle.reports.specs.Call.{hostLimit, reductionsOf};
 ghost use Rattle.reports.specs.HostCallLaws.{reportRoom, workRoom};
 ghost use Rattle.text.specs.Put.{PutsWithin};
 ghost use Rattle.text.specs.Room.{dimensionRoom, textRoom};
+use crate::room::INPUT_ROOM;
 use crate::room::TEXT_ROOM;
 use calls::answer::Answer;
 use calls::report::report_at;
@@ -81,4 +83,22 @@ pub fn print_sheet(s: &[u8], out: &mut [u8; TEXT_ROOM]) -> usize
             put_dimensions(s, &mut report, &mut work, out)
         }
     }
+}
+
+// Writes what the program prints for the sheet of the first n bytes, or of all where there are no more.
+fn print_first(bytes: &[u8], n: usize, out: &mut [u8; TEXT_ROOM]) -> usize
+    ensures { λ r. ⌜ PutsWithin textRoom (programText (take n (now (bytes .entry)))) 0 (now (out .entry)) r (now (out .exit)) ⌝ }
+{
+    if bytes.len() <= n {
+        return print_sheet(bytes, out);
+    }
+    print_sheet(&bytes[..n], out)
+}
+
+// Writes what the program prints for an input b. The first n bytes of `input` are those of b: all of b where it is shorter than the array, and as
+// many as the array has where it is not.
+pub fn print_input(input: &[u8; INPUT_ROOM], n: usize, out: &mut [u8; TEXT_ROOM]) -> usize
+    ensures { λ r. ⌜ ((b : List ℕ) → take (length (now (input .entry))) b ≡ take n (now (input .entry)) → PutsWithin textRoom (programText b) 0 (now (out .entry)) r (now (out .exit))) ⌝ }
+{
+    print_first(input, n, out)
 }
