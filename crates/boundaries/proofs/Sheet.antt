@@ -1,4 +1,4 @@
--- What an accepted sheet holds: a complex (`complex`), with at most 256 cells in each section (`count-le`). The search for a face may be made
+-- What an accepted sheet holds: a complex (`complex`), with at most `libraryLimit` cells in each section (`count-le`). The search for a face may be made
 -- (`rising`), and finds its place (`found`).
 use mathlib.Core.Path.{_≡_}
 use mathlib.Core.List.{List}
@@ -18,8 +18,8 @@ use Rattle.sheet.specs.declared.face.Found.the-variants.{At, Nothing}
 use Rattle.reports.specs.Call.{libraryLimit}
 use Rattle.boundaries.specs.Face.{Accepted, IsFace}
 
--- a cell has at most 4 vertices, and a section at most 256 cells
-pub few : (n i : ℕ) → n ≤ 4 → i ≤ 256 → n * i ≤ 4 * 256
+-- a cell has at most 4 vertices
+pub few : (n i : ℕ) → n ≤ 4 → i ≤ libraryLimit → n * i ≤ 4 * libraryLimit
 few n i h k = mul-le-mul h k
 
 -- the place that a search found; 0 where there is none
@@ -40,7 +40,7 @@ module _ {b : List ℕ} (bytes : Bytes b) (accepted : Accepted b) where
   pub complex : Complex top libraryLimit (sectionsOf b)
   complex = accepted-complex libraryLimit b bytes (accepted .none-applies)
 
-  pub count-le : (p : ℕ) → count (sectionsOf b) p ≤ 256
+  pub count-le : (p : ℕ) → count (sectionsOf b) p ≤ libraryLimit
   count-le p = complex .within p
 
   pub rising : {p j a n at many : ℕ} → Looked b p j a n at many → Rising (cellsOf b n many at)

@@ -11,18 +11,10 @@ ghost use Rattle.boundaries.specs.Face.{Accepted, Sums, AddsFaces};
 use crate::face::face_place;
 use crate::face::sign;
 use sheet::field::count;
-
-pub struct Chain {
-    pub length: usize,
-}
-
-impl Chain {
-    // The greatest absolute value of a given coefficient.
-    pub const COEFFICIENT_LIMIT: i32 = 32767;
-}
+use sheet::reader::Sheet;
 
 // No section of an accepted sheet has more cells.
-pub const CELLS: usize = 256;
+const CELLS: usize = Sheet::LIBRARY_LIMIT;
 
 // Check 11: whether a coefficient lies outside the limit.
 pub fn coefficient_exceeds(chain: &[i32]) -> bool
@@ -31,10 +23,10 @@ pub fn coefficient_exceeds(chain: &[i32]) -> bool
     let mut i: usize = 0;
     while i < chain.len() {
         let x = chain[i];
-        if x < -Chain::COEFFICIENT_LIMIT {
+        if x < -Sheet::COEFFICIENT_LIMIT {
             return true;
         }
-        if Chain::COEFFICIENT_LIMIT < x {
+        if Sheet::COEFFICIENT_LIMIT < x {
             return true;
         }
         i = i + 1;

@@ -26,7 +26,8 @@ use Rattle.lines.specs.Matrices.{contents, Holds, Exceeds}
 use Rattle.lines.specs.declared.matrix.Matrix.{Matrix}
 use Rattle.operations.specs.Laid.{Laid, linesOf, stateOf}
 use Rattle.operations.proofs.Regions.{lines-off, lines-on}
-use Rattle.calls.specs.Slices.{matrixAt, firstLayout, secondLayout, firstLayoutOf, secondLayoutOf}
+use Rattle.operations.specs.Layouts.{matrixAt, firstLayout, secondLayout}
+use Rattle.calls.specs.Slices.{firstLayoutOf, secondLayoutOf}
 use Rattle.calls.proofs.Places.{second-laid, matrix-row-inverse, matrix-row-follower}
 use Rattle.calls.proofs.Filling.{state-is, lines-absent}
 

@@ -21,7 +21,8 @@ use Rattle.lines.specs.declared.matrix.Matrix.{Matrix}
 use Rattle.operations.specs.Laid.{Laid, linesOf, stateOf}
 use Rattle.operations.specs.declared.layout.Layout.{Layout}
 use Rattle.operations.proofs.Regions.{disjoint-sym, contents-off, lines-off, lines-on}
-use Rattle.calls.specs.Slices.{firstLayout, firstLayoutOf, Filled, matrixAt}
+use Rattle.operations.specs.Layouts.{matrixAt, firstLayout}
+use Rattle.calls.specs.Slices.{firstLayoutOf, Filled}
 use Rattle.calls.proofs.Places.{first-laid, held-column-follower, held-column-inverse, matrix-column-follower, matrix-column-inverse, column-follower-inverse}
 
 -- ---- a slice of zeros

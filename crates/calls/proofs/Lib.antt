@@ -1,7 +1,6 @@
--- What the proofs of the crate share: products of counts (`Room`), where the matrices stand (`Places`), the sheet (`Sheet`), the start of the first
+-- What the proofs of the crate share: where the matrices stand (`Places`), the sheet (`Sheet`), the start of the first
 -- reduction (`Filling`) and of the second (`Between`), what the two come to (`Outcomes`) and that it can be written (`Writing`), the refusals before
 -- them (`Refusals`), and what the calls answer (`Answering`, `ReportAnswers`, `CoordinateAnswers`).
-mod Room
 mod Places
 mod Sheet
 mod Filling

@@ -37,7 +37,8 @@ use Rattle.reducer.specs.Answer.{Cleared, StillSmall, Reduces, ReductionDone, R
 use Rattle.reducer.specs.declared.reduction.Reduction.{Reduction}
 use Rattle.reducer.specs.declared.reduction.Reduction.the-variants as reduction
 use Rattle.writers.specs.declared.reduced.Reduced.{Reduced}
-use Rattle.calls.specs.Slices.{firstLayout, secondLayout, firstLayoutOf, secondLayoutOf, Filled, TwiceReduced, ReducedTwice}
+use Rattle.operations.specs.Layouts.{firstLayout, secondLayout}
+use Rattle.calls.specs.Slices.{firstLayoutOf, secondLayoutOf, Filled, TwiceReduced, ReducedTwice}
 use Rattle.calls.specs.declared.reductions.Reductions.{Reductions}
 use Rattle.calls.specs.declared.reductions.Reductions.the-variants.{Done, Refused}
 use Rattle.calls.proofs.Places.{held-row-follower}

@@ -7,7 +7,7 @@ use Rattle.lines.specs.Matrices.{Held}
 use Rattle.operations.specs.Laid.{Laid}
 use Rattle.operations.specs.declared.layout.Layout.{Layout}
 use Rattle.operations.proofs.Regions.{Disjoint}
-use Rattle.calls.specs.Slices.{firstLayout, secondLayout}
+use Rattle.operations.specs.Layouts.{firstLayout, secondLayout}
 
 module _ {n : ℕ} (cells rows columns : ℕ) (slots : cells * (2 * cells + max rows columns) ≤ n) where
   -- the room for the matrix, then two squares

@@ -19,7 +19,8 @@ use Rattle.sheet_format.specs.SheetLaws.{count-sectionsOf}
 use Rattle.sheet.specs.Read.{ReadsBelow}
 use Rattle.reports.specs.Call.{libraryLimit, workSlots}
 use Rattle.boundaries.specs.Face.{Accepted}
-use Rattle.calls.specs.Slices.{firstLayout, secondLayout, firstLayoutOf, secondLayoutOf}
+use Rattle.operations.specs.Layouts.{firstLayout, secondLayout}
+use Rattle.calls.specs.Slices.{firstLayoutOf, secondLayoutOf}
 
 pub rows-none : (b : List ℕ) (p : ℕ) → p ≡ 0 → countBelow (sectionsOf b) p ≡ 0
 unfolding countBelow

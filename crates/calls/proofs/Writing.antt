@@ -18,7 +18,8 @@ use Rattle.lines.specs.Slice.{at}
 use Rattle.operations.specs.Laid.{Laid, stateOf}
 use Rattle.writers.specs.Written.{Kinds, CanReport, CanCoordinate}
 use Rattle.writers.specs.declared.reduced.Reduced.{Reduced}
-use Rattle.calls.specs.Slices.{secondLayout, ReducedTwice}
+use Rattle.operations.specs.Layouts.{secondLayout}
+use Rattle.calls.specs.Slices.{ReducedTwice}
 use Rattle.calls.proofs.Places.{second-laid}
 
 module _ {b : List ℕ} {p n : ℕ} {x : Reduced} {w : List ℤ} (complex : Complex top libraryLimit (sectionsOf b)) (slots : workSlots (sectionsOf b) p ≤ n)

@@ -1,7 +1,7 @@
 -- Where the matrices of the two reductions stand in the work slice, and what the two come to.
 use mathlib.Core.Path.{_≡_}
 use mathlib.Core.List.{List}
-use Prim.Native.Nat.{ℕ, suc, _+_, _*_, _-_, _≤_, max}
+use Prim.Native.Nat.{ℕ, suc, _≤_}
 use lib.ListN.{length}
 use lib.IntN.{ℤ}
 use Rattle.complexes.specs.Complex.{count}
@@ -9,40 +9,16 @@ use Rattle.complexes.specs.Boundary.{countBelow}
 use Rattle.sheet_format.specs.Check.{sectionsOf}
 use Rattle.reports.specs.Reductions as reports
 use Rattle.reports.specs.Reductions.{firstStart}
-use Rattle.lines.specs.declared.matrix.Matrix.{Matrix}
 use Rattle.operations.specs.Laid.{stateOf}
+use Rattle.operations.specs.Layouts.{firstLayout, secondLayout}
 use Rattle.operations.specs.declared.layout.Layout.{Layout}
 use Rattle.reducer.specs.Answer.{Cleared, StillSmall}
 use Rattle.writers.specs.declared.reduced.Reduced.{Reduced}
 use Rattle.calls.specs.declared.reductions.Reductions.{Reductions}
 use Rattle.calls.specs.declared.reductions.Reductions.the-variants.{Done, Refused}
 
--- ---- where the matrices stand
+-- ---- where the matrices of dimension p of the sheet b stand
 
-abbrev pub matrixAt : ℕ → ℕ → ℕ → Matrix
-matrixAt at lines width = record { at = at; lines = lines; width = width }
-
-unfoldable pub firstLayout : ℕ → ℕ → ℕ → Layout
-firstLayout cells rows columns =
-    record {
-      matrix = matrixAt 0 rows cells;
-      «row_inverse» = matrixAt (cells * max rows columns) rows 0;
-      «row_follower» = matrixAt (cells * max rows columns) rows 0;
-      «column_follower» = matrixAt (cells * max rows columns) cells cells;
-      «column_inverse» = matrixAt (cells * max rows columns + cells * cells) cells cells;
-    }
-
-unfoldable pub secondLayout : ℕ → ℕ → ℕ → ℕ → Layout
-secondLayout cells rows columns rank =
-    record {
-      matrix = matrixAt 0 (cells - rank) columns;
-      «row_inverse» = matrixAt (cells * max rows columns + rank * cells) (cells - rank) cells;
-      «row_follower» = matrixAt (cells * max rows columns + cells * cells + rank * cells) (cells - rank) cells;
-      «column_follower» = matrixAt (cells * max rows columns + 2 * (cells * cells)) columns 0;
-      «column_inverse» = matrixAt (cells * max rows columns + 2 * (cells * cells)) columns 0;
-    }
-
--- those of dimension p of the sheet b
 abbrev pub firstLayoutOf : List ℕ → ℕ → Layout
 firstLayoutOf b p = firstLayout (count (sectionsOf b) p) (countBelow (sectionsOf b) p) (count (sectionsOf b) (suc p))
 

@@ -6,10 +6,10 @@ use crate::answer::Answer;
 use crate::reductions::Reductions;
 use crate::reductions::reduce_twice;
 use crate::reductions::rows_of;
-use crate::slices::work_slots;
 use boundaries::chain::boundary_not_zero;
 use boundaries::chain::coefficient_exceeds;
 use lines::line::clear;
+use operations::layout::Layout;
 use refusal::Refusal;
 use sheet::field::TOP;
 use sheet::field::count;
@@ -40,7 +40,7 @@ pub fn coordinates_at(
     if coordinates.len() < cells {
         return Answer::Refused(Refusal::SliceTooShort);
     }
-    if work.len() < work_slots(cells, rows_of(s, p), count(s, p + 1)) {
+    if work.len() < Layout::work_slots(cells, rows_of(s, p), count(s, p + 1)) {
         return Answer::Refused(Refusal::SliceTooShort);
     }
     if chain.len() != cells {

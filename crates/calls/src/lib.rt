@@ -3,4 +3,4 @@ pub mod answer;
 pub mod coordinates;
 pub mod reductions;
 pub mod report;
-pub mod slices;
+pub mod slots;

@@ -9,8 +9,6 @@ ghost use Rattle.sheet_format.specs.Check.{sectionsOf};
 ghost use Rattle.reports.specs.Call.{workSlots, reductionsOf};
 ghost use Rattle.boundaries.specs.Face.{Accepted};
 ghost use Rattle.calls.specs.Slices.{firstLayoutOf, Filled, TwiceReduced};
-use crate::slices::first_layout;
-use crate::slices::second_layout;
 use boundaries::fill::fill_boundary;
 use boundaries::fill::fill_identity;
 use boundaries::product::multiply;
@@ -59,12 +57,12 @@ pub fn reduce_twice(s: &[u8], p: usize, w: &mut [i32]) -> Reductions
     let cells = count(s, p);
     let rows = rows_of(s, p);
     let columns = count(s, p + 1);
-    let first = first_layout(cells, rows, columns);
+    let first = Layout::first(cells, rows, columns);
     fill_first(s, p, first, w);
     let Reduction::Done(rank) = reduce_matrix(first, w) else {
         return Reductions::Refused(Refusal::TooWide);
     };
-    let second = second_layout(cells, rows, columns, rank);
+    let second = Layout::second(cells, rows, columns, rank);
     let Effect::Done = multiply(s, p, second.row_follower, second.matrix, w) else {
         clear(w);
         return Reductions::Refused(Refusal::TooWide);

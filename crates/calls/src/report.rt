@@ -6,8 +6,8 @@ use crate::answer::Answer;
 use crate::reductions::Reductions;
 use crate::reductions::reduce_twice;
 use crate::reductions::rows_of;
-use crate::slices::work_slots;
 use lines::line::clear;
+use operations::layout::Layout;
 use refusal::Refusal;
 use sheet::field::TOP;
 use sheet::field::count;
@@ -37,7 +37,7 @@ pub fn report_at(
     if report.len() < 2 + cells + cells * cells {
         return Answer::Refused(Refusal::SliceTooShort);
     }
-    if work.len() < work_slots(cells, rows_of(s, p), count(s, p + 1)) {
+    if work.len() < Layout::work_slots(cells, rows_of(s, p), count(s, p + 1)) {
         return Answer::Refused(Refusal::SliceTooShort);
     }
     let Reductions::Done(reduced) = reduce_twice(s, p, work) else {

@@ -8,18 +8,16 @@ ghost use Rattle.fildwuk.specs.Answer.{HostAnswers, AnswersChain};
 use calls::answer::Answer;
 use calls::coordinates::coordinates_at;
 use calls::report::report_at;
+use calls::slots::REPORT_SLOTS;
+use calls::slots::WORK_SLOTS;
 use little_endian::read_chain;
 use little_endian::smaller;
 use little_endian::write_numbers;
 use sheet::field::count;
 use sheet::reader::Sheet;
 
-// The slots for Sheet::HOST_LIMIT cells.
-const CELLS: usize = 48;
-
-const REPORT_SLOTS: usize = 2354;
-
-const WORK_SLOTS: usize = 6912;
+// The slots of the coefficients and coordinates.
+const CELLS: usize = Sheet::HOST_LIMIT;
 
 // The report of a dimension, by way of the numbers.
 fn report_through(

@@ -1,4 +1,4 @@
--- Lines of a slice, and what an operation on them leaves. A slice is the list of its entries.
+-- Lines of a slice, and what an operation on them leaves. A slice is the list of its entries; here `limit` is the limit of an entry.
 use mathlib.Core.Path.{_≡_}
 use mathlib.Core.Logic.{_⊎_, _≢_}
 use mathlib.Core.Bool.{Bool, true, false}
@@ -6,12 +6,9 @@ use mathlib.Core.List.{List}
 use Prim.Native.Nat.{ℕ, _+_, _*_, _<_, _≤_}
 use lib.ListN.{length, getD}
 use lib.IntN.{ℤ, pos, negℤ, natAbs, _-ℤ_, _*ℤ_}
+pub use Rattle.limits.specs.Limits.{entryLimit as limit}
 use Rattle.lines.specs.declared.line.Effect.{Effect}
 use Rattle.lines.specs.declared.line.Effect.the-variants.{Done, TooWide}
-
--- the greatest absolute value of an entry: document 01's W
-abbrev pub limit : ℕ
-limit = 1048575
 
 -- the entry at place i, 0 past the end
 abbrev pub at : List ℤ → ℕ → ℤ

@@ -4,8 +4,13 @@ ghost use mathlib.Core.List.{_++_};
 ghost use Prim.Native.Nat.{ℕ, _+_, _*_, _≤_, _<_, min};
 ghost use lib.ListN.{length, take, drop, replicate};
 ghost use lib.IntN.{ℤ, pos};
+ghost use Rattle.reports.specs.Call.{hostLimit};
 ghost use Rattle.reports.specs.Host.{numberBytes, numbersBytes, coefficientAt};
 ghost use Rattle.little_endian.specs.Bytes.{SameBits, ReadsChain};
+use sheet::reader::Sheet;
+
+// A chain has at most this many coefficients.
+const CELLS: usize = Sheet::HOST_LIMIT;
 
 pub fn smaller(a: usize, b: usize) -> usize
     ensures { λ r. ⌜ r ≡ min a b ⌝ }
@@ -66,11 +71,11 @@ fn read_coefficient(b: &[u8], at: usize) -> i32
 }
 
 // Reads a chain of n coefficients over zeros, and answers n; where the bytes are not 4 times n, or n exceeds the room, another length.
-pub fn read_chain(chain: &[u8], n: usize, coefficients: &mut [i32; 48]) -> usize
-    requires { ⌜ (n < 65536) × (now coefficients ≡ replicate 48 (pos 0)) ⌝ }
+pub fn read_chain(chain: &[u8], n: usize, coefficients: &mut [i32; CELLS]) -> usize
+    requires { ⌜ (n < 65536) × (now coefficients ≡ replicate hostLimit (pos 0)) ⌝ }
     ensures { λ r. ⌜ ReadsChain (now (chain .entry)) n r (now (coefficients .exit)) ⌝ }
 {
-    if 48 < n || chain.len() != 4 * n {
+    if CELLS < n || chain.len() != 4 * n {
         return if n == 0 { 1 } else { 0 };
     }
     let mut i: usize = 0;

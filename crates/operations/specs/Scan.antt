@@ -11,6 +11,10 @@ use Rattle.operations.specs.declared.pivot.Pivot.the-variants as pivot
 use Rattle.operations.specs.declared.remainder.Indivisible.{Indivisible}
 use Rattle.operations.specs.declared.remainder.Indivisible.the-variants as indivisible
 
+-- no entry is chosen yet
+abbrev pub noBest : Best
+noBest = record { size = pos 0; row = 0; column = 0 }
+
 -- the place that the scan has chosen so far
 abbrev pub choiceAt : ℤ → ℕ → ℕ → Choice
 choiceAt (pos zero) i j = none

@@ -6,7 +6,7 @@ ghost use Rattle.reduction_steps.specs.Pivot as steps;
 ghost use lib.IntN.{pos, natAbs};
 ghost use Rattle.lines.specs.Slice.{limit, Small};
 ghost use Rattle.lines.specs.Matrices.{Held, contents};
-ghost use Rattle.operations.specs.Scan.{IsBest, choiceOf, pivotChoice};
+ghost use Rattle.operations.specs.Scan.{noBest, IsBest, choiceOf, pivotChoice};
 use lines::matrix::Matrix;
 
 // The entry chosen so far: its absolute value, 0 where there is none, and its place.
@@ -14,6 +14,19 @@ pub struct Best {
     pub size: i64,
     pub row: usize,
     pub column: usize,
+}
+
+impl Best {
+    // Before the first entry.
+    fn none() -> Best
+        ensures { λ r. ⌜ r ≡ noBest ⌝ }
+    {
+        Best {
+            size: 0,
+            row: 0,
+            column: 0,
+        }
+    }
 }
 
 pub enum Pivot {
@@ -79,11 +92,7 @@ pub fn find_pivot(m: Matrix, w: &[i32], k: usize) -> Pivot
     requires { ⌜ k ≤ m .width ⌝ }
     ensures { λ r. ⌜ pivotChoice r ≡ steps.release1 (m .lines) (m .width) k (contents m (now (w .entry))) ⌝ }
 {
-    let mut best = Best {
-        size: 0,
-        row: 0,
-        column: 0,
-    };
+    let mut best = Best::none();
     let mut i = k;
     let lines = m.lines;
     while i < lines {

@@ -23,6 +23,7 @@ use Rattle.reports.specs.TextLaws.{reportText-reportList}
 use Rattle.answers.specs.ReportCall.{report-output}
 use Rattle.answers.specs.HostSizes.{Sized, ReportSized, WentWide, report-sized, accepted-passes, accepted-refused}
 use Rattle.text.specs.Put.{PutsWithin}
+use Rattle.text.specs.Room.{lineRoom, dimensionRoom}
 use Rattle.text.specs.PutLaws.{within-more}
 use Rattle.writers.specs.declared.reduced.Counts.{Counts}
 use Rattle.calls.specs.declared.answer.Answer.the-variants.{Done, Refused}
@@ -42,10 +43,10 @@ pub record ReportRoom (cells t f : ℕ) (report : List ℤ) : Type 0 where
 module _ (limit : ℕ) (host : limit ≡ hostLimit) (b : List ℕ) (accepted : refusal hostLimit b ≡ 0) (p : ℕ) (dimension : p ≤ top) (report work : List ℤ)
     (size : length report ≡ reportRoom) (space : length work ≡ workRoom) (at : ℕ) (out : List ℕ) where
   pub refused-text : (x : Refusal) (after work′ : List ℤ) (r : ℕ) (out′ : List ℕ) → CallAnswers (reportCall limit b p report work) (Refused x) after work′
-      → PutsWithin 23 (refusalLine (numberOf x)) at out r out′ → PutsWithin 60000 (textOf b p) at out r out′
+      → PutsWithin (lineRoom 1) (refusalLine (numberOf x)) at out r out′ → PutsWithin dimensionRoom (textOf b p) at out r out′
   unfolding dimensionText
   refused-text x after work′ r out′ a puts =
-      subst (λ (text : List ℕ). PutsWithin 60000 text at out r out′) same (within-more (omega arith) puts)
+      subst (λ (text : List ℕ). PutsWithin dimensionRoom text at out r out′) same (within-more (omega arith) puts)
     where
       w : WentWide b p (numberOf x)
       w = accepted-refused b accepted p dimension report work size space (numberOf x) (rw host at (sym (a .answer)))
@@ -70,8 +71,8 @@ module _ (limit : ℕ) (host : limit ≡ hostLimit) (b : List ℕ) (accepted : r
         })
 
     pub done-text : (cells r : ℕ) (out′ : List ℕ) → cells ≡ countField b p
-        → PutsWithin 60000 (reportText p cells (x .torsion) (x .torsion + x .free) after) at out r out′ → PutsWithin 60000 (textOf b p) at out r out′
-    done-text cells r out′ is puts = subst (λ (text : List ℕ). PutsWithin 60000 text at out r out′) same puts
+        → PutsWithin dimensionRoom (reportText p cells (x .torsion) (x .torsion + x .free) after) at out r out′ → PutsWithin dimensionRoom (textOf b p) at out r out′
+    done-text cells r out′ is puts = subst (λ (text : List ℕ). PutsWithin dimensionRoom text at out r out′) same puts
       where
         s : Sized b p (x .free) (x .torsion)
         s = sizes .is-sized

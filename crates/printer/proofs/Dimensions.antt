@@ -11,6 +11,7 @@ use Rattle.sheet_format.specs.Layout.{top}
 use Rattle.reports.specs.HostCallLaws.{reportRoom, workRoom}
 use Rattle.reports.specs.Text.{dimensionsText}
 use Rattle.text.specs.Put.{PutsWithin}
+use Rattle.text.specs.Room.{dimensionRoom, textRoom}
 use Rattle.text.specs.PutLaws.{within-nothing, within-append, within-more, within-next}
 use Rattle.printer.proofs.Dimension.{textOf}
 
@@ -26,7 +27,7 @@ dimensionsText-suc b (suc k) q =
 -- the texts of the dimensions below p stand in `out`
 pub record Printed (b : List ℕ) (out₀ : List ℕ) (report work : List ℤ) (out : List ℕ) (next p : ℕ) : Type 0 where
   pub most : p ≤ suc top
-  pub puts : PutsWithin (60000 * p) (dimensionsText b p 0) 0 out₀ next out
+  pub puts : PutsWithin (dimensionRoom * p) (dimensionsText b p 0) 0 out₀ next out
   pub out-size : length out ≡ length out₀
   pub report-size : length report ≡ reportRoom
   pub work-size : length work ≡ workRoom
@@ -37,15 +38,15 @@ printed-none b out report work e h = record { most = zero-le; puts = within-noth
 
 module _ {b out₀ : List ℕ} {report work : List ℤ} {out : List ℕ} {next p : ℕ} (h : Printed b out₀ report work out next p) where
   -- there is room for the next dimension
-  pub printed-room : p ≤ top → 240000 ≤ length out₀ → next + 60000 ≤ length out
+  pub printed-room : p ≤ top → textRoom ≤ length out₀ → next + dimensionRoom ≤ length out
   printed-room le room = omega (arith, within-next (h .puts), h .out-size)
 
-  pub printed-more : (report′ work′ : List ℤ) (out′ : List ℕ) (next′ : ℕ) → p ≤ top → PutsWithin 60000 (textOf b p) next out next′ out′
+  pub printed-more : (report′ work′ : List ℤ) (out′ : List ℕ) (next′ : ℕ) → p ≤ top → PutsWithin dimensionRoom (textOf b p) next out next′ out′
       → length report′ ≡ length report → length work′ ≡ length work → length out′ ≡ length out → Printed b out₀ report′ work′ out′ next′ (p + 1)
   printed-more report′ work′ out′ next′ le puts re we oe =
       record {
         most = omega arith;
-        puts = subst (λ (text : List ℕ). PutsWithin (60000 * (p + 1)) text 0 out₀ next′ out′) same (within-more (omega arith) (within-append zero-le (h .puts) puts));
+        puts = subst (λ (text : List ℕ). PutsWithin (dimensionRoom * (p + 1)) text 0 out₀ next′ out′) same (within-more (omega arith) (within-append zero-le (h .puts) puts));
         out-size = oe ∙ h .out-size;
         report-size = re ∙ h .report-size;
         work-size = we ∙ h .work-size;
@@ -58,5 +59,5 @@ module _ {b out₀ : List ℕ} {report work : List ℤ} {out : List ℕ} {next p
           ∙ ap (λ (k : ℕ). dimensionsText b k 0) (sym (add-one p))
 
   -- all of them
-  pub printed-all : suc top ≤ p → PutsWithin (60000 * suc top) (dimensionsText b (suc top) 0) 0 out₀ next out
-  printed-all le = subst (λ (k : ℕ). PutsWithin (60000 * k) (dimensionsText b k 0) 0 out₀ next out) (omega (arith, h .most)) (h .puts)
+  pub printed-all : suc top ≤ p → PutsWithin textRoom (dimensionsText b (suc top) 0) 0 out₀ next out
+  printed-all le = subst (λ (k : ℕ). PutsWithin (dimensionRoom * k) (dimensionsText b k 0) 0 out₀ next out) (omega (arith, h .most)) (h .puts)

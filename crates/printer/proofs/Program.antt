@@ -11,6 +11,7 @@ use Rattle.refusal.specs.Number.{numberOf}
 use Rattle.reports.specs.Call.{hostLimit}
 use Rattle.reports.specs.Text.{refusalLine, dimensionsText, textFor, programText}
 use Rattle.text.specs.Put.{PutsWithin}
+use Rattle.text.specs.Room.{lineRoom, textRoom}
 use Rattle.text.specs.PutLaws.{within-more}
 
 -- the text for the number of a refusal is its line
@@ -31,14 +32,14 @@ textFor-number b BoundaryNotZero = refl
 textFor-number b TooWide = refl
 
 module _ (b : List ℕ) {at r : ℕ} {out out′ : List ℕ} where
-  pub refused-text : (x : Refusal) → refusal hostLimit b ≡ numberOf x → PutsWithin 23 (refusalLine (numberOf x)) at out r out′
-      → PutsWithin 240000 (programText b) at out r out′
+  pub refused-text : (x : Refusal) → refusal hostLimit b ≡ numberOf x → PutsWithin (lineRoom 1) (refusalLine (numberOf x)) at out r out′
+      → PutsWithin textRoom (programText b) at out r out′
   unfolding programText
-  refused-text x e puts = subst (λ (text : List ℕ). PutsWithin 240000 text at out r out′) same (within-more (omega arith) puts)
+  refused-text x e puts = subst (λ (text : List ℕ). PutsWithin textRoom text at out r out′) same (within-more (omega arith) puts)
     where
       same : refusalLine (numberOf x) ≡ textFor (refusal hostLimit b) b
       same = sym (textFor-number b x) ∙ ap (λ (n : ℕ). textFor n b) (sym e)
 
-  pub accepted-text : refusal hostLimit b ≡ 0 → PutsWithin 240000 (dimensionsText b (suc top) 0) at out r out′ → PutsWithin 240000 (programText b) at out r out′
+  pub accepted-text : refusal hostLimit b ≡ 0 → PutsWithin textRoom (dimensionsText b (suc top) 0) at out r out′ → PutsWithin textRoom (programText b) at out r out′
   unfolding programText textFor
-  accepted-text e puts = subst (λ (text : List ℕ). PutsWithin 240000 text at out r out′) (ap (λ (n : ℕ). textFor n b) (sym e)) puts
+  accepted-text e puts = subst (λ (text : List ℕ). PutsWithin textRoom text at out r out′) (ap (λ (n : ℕ). textFor n b) (sym e)) puts

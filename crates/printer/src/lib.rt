@@ -1,30 +1,30 @@
 // The text that the program prints for a sheet.
+pub mod room;
+
 ghost use mathlib.Core.Path.{_≡_};
-ghost use Prim.Native.Nat.{suc, _+_, _≤_};
-ghost use lib.ListN.{length};
+ghost use mathlib.Core.List.{List};
+ghost use Prim.Native.Nat.{ℕ, suc, _+_, _≤_};
+ghost use lib.ListN.{length, take};
 ghost use Rattle.complexes.specs.Complex.{count};
 ghost use Rattle.sheet_format.specs.Layout.{top};
 ghost use Rattle.sheet_format.specs.Check.{refusal, sectionsOf};
 ghost use Rattle.reports.specs.Text.{dimensionText, dimensionsText, programText};
 ghost use Rattle.reports.specs.Call.{hostLimit, reductionsOf};
 ghost use Rattle.reports.specs.HostCallLaws.{reportRoom, workRoom};
-ghost use Rattle.text.specs.Put.{Puts, PutsWithin};
+ghost use Rattle.text.specs.Put.{PutsWithin};
+ghost use Rattle.text.specs.Room.{dimensionRoom, textRoom};
+use crate::room::INPUT_ROOM;
+use crate::room::TEXT_ROOM;
 use calls::answer::Answer;
 use calls::report::report_at;
+use calls::slots::REPORT_SLOTS;
+use calls::slots::WORK_SLOTS;
 use sheet::field::TOP;
 use sheet::field::count as cells_of;
 use sheet::reader::Reading;
 use sheet::reader::Sheet;
 use text::line::put_refusal;
 use text::line::put_report;
-
-// The slots for Sheet::HOST_LIMIT cells.
-const REPORT_SLOTS: usize = 2354;
-
-const WORK_SLOTS: usize = 6912;
-
-// The bytes that the text of a sheet takes at most.
-pub const TEXT_ROOM: usize = 240000;
 
 // Writes the text of dimension p of an accepted sheet.
 fn put_dimension(
@@ -35,9 +35,9 @@ fn put_dimension(
     out: &mut [u8],
     at: usize,
 ) -> usize
-    requires { ⌜ (refusal hostLimit (now s) ≡ 0) × (p ≤ top) × (at + 60000 ≤ length (now out)) ⌝ }
+    requires { ⌜ (refusal hostLimit (now s) ≡ 0) × (p ≤ top) × (at + dimensionRoom ≤ length (now out)) ⌝ }
     requires { ⌜ (length (now report) ≡ reportRoom) × (length (now work) ≡ workRoom) ⌝ }
-    ensures { λ r. ⌜ PutsWithin 60000 (dimensionText p (count (sectionsOf (now (s .entry))) p) (reductionsOf (now (s .entry)) p)) at (now (out .entry)) r (now (out .exit)) ⌝ }
+    ensures { λ r. ⌜ PutsWithin dimensionRoom (dimensionText p (count (sectionsOf (now (s .entry))) p) (reductionsOf (now (s .entry)) p)) at (now (out .entry)) r (now (out .exit)) ⌝ }
 {
     match report_at(Sheet::host(), s, p as u32, report, work) {
         Answer::Refused(refusal) => put_refusal(refusal, out, at),
@@ -58,9 +58,9 @@ fn put_dimension(
 
 // Writes the text of every dimension of an accepted sheet.
 fn put_dimensions(s: &[u8], report: &mut [i64], work: &mut [i32], out: &mut [u8]) -> usize
-    requires { ⌜ (refusal hostLimit (now s) ≡ 0) × (240000 ≤ length (now out)) ⌝ }
+    requires { ⌜ (refusal hostLimit (now s) ≡ 0) × (textRoom ≤ length (now out)) ⌝ }
     requires { ⌜ (length (now report) ≡ reportRoom) × (length (now work) ≡ workRoom) ⌝ }
-    ensures { λ r. ⌜ PutsWithin 240000 (dimensionsText (now (s .entry)) (suc top) 0) 0 (now (out .entry)) r (now (out .exit)) ⌝ }
+    ensures { λ r. ⌜ PutsWithin textRoom (dimensionsText (now (s .entry)) (suc top) 0) 0 (now (out .entry)) r (now (out .exit)) ⌝ }
 {
     let mut next: usize = 0;
     let mut p: usize = 0;
@@ -73,7 +73,7 @@ fn put_dimensions(s: &[u8], report: &mut [i64], work: &mut [i32], out: &mut [u8]
 
 // Writes what the program prints for a sheet.
 pub fn print_sheet(s: &[u8], out: &mut [u8; TEXT_ROOM]) -> usize
-    ensures { λ r. ⌜ PutsWithin 240000 (programText (now (s .entry))) 0 (now (out .entry)) r (now (out .exit)) ⌝ }
+    ensures { λ r. ⌜ PutsWithin textRoom (programText (now (s .entry))) 0 (now (out .entry)) r (now (out .exit)) ⌝ }
 {
     match Sheet::host().read(s) {
         Reading::Refused(refusal) => put_refusal(refusal, out, 0),
@@ -83,4 +83,22 @@ pub fn print_sheet(s: &[u8], out: &mut [u8; TEXT_ROOM]) -> usize
             put_dimensions(s, &mut report, &mut work, out)
         }
     }
+}
+
+// Writes what the program prints for the sheet of the first n bytes, or of all where there are no more.
+fn print_first(bytes: &[u8], n: usize, out: &mut [u8; TEXT_ROOM]) -> usize
+    ensures { λ r. ⌜ PutsWithin textRoom (programText (take n (now (bytes .entry)))) 0 (now (out .entry)) r (now (out .exit)) ⌝ }
+{
+    if bytes.len() <= n {
+        return print_sheet(bytes, out);
+    }
+    print_sheet(&bytes[..n], out)
+}
+
+// Writes what the program prints for an input b. The first n bytes of `input` are those of b: all of b where it is shorter than the array, and as
+// many as the array has where it is not.
+pub fn print_input(input: &[u8; INPUT_ROOM], n: usize, out: &mut [u8; TEXT_ROOM]) -> usize
+    ensures { λ r. ⌜ ((b : List ℕ) → take (length (now (input .entry))) b ≡ take n (now (input .entry)) → PutsWithin textRoom (programText b) 0 (now (out .entry)) r (now (out .exit))) ⌝ }
+{
+    print_first(input, n, out)
 }

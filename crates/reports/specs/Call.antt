@@ -6,6 +6,7 @@ use Prim.Native.Nat.{ℕ, zero, suc, _+_, _*_, max}
 use lib.Dec.{eqb, ltb}
 use lib.ListN.{length, getD, drop, replicate}
 use lib.IntN.{ℤ, pos, natAbs}
+pub use Rattle.limits.specs.Limits.{libraryLimit, hostLimit, entryLimit, coefficientLimit}
 use Rattle.matrices.specs.Vector.{apply}
 use Rattle.complexes.specs.Complex.{Sections, count}
 use Rattle.complexes.specs.Boundary.{countBelow, boundary}
@@ -15,22 +16,6 @@ use Rattle.reduction_steps.specs.State.{State}
 use Rattle.reduction_steps.specs.Pivot.{release1}
 use Rattle.reports.specs.Reductions.{Reductions, tooWide, reduced, reductions}
 use Rattle.reports.specs.Report.{freeRank, torsionCount, reportList, coordinateList}
-
--- ---- the limits
-
--- for a count, in the library and in the program and the host calls
-abbrev pub libraryLimit : ℕ
-libraryLimit = 256
-
-abbrev pub hostLimit : ℕ
-hostLimit = 48
-
--- for the absolute value of an entry, W, and of a given coefficient
-abbrev pub entryLimit : ℕ
-entryLimit = 1048575
-
-abbrev pub coefficientLimit : ℕ
-coefficientLimit = 32767
 
 -- ---- the slots that check 9 asks for
 

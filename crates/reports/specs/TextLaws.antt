@@ -1,20 +1,24 @@
 -- The text of a report: spaced-append and spaced-suc (fields one behind the other), generatorsText-suc (one line more), reportText-reportList (the numbers of the
--- report of a dimension, whatever follows them, give the text of the dimension).
+-- report of a dimension, whatever follows them, give the text of the dimension); programText-take (the text of a sheet is settled by its first bytes).
 use mathlib.Core.Path.{_≡_, refl, sym, _∙_, ap, ap₂}
 use mathlib.Core.List.{List, [], _∷_, _++_, map, append-assoc, append-nil}
 use Prim.Native.Nat.{ℕ, zero, suc, _+_, _*_, _<_}
 use native.Mathlib.Nat.{zero-mul, suc-mul}
 use native.Mathlib.Omega.{arith}
 use lib.ListN.{length, getD, take, drop, length-map}
-use lib.Seq.{take-suc, take-at, drop-at, drop-drop}
+use lib.Seq.{take-suc, take-at, take-all, drop-at, drop-drop}
 use lib.IntN.{ℤ, pos}
 use Rattle.lists.specs.Tabulate.{tabulate}
 use Rattle.lists.specs.TabulateLaws.{length-tabulate}
+use Rattle.sheet_format.specs.Layout.{longest}
+use Rattle.sheet_format.specs.Check.{refusal}
+use Rattle.sheet_format.specs.Prefix.{accepted-length, refusal-take}
 use Rattle.reduction_steps.specs.Table.{entry}
 use Rattle.reduction_steps.specs.State.{State}
 use Rattle.reports.specs.Reductions.{reduced}
 use Rattle.reports.specs.Report.{kind, reported, columnsOf, freeRank, torsionCount, reportList}
-use Rattle.reports.specs.Text.{decimal, spaced, line, generatorLines, generatorsText, dimensionText, reportText}
+use Rattle.reports.specs.Call.{hostLimit}
+use Rattle.reports.specs.Text.{decimal, spaced, line, generatorLines, generatorsText, dimensionText, textFor, programText, reportText}
 
 pub spaced-append : (a b : List ℤ) → spaced (a ++ b) ≡ spaced a ++ spaced b
 unfolding spaced
@@ -81,3 +85,12 @@ reportText-reportList p n s r x rest =
 
     length-front : length front ≡ 2 + torsionCount r x
     length-front = omega (arith, length-map (reported (kind x) r) (kind x))
+
+-- an accepted sheet has no more than the first n bytes, and a refused one is told by its number alone
+pub programText-take : (b : List ℕ) (n : ℕ) → longest hostLimit < n → programText (take n b) ≡ programText b
+unfolding programText textFor
+programText-take b n h = settled (refusal hostLimit b) refl
+  where
+    settled : (k : ℕ) → refusal hostLimit b ≡ k → textFor (refusal hostLimit (take n b)) (take n b) ≡ textFor (refusal hostLimit b) b
+    settled zero e = ap programText (take-all n b (omega (arith, accepted-length hostLimit b e)))
+    settled (suc k) e = rw (refusal-take hostLimit b n h, e)

@@ -1,5 +1,6 @@
 // The checks 1 to 7 in document 01's order.
 ghost use mathlib.Core.Path.{_≡_};
+ghost use Rattle.limits.specs.Limits.{libraryLimit, hostLimit};
 ghost use Rattle.sheet_format.specs.Check.{refusal};
 ghost use Rattle.sheet.specs.Number.{readingNumber};
 use crate::check::cells_do_not_rise;
@@ -23,13 +24,18 @@ pub enum Reading {
 }
 
 impl Sheet {
+    // The greatest count in the library's calls.
     pub const LIBRARY_LIMIT: usize = 256;
 
+    // The greatest count in the program and the host calls.
     pub const HOST_LIMIT: usize = 48;
+
+    // The greatest absolute value of a coefficient of a given chain.
+    pub const COEFFICIENT_LIMIT: i32 = 32767;
 
     // The sheet of the library's calls.
     pub fn library() -> Sheet
-        ensures { λ r. do ⌜ r .limit ≡ (← ⟦Self::LIBRARY_LIMIT⟧ .entry) ⌝ }
+        ensures { λ r. ⌜ r .limit ≡ libraryLimit ⌝ }
     {
         Sheet {
             limit: Self::LIBRARY_LIMIT,
@@ -38,7 +44,7 @@ impl Sheet {
 
     // The sheet of the program and the host calls.
     pub fn host() -> Sheet
-        ensures { λ r. do ⌜ r .limit ≡ (← ⟦Self::HOST_LIMIT⟧ .entry) ⌝ }
+        ensures { λ r. ⌜ r .limit ≡ hostLimit ⌝ }
     {
         Sheet {
             limit: Self::HOST_LIMIT,

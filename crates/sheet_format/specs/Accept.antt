@@ -10,6 +10,7 @@ use native.Mathlib.Decide.{decLe}
 use native.Mathlib.Omega.{arith}
 use lib.ListN.{length, getD}
 use lib.Seq.{ext-getD}
+use Rattle.limits.specs.Limits.{libraryLimit}
 use Rattle.complexes.specs.Cell.{Cell}
 use Rattle.complexes.specs.Complex.{Sections, section, count, cell, Complex}
 use Rattle.sheet_format.specs.Layout.{top, start, layout}
@@ -90,13 +91,13 @@ module _ {limit : ℕ} {K : Sections} (complex : Complex top limit K) where
         same : (p : ℕ) → count (sectionsOf b) p ≡ count K p
         same p = count-sectionsOf b p ∙ reads-count p
 
-  pub reads-layout : limit ≤ 256 → Reads (layout K) K
+  pub reads-layout : limit ≤ libraryLimit → Reads (layout K) K
   reads-layout small = carries-layout complex small (layout K) (bytes-layout K) .0 (carries-self (layout K))
 
-  pub sections-layout : limit ≤ 256 → sectionsOf (layout K) ≡ K
+  pub sections-layout : limit ≤ libraryLimit → sectionsOf (layout K) ≡ K
   sections-layout small = reads-sections (reads-layout small)
 
-  pub accepted-layout : limit ≤ 256 → refusal limit (layout K) ≡ 0
+  pub accepted-layout : limit ≤ libraryLimit → refusal limit (layout K) ≡ 0
   unfolding start
   accepted-layout small = refusal-zero limit (layout K) .1 (record {
     long = tooShort-false (layout K) .1 (rw (length-layout complex) (start-mono (count K) 0 (suc top) (omega arith)));
@@ -111,7 +112,7 @@ module _ {limit : ℕ} {K : Sections} (complex : Complex top limit K) where
       r : Reads (layout K) K
       r = reads-layout small
 
-pub layout-injective : {limit : ℕ} → limit ≤ 256 → {K L : Sections} → Complex top limit K → Complex top limit L → layout K ≡ layout L → K ≡ L
+pub layout-injective : {limit : ℕ} → limit ≤ libraryLimit → {K L : Sections} → Complex top limit K → Complex top limit L → layout K ≡ layout L → K ≡ L
 layout-injective small k l e = sym (sections-layout k small) ∙ ap sectionsOf e ∙ sections-layout l small
 
 -- ---- an accepted sheet is the layout of what is read from it
@@ -130,7 +131,7 @@ accepted-reads limit b e = record {
     starts : (p : ℕ) → startAt b p ≡ start (count (sectionsOf b)) p
     starts p = start-ext (countField b) (count (sectionsOf b)) p (λ q _. sym (count-sectionsOf b q))
 
-pub layout-sections : (limit : ℕ) → limit ≤ 256 → (b : List ℕ) → Bytes b → refusal limit b ≡ 0 → layout (sectionsOf b) ≡ b
+pub layout-sections : (limit : ℕ) → limit ≤ libraryLimit → (b : List ℕ) → Bytes b → refusal limit b ≡ 0 → layout (sectionsOf b) ≡ b
 layout-sections limit small b h e =
     carries-all b (layout (sectionsOf b)) (carries-layout complex small b h .1 (accepted-reads limit b e))
     (length-layout complex
@@ -140,7 +141,7 @@ layout-sections limit small b h e =
     complex : Complex top limit (sectionsOf b)
     complex = accepted-complex limit b h e
 
-pub accepted-iff : (limit : ℕ) → limit ≤ 256 → (b : List ℕ) → Bytes b → (refusal limit b ≡ 0) ↔ IsSheet limit b
+pub accepted-iff : (limit : ℕ) → limit ≤ libraryLimit → (b : List ℕ) → Bytes b → (refusal limit b ≡ 0) ↔ IsSheet limit b
 accepted-iff limit small b h = (
   λ e. record { cells = sectionsOf b; complex = accepted-complex limit b h e; bytes = layout-sections limit small b h e },
   λ s. subst (λ (x : List ℕ). refusal limit x ≡ 0) (s .bytes) (accepted-layout (s .complex) small),

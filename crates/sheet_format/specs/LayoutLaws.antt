@@ -10,6 +10,7 @@ use native.Mathlib.Nat.{le-of-suc-le-suc, add-zero, zero-add}
 use native.Mathlib.Numerals.{add-one}
 use native.Mathlib.Omega.{arith}
 use lib.ListN.{length, getD, length-append}
+use Rattle.limits.specs.Limits.{libraryLimit}
 use Rattle.complexes.specs.Cell.{Cell}
 use Rattle.complexes.specs.Complex.{Sections, section, count, cell, Complex}
 use Rattle.sheet_format.specs.Layout.{top, field, cellBytes, sectionBytes, sectionsBytes, start, headerBytes, layout}
@@ -193,7 +194,7 @@ module _ {limit : ℕ} {K : Sections} (complex : Complex top limit K) where
       ∙ length-pieces (length K) (start (count K)) (λ p. sectionBytes (section K p)) sections-starts
       ∙ ap (start (count K)) (complex .dimensions)
 
-  start-small : limit ≤ 256 → (p : ℕ) → p ≤ suc top → start (count K) p < 65536
+  start-small : limit ≤ libraryLimit → (p : ℕ) → p ≤ suc top → start (count K) p < 65536
   start-small small p h =
       omega (arith, start-mono (count K) p (suc top) h, start-le (count K) limit (suc top) (λ q l. complex .within q))
 
@@ -213,7 +214,7 @@ module _ {limit : ℕ} {K : Sections} (complex : Complex top limit K) where
       one i l =
           carries-cell b h (at + 2 * (suc p * i)) (cell K p i) (λ j m. complex .numbered p i j l (rw (complex .sized p i l) at m))
 
-  pub carries-layout : limit ≤ 256 → (b : List ℕ) → Bytes b → Carries b 0 (layout K) ↔ Reads b K
+  pub carries-layout : limit ≤ libraryLimit → (b : List ℕ) → Bytes b → Carries b 0 (layout K) ↔ Reads b K
   unfolding layout start offsetField
   carries-layout small b h = (
     λ k. record {

@@ -1,5 +1,5 @@
 -- A sheet longer than the longest that can be accepted is settled by its first bytes.
---     accepted-length  no accepted sheet is longer than `longest`: 976 bytes at 48
+--     accepted-length  no accepted sheet is longer than `longest`
 --     refusal-long     a longer sheet is refused with 2, 3 or 4
 --     refusal-take     the refusal of a sheet is that of its first n bytes, for every n above `longest`
 use mathlib.Core.Path.{_≡_, refl, sym, ap, _∙_, ap₂}

@@ -6,6 +6,7 @@ use mathlib.Core.List.{List, [], _∷_}
 use Prim.Native.Nat.{ℕ}
 use lib.Dec.{T, eqb}
 use lib.ListN.{take}
+use Rattle.limits.specs.Limits.{libraryLimit, hostLimit}
 use Rattle.complexes.specs.Cell.{without, same, rises, precedes, listed}
 use Rattle.complexes.specs.Complex.{Sections}
 use Rattle.lists.specs.Tabulate.{tabulate}
@@ -108,8 +109,8 @@ table =
 -- the refusal is the one expected at both limits, and an accepted sheet is the layout of its cells
 unfoldable pub good : Line → Bool
 good line =
-    eqb (refusal 256 (line .bytes)) (line .number)
-    && eqb (refusal 48 (line .bytes)) (line .number)
+    eqb (refusal libraryLimit (line .bytes)) (line .number)
+    && eqb (refusal hostLimit (line .bytes)) (line .number)
     && (not (eqb (line .number) 0) || same (layout (line .cells)) (line .bytes))
 
 pub starred-sheets : T (every good table)

@@ -13,19 +13,20 @@ use mir.Facts.{toZ-ofZ}
 use Rattle.reports.specs.Text.{decimal, spaced}
 use Rattle.reports.specs.TextLaws.{spaced-suc}
 use Rattle.text.specs.Put.{Puts, PutsWithin}
+use Rattle.text.specs.Room.{numberRoom, fieldRoom}
 use Rattle.text.specs.PutLaws.{within-nothing, within-length, within-append, within-more, within-next}
 use Rattle.text.proofs.Size.{read}
 
 pub record Fields (numbers : List ℤ) (from to : ℕ) (out₀ : List ℕ) (at next i : ℕ) (out : List ℕ) : Type 0 where
   pub low : from ≤ i
   pub high : i ≤ to
-  pub put : PutsWithin (21 * (i - from)) (spaced (take (i - from) (drop from numbers))) at out₀ next out
+  pub put : PutsWithin (fieldRoom * (i - from)) (spaced (take (i - from) (drop from numbers))) at out₀ next out
   pub kept : length out ≡ length out₀
 
 module _ (numbers : List ℤ) (from to : ℕ) (out₀ : List ℕ) (at : ℕ) where
   -- the room is enough for a space and a number where one is left
   pub fields-room : (next i : ℕ) (out : List ℕ) → Fields numbers from to out₀ at next i out
-      → i < to → at + 21 * (to - from) ≤ length out₀ → next + 21 ≤ length out
+      → i < to → at + fieldRoom * (to - from) ≤ length out₀ → next + fieldRoom ≤ length out
   fields-room next i out h l room = omega (arith, within-next (h .put))
 
   pub fields-none : from ≤ to → Fields numbers from to out₀ at at from out₀
@@ -35,29 +36,29 @@ module _ (numbers : List ℤ) (from to : ℕ) (out₀ : List ℕ) (at : ℕ) whe
         low = omega arith;
         high = h;
         put =
-            subst (λ (k : ℕ). PutsWithin (21 * k) (spaced (take k (drop from numbers))) at out₀ at out₀) (sym (sub-self from)) (within-nothing at out₀);
+            subst (λ (k : ℕ). PutsWithin (fieldRoom * k) (spaced (take k (drop from numbers))) at out₀ at out₀) (sym (sub-self from)) (within-nothing at out₀);
         kept = refl;
       }
 
   pub fields-more : (next i : ℕ) (out : List ℕ) → Fields numbers from to out₀ at next i out
-      → i < to → to ≤ length numbers → at + 21 * (to - from) ≤ length out₀
+      → i < to → to ≤ length numbers → at + fieldRoom * (to - from) ≤ length out₀
       → (r r′ : ℕ) (out′ out″ : List ℕ)
       → mag (getD numbers i (pos 0)) < 2 ^ 63
-      → Puts (32 ∷ []) next out r out′ → PutsWithin 20 (decimal (read (getD numbers i (pos 0)))) r out′ r′ out″ → length out″ ≡ length out
+      → Puts (32 ∷ []) next out r out′ → PutsWithin numberRoom (decimal (read (getD numbers i (pos 0)))) r out′ r′ out″ → length out″ ≡ length out
       → Fields numbers from to out₀ at r′ (i + 1) out″
   fields-more next i out h l to-in room r r′ out′ out″ f a b e =
       record {
         low = omega arith;
         high = omega arith;
         put =
-            subst (λ (text : List ℕ). PutsWithin (21 * (i + 1 - from)) text at out₀ r′ out″)
+            subst (λ (text : List ℕ). PutsWithin (fieldRoom * (i + 1 - from)) text at out₀ r′ out″)
             (sym text-is)
             (within-more (omega arith) (within-append (omega arith) (h .put) (within-append (omega (arith, fields-room next i out h l room)) (within-length a) field)));
         kept = e ∙ h .kept;
       }
     where
-      field : PutsWithin 20 (decimal (getD numbers i (pos 0))) r out′ r′ out″
-      field = subst (λ (z : ℤ). PutsWithin 20 (decimal z) r out′ r′ out″) (toZ-ofZ (record { sfits = f })) b
+      field : PutsWithin numberRoom (decimal (getD numbers i (pos 0))) r out′ r′ out″
+      field = subst (λ (z : ℤ). PutsWithin numberRoom (decimal z) r out′ r′ out″) (toZ-ofZ (record { sfits = f })) b
 
       more : i + 1 - from ≡ suc (i - from)
       more = omega arith
@@ -75,5 +76,5 @@ module _ (numbers : List ℤ) (from to : ℕ) (out₀ : List ℕ) (at : ℕ) whe
           ∙ ap (λ (z : ℤ). spaced (take (i - from) (drop from numbers)) ++ (32 ∷ decimal z)) number-is
 
   pub fields-all : (next i : ℕ) (out : List ℕ) → Fields numbers from to out₀ at next i out → to ≤ i
-      → PutsWithin (21 * (to - from)) (spaced (take (to - from) (drop from numbers))) at out₀ next out
+      → PutsWithin (fieldRoom * (to - from)) (spaced (take (to - from) (drop from numbers))) at out₀ next out
   fields-all next i out h l = rw (le-antisymm l (h .high)) (h .put)

@@ -10,15 +10,16 @@ use native.Mathlib.Omega.{arith}
 use lib.ListN.{length, take, drop}
 use lib.Seq.{drop-drop}
 use lib.IntN.{ℤ, pos}
+use Rattle.reports.specs.Call.{hostLimit}
 use Rattle.reports.specs.Text.{line, generatorsText, reportText}
 use Rattle.reports.specs.TextLaws.{generatorsText-suc}
 use Rattle.text.specs.Put.{PutsWithin}
+use Rattle.text.specs.Room.{lineRoom, headingRoom, generatorRoom, dimensionRoom}
 use Rattle.text.specs.PutLaws.{within-nothing, within-append, within-more, within-next}
 
--- a line of at most 48 coefficients takes at most 1010 bytes
 pub record Generators (n t k : ℕ) (report : List ℤ) (out₀ : List ℕ) (at next i : ℕ) (out : List ℕ) : Type 0 where
   pub high : i ≤ k
-  pub put : PutsWithin (1010 * i) (generatorsText n i (drop (2 + t) report)) at out₀ next out
+  pub put : PutsWithin (generatorRoom * i) (generatorsText n i (drop (2 + t) report)) at out₀ next out
   pub kept : length out ≡ length out₀
 
 module _ (n t k : ℕ) (report : List ℤ) (out₀ : List ℕ) (at : ℕ) where
@@ -32,13 +33,13 @@ module _ (n t k : ℕ) (report : List ℤ) (out₀ : List ℕ) (at : ℕ) where
 
   -- the room is enough for a line where one is left
   pub generators-room : (next i : ℕ) (out : List ℕ) → Generators n t k report out₀ at next i out
-      → i < k → k ≤ 48 → at + 48480 ≤ length out₀ → next + 1010 ≤ length out
+      → i < k → k ≤ hostLimit → at + generatorRoom * hostLimit ≤ length out₀ → next + generatorRoom ≤ length out
   generators-room next i out h l small room = omega (arith, within-next (h .put))
 
   pub generators-more : (next i : ℕ) (out : List ℕ) → Generators n t k report out₀ at next i out
-      → i < k → n ≤ 48 → at ≤ length out₀
+      → i < k → n ≤ hostLimit → at ≤ length out₀
       → (r : ℕ) (out′ : List ℕ)
-      → PutsWithin (2 + 21 * (2 + t + i * n + n - (2 + t + i * n)))
+      → PutsWithin (lineRoom (2 + t + i * n + n - (2 + t + i * n)))
       (line 71 (take (2 + t + i * n + n - (2 + t + i * n)) (drop (2 + t + i * n) report))) next out r out′
       → length out′ ≡ length out
       → Generators n t k report out₀ at r (i + 1) out′
@@ -46,7 +47,7 @@ module _ (n t k : ℕ) (report : List ℤ) (out₀ : List ℕ) (at : ℕ) where
       record {
         high = omega arith;
         put =
-            subst (λ (text : List ℕ). PutsWithin (1010 * (i + 1)) text at out₀ r out′)
+            subst (λ (text : List ℕ). PutsWithin (generatorRoom * (i + 1)) text at out₀ r out′)
             (sym text-is)
             (within-more (omega arith) (within-append room (h .put) line-put));
         kept = e ∙ h .kept;
@@ -55,9 +56,9 @@ module _ (n t k : ℕ) (report : List ℤ) (out₀ : List ℕ) (at : ℕ) where
       size-is : 2 + t + i * n + n - (2 + t + i * n) ≡ n
       size-is = omega arith
 
-      line-put : PutsWithin (2 + 21 * n) (line 71 (take n (drop (2 + t + i * n) report))) next out r out′
+      line-put : PutsWithin (lineRoom n) (line 71 (take n (drop (2 + t + i * n) report))) next out r out′
       line-put =
-          subst (λ (m : ℕ). PutsWithin (2 + 21 * m) (line 71 (take m (drop (2 + t + i * n) report))) next out r out′) size-is a
+          subst (λ (m : ℕ). PutsWithin (lineRoom m) (line 71 (take m (drop (2 + t + i * n) report))) next out r out′) size-is a
 
       text-is : generatorsText n (i + 1) (drop (2 + t) report) ≡ generatorsText n i (drop (2 + t) report) ++ line 71 (take n (drop (2 + t + i * n) report))
       text-is =
@@ -67,11 +68,11 @@ module _ (n t k : ℕ) (report : List ℤ) (out₀ : List ℕ) (at : ℕ) where
 
   -- the first line, put before the loop, and the others
   pub report-put : (p next i start : ℕ) (entry out : List ℕ) → start ≤ length entry
-      → PutsWithin 1100 (line 72 (pos p ∷ take (2 + t) report)) start entry at out₀
-      → Generators n t k report out₀ at next i out → k ≤ i → k ≤ 48
-      → PutsWithin 60000 (reportText p n t k report) start entry next out
+      → PutsWithin headingRoom (line 72 (pos p ∷ take (2 + t) report)) start entry at out₀
+      → Generators n t k report out₀ at next i out → k ≤ i → k ≤ hostLimit
+      → PutsWithin dimensionRoom (reportText p n t k report) start entry next out
   unfolding reportText
   report-put p next i start entry out room a h l small =
-      subst (λ (m : ℕ). PutsWithin 60000 (line 72 (pos p ∷ take (2 + t) report) ++ generatorsText n m (drop (2 + t) report)) start entry next out)
+      subst (λ (m : ℕ). PutsWithin dimensionRoom (line 72 (pos p ∷ take (2 + t) report) ++ generatorsText n m (drop (2 + t) report)) start entry next out)
       (le-antisymm (h .high) l)
       (within-more (omega arith) (within-append room a (h .put)))

@@ -4,6 +4,7 @@ ghost use Prim.Native.Nat.{suc, _+_, _≤_};
 ghost use lib.ListN.{length};
 ghost use Rattle.reports.specs.Text.{digits, decimal};
 ghost use Rattle.text.specs.Put.{Puts, PutsWithin};
+ghost use Rattle.text.specs.Room.{numberRoom};
 
 // Writes the byte b.
 pub fn put(b: u8, out: &mut [u8], at: usize) -> usize
@@ -26,10 +27,10 @@ fn put_digits(n: u64, out: &mut [u8], at: usize) -> usize
     put((48 + n % 10) as u8, out, next)
 }
 
-// Writes x, with `-` before a negative number: at most 20 bytes.
+// Writes x, with `-` before a negative number.
 pub fn put_decimal(x: i64, out: &mut [u8], at: usize) -> usize
-    requires { ⌜ at + 20 ≤ length (now out) ⌝ }
-    ensures { λ r. ⌜ PutsWithin 20 (decimal x) at (now (out .entry)) r (now (out .exit)) ⌝ }
+    requires { ⌜ at + numberRoom ≤ length (now out) ⌝ }
+    ensures { λ r. ⌜ PutsWithin numberRoom (decimal x) at (now (out .entry)) r (now (out .exit)) ⌝ }
 {
     if x < 0 {
         let next = put(45, out, at);

@@ -8,14 +8,15 @@ ghost use Rattle.reports.specs.Text.{spaced, line, refusalLine, reportText};
 ghost use Rattle.reports.specs.Call.{hostLimit};
 ghost use Rattle.sheet_format.specs.Layout.{top};
 ghost use Rattle.text.specs.Put.{PutsWithin};
+ghost use Rattle.text.specs.Room.{fieldRoom, lineRoom, headingRoom, dimensionRoom};
 use crate::decimal::put;
 use crate::decimal::put_decimal;
 use refusal::Refusal;
 
 // Writes the numbers from place `from` up to place `to`, each after a space.
 fn put_fields(numbers: &[i64], from: usize, to: usize, out: &mut [u8], at: usize) -> usize
-    requires { ⌜ (from ≤ to) × (to ≤ length (now numbers)) × (at + 21 * (to - from) ≤ length (now out)) ⌝ }
-    ensures { λ r. ⌜ PutsWithin (21 * (to - from)) (spaced (take (to - from) (drop from (now (numbers .entry))))) at (now (out .entry)) r (now (out .exit)) ⌝ }
+    requires { ⌜ (from ≤ to) × (to ≤ length (now numbers)) × (at + fieldRoom * (to - from) ≤ length (now out)) ⌝ }
+    ensures { λ r. ⌜ PutsWithin (fieldRoom * (to - from)) (spaced (take (to - from) (drop from (now (numbers .entry))))) at (now (out .entry)) r (now (out .exit)) ⌝ }
 {
     let mut next = at;
     let mut i = from;
@@ -36,8 +37,8 @@ pub fn put_line(
     out: &mut [u8],
     at: usize,
 ) -> usize
-    requires { ⌜ (from ≤ to) × (to ≤ length (now numbers)) × (at + (2 + 21 * (to - from)) ≤ length (now out)) ⌝ }
-    ensures { λ r. ⌜ PutsWithin (2 + 21 * (to - from)) (line letter (take (to - from) (drop from (now (numbers .entry))))) at (now (out .entry)) r (now (out .exit)) ⌝ }
+    requires { ⌜ (from ≤ to) × (to ≤ length (now numbers)) × (at + lineRoom (to - from) ≤ length (now out)) ⌝ }
+    ensures { λ r. ⌜ PutsWithin (lineRoom (to - from)) (line letter (take (to - from) (drop from (now (numbers .entry))))) at (now (out .entry)) r (now (out .exit)) ⌝ }
 {
     let mut next = put(letter, out, at);
     next = put_fields(numbers, from, to, out, next);
@@ -46,8 +47,8 @@ pub fn put_line(
 
 // Writes `R` and the number of a refusal.
 pub fn put_refusal(refusal: Refusal, out: &mut [u8], at: usize) -> usize
-    requires { ⌜ at + 23 ≤ length (now out) ⌝ }
-    ensures { λ r. ⌜ PutsWithin 23 (refusalLine (numberOf refusal)) at (now (out .entry)) r (now (out .exit)) ⌝ }
+    requires { ⌜ at + lineRoom 1 ≤ length (now out) ⌝ }
+    ensures { λ r. ⌜ PutsWithin (lineRoom 1) (refusalLine (numberOf refusal)) at (now (out .entry)) r (now (out .exit)) ⌝ }
 {
     let numbers = [refusal.number() as i64];
     put_line(82, &numbers, 0, 1, out, at)
@@ -55,8 +56,8 @@ pub fn put_refusal(refusal: Refusal, out: &mut [u8], at: usize) -> usize
 
 // Writes the first line of the report of dimension p: `H`, p, and the report's b, t and orders.
 fn put_heading(p: usize, torsion: usize, report: &[i64], out: &mut [u8], at: usize) -> usize
-    requires { ⌜ (p ≤ top) × (torsion ≤ hostLimit) × (2 + torsion ≤ length (now report)) × (at + 1100 ≤ length (now out)) ⌝ }
-    ensures { λ r. ⌜ PutsWithin 1100 (line 72 (pos p ∷ take (2 + torsion) (now (report .entry)))) at (now (out .entry)) r (now (out .exit)) ⌝ }
+    requires { ⌜ (p ≤ top) × (torsion ≤ hostLimit) × (2 + torsion ≤ length (now report)) × (at + headingRoom ≤ length (now out)) ⌝ }
+    ensures { λ r. ⌜ PutsWithin headingRoom (line 72 (pos p ∷ take (2 + torsion) (now (report .entry)))) at (now (out .entry)) r (now (out .exit)) ⌝ }
 {
     let mut next = put(72, out, at);
     next = put(32, out, next);
@@ -76,8 +77,8 @@ pub fn put_report(
     at: usize,
 ) -> usize
     requires { ⌜ (p ≤ top) × (cells ≤ hostLimit) × (torsion ≤ cells) × (generators ≤ cells) ⌝ }
-    requires { ⌜ (2 + torsion + generators * cells ≤ length (now report)) × (at + 60000 ≤ length (now out)) ⌝ }
-    ensures { λ r. ⌜ PutsWithin 60000 (reportText p cells torsion generators (now (report .entry))) at (now (out .entry)) r (now (out .exit)) ⌝ }
+    requires { ⌜ (2 + torsion + generators * cells ≤ length (now report)) × (at + dimensionRoom ≤ length (now out)) ⌝ }
+    ensures { λ r. ⌜ PutsWithin dimensionRoom (reportText p cells torsion generators (now (report .entry))) at (now (out .entry)) r (now (out .exit)) ⌝ }
 {
     let first = 2 + torsion;
     let mut next = put_heading(p, torsion, report, out, at);

@@ -16,20 +16,21 @@ use mir.Syntax.{w32}
 use mir.Facts.{toZ-ofZ}
 use Rattle.lists.specs.Tabulate.{tabulate}
 use Rattle.lists.specs.TabulateLaws.{length-tabulate, getD-tabulate}
+use Rattle.reports.specs.Call.{hostLimit}
 use Rattle.reports.specs.Host.{coefficientAt, chainFrom, otherLength}
 use Rattle.little_endian.specs.Bytes.{ReadsChain}
 use Rattle.little_endian.proofs.read_chain.Statement.{statement}
 use Rattle.little_endian.proofs.read_chain.Tie as tie
 
--- the first i of at most 48 coefficients are read
+-- the first i coefficients are read
 record Read (chain : List ℕ) (n : ℕ) (l : List ℤ) (i : ℕ) : Type 0 where
   most : i ≤ n
-  narrow : n ≤ 48
+  narrow : n ≤ hostLimit
   whole : length chain ≡ 4 * n
-  size : length l ≡ 48
+  size : length l ≡ hostLimit
   are : (k : ℕ) → k < i → getD l k (pos 0) ≡ coefficientAt chain (4 * k)
 
-zeros : (l : List ℤ) → l ≡ replicate 48 (pos 0) → length l ≡ 48
+zeros : (l : List ℤ) → l ≡ replicate hostLimit (pos 0) → length l ≡ hostLimit
 zeros l e = ap length e
 
 module _ (chain : List ℕ) (n : ℕ) (l : List ℤ) (i : ℕ) (h : Read chain n l i) where
@@ -84,7 +85,7 @@ module _ (chain : List ℕ) (n : ℕ) (differs : eqb (length chain) (4 * n) ≡ 
       none zero d = absurd (d refl)
       none (suc k) d = refl
 
-  other-one : n ≡ 0 → (l : List ℤ) → l ≡ replicate 48 (pos 0) → take 1 l ≡ chainFrom n chain
+  other-one : n ≡ 0 → (l : List ℤ) → l ≡ replicate hostLimit (pos 0) → take 1 l ≡ chainFrom n chain
   unfolding otherLength
   other-one z l e = ap (take 1) e ∙ sym (other-is ∙ ap otherLength z)
 

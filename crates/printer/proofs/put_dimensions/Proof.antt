@@ -1,10 +1,11 @@
 -- `printer::put_dimensions` meets its contract. The loop's invariant: the texts of the dimensions passed stand in `out`. The measure is the number of
 -- dimensions left. Assumes nothing.
 use mathlib.Core.Path.{_≡_, sym, _∙_}
-use Prim.Native.Nat.{ℕ, _-_}
+use Prim.Native.Nat.{ℕ, suc, _-_}
 use native.Mathlib.Omega.{arith}
 use borrow.Author.Needs.{needs}
 use denote.Ref.{now}
+use Rattle.sheet_format.specs.Layout.{top}
 use Rattle.printer.proofs.Dimensions.{Printed, printed-none, printed-room, printed-more, printed-all}
 use Rattle.printer.proofs.put_dimensions.Statement.{statement}
 use Rattle.printer.proofs.put_dimensions.Tie as tie
@@ -13,7 +14,7 @@ abbrev Inv-loop : tie.InvT-loop
 Inv-loop s report₀ work₀ out₀ next₀ p₀ report work out next p = Printed s out₀ report work out next p
 
 abbrev μ-loop : tie.MeasureT-loop
-μ-loop s report₀ work₀ out₀ next₀ p₀ report work out next p = 4 - p
+μ-loop s report₀ work₀ out₀ next₀ p₀ report work out next p = suc top - p
 
 loop-holds : tie.Need-loop-holds Inv-loop μ-loop
 loop-holds c =

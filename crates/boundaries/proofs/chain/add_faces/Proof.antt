@@ -162,7 +162,7 @@ face-place-requires c κs =
     let pre = c .before .before .before .pre in (pre .0, (pre .1 .0 .0, pre .1 .0 .1, omega (arith, c .loop-test .taken)))
 
 -- the place of a face is one of the sums
-inside : (c : tie.After-face-place Inv-loop μ-loop) → c .face-place .result < 256
+inside : (c : tie.After-face-place Inv-loop μ-loop) → c .face-place .result < libraryLimit
 inside c =
     let known = c .before .before .before in omega (arith, c .face-place .ensures .below, given known .sheet .within (known .before .args .p))
 

@@ -53,16 +53,16 @@ record Summed (b : List ℕ) (p : ℕ) (chain : List ℤ) (j : ℕ) (sums : List
   sized : length sums ≡ libraryLimit
   so-far : (i : ℕ) → i < count (sectionsOf b) p → getD sums i (pos 0) ≡ partial b p chain j i
 
-begun : (b : List ℕ) (p : ℕ) (chain : List ℤ) → count (sectionsOf b) p ≤ 256 → Summed b p chain 0 (replicate 256 (pos 0))
+begun : (b : List ℕ) (p : ℕ) (chain : List ℤ) → count (sectionsOf b) p ≤ libraryLimit → Summed b p chain 0 (replicate libraryLimit (pos 0))
 unfolding apply sum
-begun b p chain few = record { within = omega arith; sized = refl; so-far = λ i l. getD-replicate 256 i (pos 0) (pos 0) (omega arith) }
+begun b p chain few = record { within = omega arith; sized = refl; so-far = λ i l. getD-replicate libraryLimit i (pos 0) (pos 0) (omega arith) }
 
 module _ {b : List ℕ} {p : ℕ} {chain : List ℤ} {j : ℕ} {sums : List ℤ} (given : Given b p chain) (inv : Summed b p chain j sums) where
-  partial-small : (i : ℕ) → natAbs (partial b p chain j i) ≤ j * 32767
+  partial-small : (i : ℕ) → natAbs (partial b p chain j i) ≤ j * coefficientLimit
   unfolding apply
-  partial-small i = natAbs-sum j (λ k. boundary (sectionsOf b) (suc p) i k *ℤ getD chain k (pos 0)) 32767 one
+  partial-small i = natAbs-sum j (λ k. boundary (sectionsOf b) (suc p) i k *ℤ getD chain k (pos 0)) coefficientLimit one
     where
-      one : (k : ℕ) → k < j → natAbs (boundary (sectionsOf b) (suc p) i k *ℤ getD chain k (pos 0)) ≤ 32767
+      one : (k : ℕ) → k < j → natAbs (boundary (sectionsOf b) (suc p) i k *ℤ getD chain k (pos 0)) ≤ coefficientLimit
       one k l =
           omega (
             arith,
@@ -232,7 +232,7 @@ rows : (c : tie.After-count Inv-loop μ-loop Inv-loop2 μ-loop2) →
 rows c =
     let args = c .before .before .before .before .before .args in c .count .ensures .is ∙ sym (count-sectionsOf (args .s .now) (args .p - 1))
 
-row-below : (c : tie.In-loop2 Inv-loop μ-loop Inv-loop2 μ-loop2) → c .before .loop2 .row < 256
+row-below : (c : tie.In-loop2 Inv-loop μ-loop Inv-loop2 μ-loop2) → c .before .loop2 .row < libraryLimit
 row-below c =
     let counted = c .before .before in let first = counted .before .before .before in
     omega (arith, c .loop2-test .taken, rows counted, given first .sheet .within (first .before .before .args .p - 1))

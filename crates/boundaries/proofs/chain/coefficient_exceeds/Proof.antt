@@ -72,7 +72,7 @@ returns-2 : tie.Need-returns-2 Inv-loop μ-loop
 returns-2 c =
     let r = c .before .before in
     found (now (r .before .before .before .args .chain)) (r .before .before .loop .i) (r .before .loop-test .taken)
-    (subst (λ (z : ℤ). coefficientLimit < natAbs z) (read-x r) (beyond-high 32767 (read w32 (x r)) (c .if2 .taken)))
+    (subst (λ (z : ℤ). coefficientLimit < natAbs z) (read-x r) (beyond-high coefficientLimit (read w32 (x r)) (c .if2 .taken)))
 
 add-i : tie.Need-add-i Inv-loop μ-loop
 add-i c = omega arith

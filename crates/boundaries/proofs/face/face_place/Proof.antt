@@ -7,6 +7,7 @@ use borrow.Author.Needs.{needs}
 use denote.Ref.{now}
 use Rattle.sheet_format.specs.Check.{startAt}
 use Rattle.sheet_format.specs.Sheet.{Bytes}
+use Rattle.reports.specs.Call.{libraryLimit}
 use Rattle.boundaries.specs.Face.{IsFace}
 use Rattle.boundaries.proofs.Sheet.{Looked, place, few, count-le, rising, found}
 use Rattle.boundaries.proofs.face.face_place.Statement.{statement}
@@ -25,7 +26,7 @@ bytes : (c : tie.After-shared-slice-known) → Bytes (now (c .before .args .s))
 bytes c = record { small = λ i. c .shared-slice-known .given i .fits }
 
 -- the vertex numbers before the cell
-passed : (c : tie.After-start) → (c .before .before .args .p + 2) * c .before .before .args .j ≤ 4 * 256
+passed : (c : tie.After-start) → (c .before .before .args .p + 2) * c .before .before .args .j ≤ 4 * libraryLimit
 passed c =
     let start = c .before .before in
     few (start .args .p + 2) (start .args .j) (omega (arith, start .pre .1 .0))

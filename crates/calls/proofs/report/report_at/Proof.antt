@@ -15,7 +15,7 @@ use Rattle.reports.specs.Call.{reportSlots, workSlots, libraryLimit, reductions
 use Rattle.reports.specs.RefusalLaws.{Passed}
 use Rattle.boundaries.specs.Face.{Accepted}
 use Rattle.calls.specs.Slices.{ReducedTwice}
-use Rattle.calls.proofs.Room.{product-below}
+use Rattle.operations.proofs.Room.{product-below}
 use Rattle.calls.proofs.Sheet.{counted, sheet-complex, accepted-library, slots-of}
 use Rattle.calls.proofs.Outcomes.{twice-done, twice-refused}
 use Rattle.calls.proofs.Refusals.{sheet-refused, dimension-refused, output-short, work-short}

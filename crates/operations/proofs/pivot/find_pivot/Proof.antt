@@ -3,6 +3,7 @@
 use mathlib.Core.Path.{sym, ap, _∙_}
 use Prim.Native.Nat.{_-_}
 use native.Mathlib.Omega.{arith}
+use borrow.Author.Needs.{needs}
 use mir.Syntax.{w64}
 use mir.Val.{ofZ}
 use Rattle.reduction_steps.specs.Pivot.{release1}
@@ -19,18 +20,23 @@ Inv-loop m w k best₀ i₀ lines best i = Down (contents m w) k (m .width - k) 
 abbrev μ-loop : tie.MeasureT-loop
 μ-loop m w k best₀ i₀ lines best i = lines - i
 
+none-requires : tie.Need-none-requires Inv-loop μ-loop
+none-requires c κs = search needs
+
 loop-holds : tie.Need-loop-holds Inv-loop μ-loop
-loop-holds c = down-starts (contents (c .args .m) (c .args .w .now)) (c .args .k) (c .args .m .width - c .args .k) (c .args .m .lines) 0 0
+loop-holds c =
+    let a = c .before .args in
+    rw (c .none .ensures) (down-starts (contents (a .m) (a .w .now)) (a .k) (a .m .width - a .k) (a .m .lines) 0 0)
 
 along-row-requires : tie.Need-along-row-requires Inv-loop μ-loop
 along-row-requires c κs =
-    let s = c .before .before in
+    let s = c .before .before .before in
     (s .pre .0, (s .pre .1 .0, (c .loop-test .taken, s .pre .1 .1, c .before .loop .inv .best)))
 
 returns : tie.Need-returns Inv-loop μ-loop
 unfolding release1
 returns c =
-    let s = c .before .before .before .before .before .before in
+    let s = c .before .before .before .before .before .before .before in
     let b = c .before .before .before .along-row .ensures in
     down-one (c .before .before .before .before .before .loop .inv) (c .before .before .before .before .loop-test .taken) (b .0) (b .1) (of-bits (size-fits (s .args .m) (s .args .w .now) (s .pre .1 .0) (b .0)) (c .if1 .taken))
 
@@ -48,7 +54,7 @@ loop-again c =
 returns-2 : tie.Need-returns-2 Inv-loop μ-loop
 unfolding release1
 returns-2 c =
-    let s = c .before .before .before .before .before in
+    let s = c .before .before .before .before .before .before in
     let h = c .before .before .before .before .loop .inv in
     sym (choice-none (c .before .before .before .before .loop .best) (of-bits (size-fits (s .args .m) (s .args .w .now) (s .pre .1 .0) (h .best)) (c .if2 .taken)))
     ∙ down-ends h (c .before .before .before .loop-test .left)
@@ -65,6 +71,7 @@ find-pivot-spec =
     (tie.spec
     Inv-loop
     μ-loop
+    none-requires
     loop-holds
     along-row-requires
     returns

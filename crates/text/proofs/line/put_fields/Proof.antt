@@ -4,6 +4,7 @@ use mathlib.Core.Path.{_∙_}
 use Prim.Native.Nat.{_+_, _-_, _≤_}
 use native.Mathlib.Omega.{arith}
 use lib.ListN.{length}
+use Rattle.text.specs.Room.{fieldRoom}
 use Rattle.text.proofs.Fields.{Fields, fields-none, fields-room, fields-more, fields-all}
 use Rattle.text.proofs.line.put_fields.Statement.{statement}
 use Rattle.text.proofs.line.put_fields.Tie as tie
@@ -24,7 +25,7 @@ loop-holds c =
     fields-none (a .numbers .now) (a .from) (a .to) (a .out .now) (a .at) (omega (arith, c .before .pre))
 
 -- in a turn a space and a number fit
-room : (c : tie.In-loop Inv-loop μ-loop) → c .before .loop .next + 21 ≤ length (c .before .loop .out)
+room : (c : tie.In-loop Inv-loop μ-loop) → c .before .loop .next + fieldRoom ≤ length (c .before .loop .out)
 room c =
     let s = c .before .before .before in
     let a = s .args in

@@ -7,6 +7,7 @@ use mir.Syntax.{w64}
 use mir.Facts.{toZ-pos}
 use Rattle.reports.specs.Text.{decimal}
 use Rattle.text.specs.Put.{PutsWithin}
+use Rattle.text.specs.Room.{numberRoom}
 use Rattle.text.proofs.Heading.{heading-put}
 use Rattle.text.proofs.line.put_heading.Statement.{statement}
 use Rattle.text.proofs.line.put_heading.Tie as tie
@@ -52,7 +53,7 @@ returns c =
     (letter .put .ensures)
     (space .put2 .ensures)
     (subst
-    (λ (z : ℤ). PutsWithin 20 (decimal z) (space .put2 .result) (space .put2 .last .1 .0) (dimension .put-decimal .result) (dimension .put-decimal .last .1 .0))
+    (λ (z : ℤ). PutsWithin numberRoom (decimal z) (space .put2 .result) (space .put2 .last .1 .0) (dimension .put-decimal .result) (dimension .put-decimal .last .1 .0))
     (toZ-pos w64 (omega (arith, s .pre)))
     (dimension .put-decimal .ensures))
     (fields .put-fields .ensures)

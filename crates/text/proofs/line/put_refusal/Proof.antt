@@ -8,6 +8,7 @@ use mir.Syntax.{w64}
 use mir.Facts.{toZ-pos}
 use Rattle.reports.specs.Text.{line}
 use Rattle.text.specs.Put.{PutsWithin}
+use Rattle.text.specs.Room.{lineRoom}
 use Rattle.text.proofs.line.put_refusal.Statement.{statement}
 use Rattle.text.proofs.line.put_refusal.Tie as tie
 
@@ -31,7 +32,7 @@ returns c =
     let q = c .before .before .put-line in
     let n = c .before .before .before .before .before .number in
     let s = c .before .before .before .before .before .before .before in
-    subst (λ (z : ℤ). PutsWithin 23 (line 82 (z ∷ [])) (s .args .at) (s .args .out .now) (q .result) (q .last .1 .1 .1 .1 .0))
+    subst (λ (z : ℤ). PutsWithin (lineRoom 1) (line 82 (z ∷ [])) (s .args .at) (s .args .out .now) (q .result) (q .last .1 .1 .1 .1 .0))
     (toZ-pos w64 (omega (arith, n .ok)) ∙ ap pos (n .ensures))
     (q .ensures)
 

@@ -4,6 +4,8 @@ use mathlib.Core.Path.{_∙_}
 use Prim.Native.Nat.{_+_, _-_, _*_, _≤_}
 use native.Mathlib.Omega.{arith}
 use lib.ListN.{length}
+use Rattle.reports.specs.Call.{hostLimit}
+use Rattle.text.specs.Room.{generatorRoom}
 use Rattle.text.specs.PutLaws.{within-next}
 use Rattle.text.proofs.Generators.{Generators, generators-none, generators-inside, generators-room, generators-more, report-put}
 use Rattle.text.proofs.line.put_report.Statement.{statement}
@@ -23,7 +25,7 @@ put-heading-requires c κs = omega (arith, c .before .before .pre)
 
 -- the room that is left where the loop begins
 left : (c : tie.After-slice-known2 Inv-loop μ-loop)
-    → c .before .before .put-heading .result + 48480 ≤ length (c .before .before .put-heading .last .1 .1 .1 .0)
+    → c .before .before .put-heading .result + generatorRoom * hostLimit ≤ length (c .before .before .put-heading .last .1 .1 .1 .0)
 left c =
     let h = c .before .before .put-heading in
     omega (arith, c .before .before .before .before .before .pre, within-next (h .ensures), h .kept .1 .1 .1 .0)
@@ -49,7 +51,7 @@ inside c =
     (omega (arith, s .pre))
 
 -- and the line fits
-room : (c : tie.In-loop Inv-loop μ-loop) → c .before .loop .next + 1010 ≤ length (c .before .loop .out)
+room : (c : tie.In-loop Inv-loop μ-loop) → c .before .loop .next + generatorRoom ≤ length (c .before .loop .out)
 room c =
     let s = c .before .before .before .before .before .before .before in
     let a = s .args in

@@ -1,11 +1,11 @@
--- `slices::second_layout` meets its contract: every place is a sum of products of two counts. Assumes nothing.
+-- `operations::layout::Layout::second` meets its contract: every place is a sum of products of two counts. Assumes nothing.
 use Prim.Native.Nat.{_≤_, _*_, _^_}
 use native.Mathlib.Omega.{arith}
 use borrow.Author.Needs.{needs}
-use Rattle.calls.specs.Slices.{secondLayout}
-use Rattle.calls.proofs.Room.{product-below, max-below}
-use Rattle.calls.proofs.slices.second_layout.Statement.{statement}
-use Rattle.calls.proofs.slices.second_layout.Tie as tie
+use Rattle.operations.specs.Layouts.{secondLayout}
+use Rattle.operations.proofs.Room.{product-below, max-below}
+use Rattle.operations.proofs.layout.Layout.second.Statement.{statement}
+use Rattle.operations.proofs.layout.Layout.second.Tie as tie
 
 larger-requires : tie.Need-larger-requires
 larger-requires c κs = search needs
@@ -62,8 +62,8 @@ returns : tie.Need-returns
 unfolding secondLayout
 returns c = rw (c .larger .ensures)
 
-pub second-layout-spec : {M : Type 1} → statement M
-second-layout-spec =
+pub second-spec : {M : Type 1} → statement M
+second-spec =
     tie.close
     (tie.spec
     larger-requires

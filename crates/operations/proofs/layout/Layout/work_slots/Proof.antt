@@ -1,9 +1,9 @@
--- `slices::work_slots` meets its contract. Assumes nothing.
+-- `operations::layout::Layout::work_slots` meets its contract. Assumes nothing.
 use native.Mathlib.Omega.{arith}
 use borrow.Author.Needs.{needs}
-use Rattle.calls.proofs.Room.{slots-below, max-below}
-use Rattle.calls.proofs.slices.work_slots.Statement.{statement}
-use Rattle.calls.proofs.slices.work_slots.Tie as tie
+use Rattle.operations.proofs.Room.{slots-below, max-below}
+use Rattle.operations.proofs.layout.Layout.work_slots.Statement.{statement}
+use Rattle.operations.proofs.layout.Layout.work_slots.Tie as tie
 
 mul-result : tie.Need-mul-result
 mul-result c = search needs

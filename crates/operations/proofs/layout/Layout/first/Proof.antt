@@ -1,11 +1,11 @@
--- `slices::first_layout` meets its contract: the room for the matrix is a product of two counts. Assumes nothing.
+-- `operations::layout::Layout::first` meets its contract: the room for the matrix is a product of two counts. Assumes nothing.
 use Prim.Native.Nat.{_≤_, _*_, _^_}
 use native.Mathlib.Omega.{arith}
 use borrow.Author.Needs.{needs}
-use Rattle.calls.specs.Slices.{firstLayout}
-use Rattle.calls.proofs.Room.{product-below, max-below}
-use Rattle.calls.proofs.slices.first_layout.Statement.{statement}
-use Rattle.calls.proofs.slices.first_layout.Tie as tie
+use Rattle.operations.specs.Layouts.{firstLayout}
+use Rattle.operations.proofs.Room.{product-below, max-below}
+use Rattle.operations.proofs.layout.Layout.first.Statement.{statement}
+use Rattle.operations.proofs.layout.Layout.first.Tie as tie
 
 larger-requires : tie.Need-larger-requires
 larger-requires c κs = search needs
@@ -31,5 +31,5 @@ returns : tie.Need-returns
 unfolding firstLayout
 returns c = rw (c .larger .ensures)
 
-pub first-layout-spec : {M : Type 1} → statement M
-first-layout-spec = tie.close (tie.spec larger-requires mul-room mul-t5 add-t10 returns)
+pub first-spec : {M : Type 1} → statement M
+first-spec = tie.close (tie.spec larger-requires mul-room mul-t5 add-t10 returns)

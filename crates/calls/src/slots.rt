@@ -1,0 +1,8 @@
+// The slots that suffice for every sheet that the program and the host calls accept.
+use sheet::reader::Sheet;
+
+const CELLS: usize = Sheet::HOST_LIMIT;
+
+pub const REPORT_SLOTS: usize = 2 + CELLS + CELLS * CELLS;
+
+pub const WORK_SLOTS: usize = CELLS * (2 * CELLS + CELLS);
