@@ -1,6 +1,7 @@
--- The boundary matrices of the full tetrahedron on the vertices 0 to 3, entry by entry.
+-- The order of cells, and the boundary matrices of the full tetrahedron on the vertices 0 to 3, entry by entry.
+--     order-examples       the cells of the table rise
 --     boundary-examples    the rows of the matrix of each dimension 0 to 4 are those of the table
-use mathlib.Core.Bool.{Bool}
+use mathlib.Core.Bool.{Bool, not, _&&_}
 use mathlib.Core.List.{List, [], _∷_}
 use Prim.Native.Nat.{ℕ}
 use lib.Dec.{T}
@@ -8,11 +9,37 @@ use lib.IntN.{ℤ, pos, negℤ}
 use Rattle.lists.specs.Tabulate.{tabulate}
 use Rattle.lists.specs.Same.{every, sameNumber, sameList}
 use Rattle.matrices.specs.Sum.{sum}
-use Rattle.complexes.specs.Cell.{without, same}
+use Rattle.complexes.specs.Cell.{Cell, without, same, precedes}
 use Rattle.complexes.specs.Complex.{Sections, count}
 use Rattle.complexes.specs.Boundary.{sign, coefficient, countBelow, boundary}
 
--- the vertices, the edges, the triangles and the tetrahedron
+-- ---- the order of cells
+
+-- two cells of which the first stands before the second
+pub record Pair : Type 0 where
+  pub first : Cell
+  pub second : Cell
+
+abbrev pub pairs : List Pair
+pairs =
+    -- the first vertex decides
+    record { first = 0 ∷ 3 ∷ []; second = 1 ∷ 2 ∷ [] }
+    ∷ record { first = 0 ∷ 8 ∷ 9 ∷ []; second = 1 ∷ 2 ∷ 3 ∷ [] }
+    -- where the first vertices are equal, the next
+    ∷ record { first = 0 ∷ 1 ∷ []; second = 0 ∷ 2 ∷ [] }
+    ∷ record { first = 0 ∷ 1 ∷ 9 ∷ []; second = 0 ∷ 2 ∷ 3 ∷ [] }
+    ∷ []
+
+unfoldable pub rising : Pair → Bool
+rising pair = precedes (pair .first) (pair .second) && not (precedes (pair .second) (pair .first))
+
+pub order-examples : T (every rising pairs)
+unfolding every rising precedes
+order-examples = tt
+
+-- ---- the tetrahedron
+
+-- its vertices, edges, triangles and itself
 abbrev pub tetrahedron : Sections
 tetrahedron =
     ((0 ∷ []) ∷ (1 ∷ []) ∷ (2 ∷ []) ∷ (3 ∷ []) ∷ [])
@@ -24,8 +51,6 @@ tetrahedron =
 -- the rows of the boundary matrix of dimension p
 unfoldable pub rowsOf : Sections → ℕ → List (List ℤ)
 rowsOf K p = tabulate (countBelow K p) (λ i. tabulate (count K p) (λ j. boundary K p i j))
-
--- ---- the table
 
 abbrev minus : ℕ → ℤ
 minus n = negℤ (pos n)

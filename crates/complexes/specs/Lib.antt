@@ -1,5 +1,5 @@
 -- Simplicial complexes as lists of cells, and their boundary matrices. `Cell`, `Complex` and `Boundary` have the definitions,
--- `Examples` the matrices of a tetrahedron.
+-- `Examples` the order of some cells and the matrices of a tetrahedron.
 pub mod Cell
 pub mod CellLaws
 pub mod OrderLaws
