@@ -5,10 +5,10 @@ use mathlib.Core.Bool.{Bool, _&&_}
 use Prim.Native.Nat.{ℕ}
 use mathlib.Core.List.{List}
 use mathlib.Core.Path.{_≡_, refl}
-use lib.Dec.{T, eqb}
+use lib.Dec.{T, eqb, eqb→eq}
 use Rattle.integers.specs.Division.{floor, modulo, divides}
 use Rattle.lists.specs.Tabulate.{tabulate}
-use Rattle.lists.specs.Same.{every, sameList}
+use Rattle.lists.specs.Same.{every, sameList, both, sameList-eq}
 use Rattle.matrices.specs.Sum.{sum}
 use Rattle.matrices.specs.Matrix.{mul, identity, null}
 use Rattle.matrices.specs.Vector.{apply}
@@ -37,6 +37,11 @@ sameBytes = sameList eqb
 unfoldable pub textGood : TextCase → Bool
 textGood c = sameBytes (programText (c .sheet)) (c .text)
 
+-- a good case has exactly its text
+pub textGood-eq : (c : TextCase) → T (textGood c) → programText (c .sheet) ≡ c .text
+unfolding textGood sameBytes
+textGood-eq c t = sameList-eq eqb eqb→eq (programText (c .sheet)) (c .text) t
+
 -- what a request on the hollow triangle gives
 unfoldable pub called : ℕ → Request → List ℕ → HostCalled
 called p report output = hostReport hollowTriangle p output
@@ -47,6 +52,17 @@ sameCalled x y = eqb (x .number) (y .number) && sameBytes (x .output) (y .output
 
 unfoldable pub hostGood : HostCase → Bool
 hostGood c = sameCalled (called (c .dimension) (c .request) (c .output)) (c .expected)
+
+-- a good case has exactly its number and its bytes
+pub hostGood-eq : (c : HostCase) → T (hostGood c) → called (c .dimension) (c .request) (c .output) ≡ c .expected
+unfolding hostGood sameCalled sameBytes
+hostGood-eq c t =
+    let x = called (c .dimension) (c .request) (c .output) in
+    let (number, output) = both (eqb (x .number) (c .expected .number)) _ t in
+    λ i. record {
+      number = eqb→eq (x .number) (c .expected .number) number i;
+      output = sameList-eq eqb eqb→eq (x .output) (c .expected .output) output i;
+    }
 
 pub record Examples : Type 0 where
   pub texts : T (every textGood textCases)
