@@ -75,6 +75,7 @@ def steps():
              told=("no step e",)),
         case("step e takes the first row with an entry that the pivot does not divide",
              [[4, 0, 0], [0, 6, 0], [0, 0, 5]], COMPANIONS, told=("step e takes the last row",)),
+        case("step e returns to d", [[-4, 3], [-2, 2]], ROWS, told=("step e returns to a",)),
         case("quotients rounded down in the row pass", [[2], [-3]], ROWS, told=("truncation",)),
         case("quotients rounded down in the column pass", [[2, -3]], COLUMNS, told=("truncation",)),
         case("quotients rounded down in both passes", [[3, -7, 5], [-8, 4, -5], [7, -7, 10]],
@@ -185,6 +186,14 @@ class LastRow(Reduction):
         return self.step_a
 
 
+class ReturnToA(Reduction):
+    """Step e returns to a."""
+
+    def step_e(self):
+        super().step_e()
+        return self.step_a
+
+
 class NoNegation(Reduction):
     """Negative pivots stay."""
 
@@ -207,6 +216,7 @@ MISTAKES = {
     "passes left early": LeftEarly,
     "no step e": NoStepE,
     "step e takes the last row": LastRow,
+    "step e returns to a": ReturnToA,
     "no negation": NoNegation,
     "ties to the last": least_by(lambda x, i, j: (abs(x), -i, -j)),
     "ties to the lowest column": least_by(lambda x, i, j: (abs(x), j, i)),
@@ -272,6 +282,7 @@ EDITS = {
     "rounded_towards_zero_in_columns": ("quotients rounded down in the column pass", "truncation"),
     "ties_to_the_lowest_column": ("ties go to the lowest row, then to the lowest column",
                                   "ties to the lowest column"),
+    "step_e_returns_to_a": ("step e returns to d", "step e returns to a"),
     "row_pass_left_early": ("the row pass goes on behind a remainder", "passes left early"),
 }
 WRITTEN_BY = ("Written by tests/make_reduction_examples.py: the expected outcomes are those of the Python "

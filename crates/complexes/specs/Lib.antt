@@ -1,4 +1,5 @@
--- Simplicial complexes as lists of cells, and their boundary matrices. `Cell`, `Complex` and `Boundary` have the definitions.
+-- Simplicial complexes as lists of cells, and their boundary matrices. `Cell`, `Complex` and `Boundary` have the definitions,
+-- `Examples` the order of some cells and the matrices of a tetrahedron.
 pub mod Cell
 pub mod CellLaws
 pub mod OrderLaws
@@ -9,3 +10,4 @@ pub mod Subsets
 pub mod Boundary
 pub mod CoefficientLaws
 pub mod BoundaryLaws
+pub mod Examples

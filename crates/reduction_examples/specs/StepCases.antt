@@ -46,6 +46,25 @@ steps =
         columnInverse = (pos 4 ∷ pos 6 ∷ pos 5 ∷ []) ∷ (pos 2 ∷ minus 3 ∷ minus 10 ∷ []) ∷ (pos 1 ∷ minus 2 ∷ minus 6 ∷ []) ∷ [];
       });
     }
+    -- step e returns to d
+    ∷ record {
+      limit = 1000;
+      sizes = record { rows = 2; columns = 2; rowFollower = 2; rowInverse = 2; columnFollower = 0; columnInverse = 0 };
+      start = record {
+        matrix = (minus 4 ∷ pos 3 ∷ []) ∷ (minus 2 ∷ pos 2 ∷ []) ∷ [];
+        rowFollower = (pos 1 ∷ pos 0 ∷ []) ∷ (pos 0 ∷ pos 1 ∷ []) ∷ [];
+        rowInverse = (pos 1 ∷ pos 0 ∷ []) ∷ (pos 0 ∷ pos 1 ∷ []) ∷ [];
+        columnFollower = [] ∷ [] ∷ [];
+        columnInverse = [] ∷ [] ∷ [];
+      };
+      expected = done 2 (record {
+        matrix = (pos 1 ∷ pos 0 ∷ []) ∷ (pos 0 ∷ pos 2 ∷ []) ∷ [];
+        rowFollower = (pos 1 ∷ minus 3 ∷ []) ∷ (pos 2 ∷ minus 5 ∷ []) ∷ [];
+        rowInverse = (minus 5 ∷ minus 2 ∷ []) ∷ (pos 3 ∷ pos 1 ∷ []) ∷ [];
+        columnFollower = [] ∷ [] ∷ [];
+        columnInverse = [] ∷ [] ∷ [];
+      });
+    }
     -- quotients rounded down in the row pass
     ∷ record {
       limit = 1000;

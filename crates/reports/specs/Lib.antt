@@ -1,5 +1,6 @@
 -- The report and the coordinates of a dimension as definitions: document 01, "The reduction" and "The report and the coordinates".
 -- The files named `Laws` say what the definitions come to: the answers of a call, and the lengths and places of the numbers.
+-- `LimitExamples`, `ReportExamples` and `Examples` hold them to numbers and bytes; `TextCases` and `HostCases` are tables of `Examples`.
 pub mod Reductions
 pub mod Report
 pub mod Call
@@ -14,3 +15,9 @@ pub mod HostLaws
 pub mod HostCallLaws
 pub mod DigitsLaws
 pub mod TextLaws
+pub mod LimitExamples
+pub mod ReportExamples
+pub mod TextCases
+pub mod HostCases
+pub mod WideEnd
+pub mod Examples

@@ -7,5 +7,6 @@ pub mod SheetLaws
 pub mod Pieces
 pub mod LayoutLaws
 pub mod Accept
+pub mod OrderCases
 pub mod Starred
 pub mod Prefix

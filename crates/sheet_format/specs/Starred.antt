@@ -1,5 +1,5 @@
 -- The starred sheets of document 01, "Sheets to try", as far as reading goes: which are accepted, as the layout of which cells, and which
--- number the others get. One joint theorem over a table, at the limits of the library and of the program.
+-- number the others get; with them the sheets of `OrderCases`. One joint theorem over a table, at the limits of the library and of the program.
 --     starred-sheets    every line of the table is right
 use mathlib.Core.Bool.{Bool, true, not, _&&_, _||_}
 use mathlib.Core.List.{List, [], _∷_}
@@ -13,6 +13,7 @@ use Rattle.lists.specs.Tabulate.{tabulate}
 use Rattle.lists.specs.Same.{every}
 use Rattle.sheet_format.specs.Layout.{cellBytes, sectionBytes, sectionsBytes, start, headerBytes, layout}
 use Rattle.sheet_format.specs.Check.{countField, offsetField, cellOf, cellsOf, sectionsOf, some, verticesDoNotRise, cellsDoNotRise, faceMissing, refusal}
+use Rattle.sheet_format.specs.OrderCases.{shortWithCount, countAndOffset, offsetAndLength, lengthAndVertices, verticesAndCells, cellsAndFace, twoEdges, twoEdgesSections, twoEdgesSwapped, edgeTwice, edgeOfOneVertex}
 
 -- ---- the sheets: a line for the header, then a line for each section that has cells
 
@@ -104,6 +105,16 @@ table =
     ∷ refused fifteenBytes 1
     ∷ refused edgeReversed 5
     ∷ refused edgeWithoutVertex 7
+    ∷ refused shortWithCount 1
+    ∷ refused countAndOffset 2
+    ∷ refused offsetAndLength 3
+    ∷ refused lengthAndVertices 4
+    ∷ refused verticesAndCells 5
+    ∷ refused cellsAndFace 6
+    ∷ accepted twoEdges twoEdgesSections
+    ∷ refused twoEdgesSwapped 6
+    ∷ refused edgeTwice 6
+    ∷ refused edgeOfOneVertex 5
     ∷ []
 
 -- the refusal is the one expected at both limits, and an accepted sheet is the layout of its cells

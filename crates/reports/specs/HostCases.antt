@@ -1,0 +1,78 @@
+-- Host calls on the hollow triangle, and the bytes that they leave: document 01, "The report and the coordinates".
+use mathlib.Core.List.{List, [], _∷_, _++_}
+use Prim.Native.Nat.{ℕ}
+use lib.ListN.{replicate}
+use Rattle.reports.specs.Host.{HostCalled}
+
+-- what is asked of dimension p: the report, or the coordinates of a chain in bytes
+pub data Request : Type 0 where
+  report : Request
+  coordinatesOf : List ℕ → Request
+
+-- a call on the hollow triangle; `output` stands as it is lent
+pub record HostCase : Type 0 where
+  pub dimension : ℕ
+  pub request : Request
+  pub output : List ℕ
+  pub expected : HostCalled
+
+-- n bytes as they are lent: a byte that is left untouched shows
+abbrev nines : ℕ → List ℕ
+nines n = replicate n 9
+
+-- the chains (-1, 1, -1) and (-300, 300, -300)
+abbrev loop : List ℕ
+loop = 255 ∷ 255 ∷ 255 ∷ 255 ∷ 1 ∷ 0 ∷ 0 ∷ 0 ∷ 255 ∷ 255 ∷ 255 ∷ 255 ∷ []
+
+abbrev manyLoops : List ℕ
+manyLoops = 212 ∷ 254 ∷ 255 ∷ 255 ∷ 44 ∷ 1 ∷ 0 ∷ 0 ∷ 212 ∷ 254 ∷ 255 ∷ 255 ∷ []
+
+-- the call is refused with the number, and the output is left alone
+abbrev refuses : ℕ → ℕ → Request → List ℕ → HostCase
+refuses number p request output = record { dimension = p; request = request; output = output; expected = record { number = number; output = output } }
+
+abbrev pub hostCases : List HostCase
+hostCases =
+    -- the report 1, 0, 1, -1, 1 in an output of 14 slots and 3 bytes
+    record {
+      dimension = 1;
+      request = report;
+      output = nines 115;
+      expected = record {
+        number = 0;
+        output =
+            1 ∷ 0 ∷ 0 ∷ 0 ∷ 0 ∷ 0 ∷ 0 ∷ 0
+            ∷ 0 ∷ 0 ∷ 0 ∷ 0 ∷ 0 ∷ 0 ∷ 0 ∷ 0
+            ∷ 1 ∷ 0 ∷ 0 ∷ 0 ∷ 0 ∷ 0 ∷ 0 ∷ 0
+            ∷ 255 ∷ 255 ∷ 255 ∷ 255 ∷ 255 ∷ 255 ∷ 255 ∷ 255
+            ∷ 1 ∷ 0 ∷ 0 ∷ 0 ∷ 0 ∷ 0 ∷ 0 ∷ 0
+            ∷ nines 75;
+      };
+    }
+    -- the coordinate -1 in an output of 3 slots and 5 bytes
+    ∷ record {
+      dimension = 1;
+      request = coordinatesOf loop;
+      output = nines 29;
+      expected = record { number = 0; output = 255 ∷ 255 ∷ 255 ∷ 255 ∷ 255 ∷ 255 ∷ 255 ∷ 255 ∷ nines 21 };
+    }
+    -- the coordinate -300
+    ∷ record {
+      dimension = 1;
+      request = coordinatesOf manyLoops;
+      output = nines 24;
+      expected = record { number = 0; output = 212 ∷ 254 ∷ 255 ∷ 255 ∷ 255 ∷ 255 ∷ 255 ∷ 255 ∷ nines 16 };
+    }
+    -- the dimension exceeds 3
+    ∷ refuses 8 4 report (nines 115)
+    -- an incomplete number at the end of the output gives no slot
+    ∷ refuses 9 1 report (nines 111)
+    ∷ refuses 9 1 (coordinatesOf loop) (nines 23)
+    -- a chain of 11 bytes, and one of 13
+    ∷ refuses 10 1 (coordinatesOf (255 ∷ 255 ∷ 255 ∷ 255 ∷ 1 ∷ 0 ∷ 0 ∷ 0 ∷ 255 ∷ 255 ∷ 255 ∷ [])) (nines 24)
+    ∷ refuses 10 1 (coordinatesOf (loop ++ (0 ∷ []))) (nines 24)
+    -- the coefficient 32768
+    ∷ refuses 11 1 (coordinatesOf (0 ∷ 128 ∷ 0 ∷ 0 ∷ 0 ∷ 0 ∷ 0 ∷ 0 ∷ 0 ∷ 0 ∷ 0 ∷ 0 ∷ [])) (nines 24)
+    -- the chain (1, 0, 0)
+    ∷ refuses 12 1 (coordinatesOf (1 ∷ 0 ∷ 0 ∷ 0 ∷ 0 ∷ 0 ∷ 0 ∷ 0 ∷ 0 ∷ 0 ∷ 0 ∷ 0 ∷ [])) (nines 24)
+    ∷ []

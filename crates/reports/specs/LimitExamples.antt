@@ -1,0 +1,52 @@
+-- The four limits as numbers, each at its two sides: document 01, "The sheet" and "The report and the coordinates".
+--     limit-examples    48 and 49, 256 and 257 cells; entries to 1048575 and 1048576; coefficients to 32767 and 32768, either way from zero
+use mathlib.Core.Bool.{Bool, not, _&&_}
+use mathlib.Core.List.{List, [], _∷_}
+use Prim.Native.Nat.{ℕ}
+use lib.Dec.{T, eqb}
+use lib.IntN.{ℤ, pos, negℤ}
+use Rattle.lists.specs.Tabulate.{tabulate}
+use Rattle.lists.specs.Same.{every}
+use Rattle.complexes.specs.Cell.{without, same, rises, precedes, listed}
+use Rattle.sheet_format.specs.Layout.{cellBytes, sectionBytes, sectionsBytes, start, headerBytes, layout}
+use Rattle.sheet_format.specs.Check.{countField, offsetField, cellOf, cellsOf, sectionsOf, some, countExceeds, verticesDoNotRise, cellsDoNotRise, faceMissing, refusal}
+use Rattle.reduction_steps.specs.Table.{rowWithin, tableWithin}
+use Rattle.reports.specs.Call.{libraryLimit, hostLimit, entryLimit, coefficientExceeds}
+
+-- the sheet of n vertices
+unfoldable pub vertices : ℕ → List ℕ
+vertices n = layout (tabulate n (λ i. i ∷ []) ∷ [] ∷ [] ∷ [] ∷ [])
+
+-- a header whose count of dimension 3 is given by its two bytes
+abbrev header : ℕ → ℕ → List ℕ
+header low high = 0 ∷ 0 ∷ 16 ∷ 0 ∷ 0 ∷ 0 ∷ 16 ∷ 0 ∷ 0 ∷ 0 ∷ 16 ∷ 0 ∷ low ∷ high ∷ 16 ∷ 0 ∷ []
+
+-- a matrix of one entry is within the entry limit
+abbrev entryWithin : ℤ → Bool
+entryWithin x = tableWithin entryLimit ((x ∷ []) ∷ [])
+
+-- what passes a check and what does not
+abbrev pub tests : List Bool
+tests =
+    -- cells in the program and the host calls
+    eqb (refusal hostLimit (vertices 48)) 0
+    ∷ eqb (refusal hostLimit (vertices 49)) 2
+    -- cells in the library: 0 + 256 × 1 and 1 + 256 × 1
+    ∷ not (countExceeds libraryLimit (header 0 1))
+    ∷ countExceeds libraryLimit (header 1 1)
+    -- entries
+    ∷ entryWithin (pos 1048575)
+    ∷ entryWithin (negℤ (pos 1048575))
+    ∷ not (entryWithin (pos 1048576))
+    ∷ not (entryWithin (negℤ (pos 1048576)))
+    -- coefficients
+    ∷ not (coefficientExceeds (pos 32767 ∷ negℤ (pos 32767) ∷ []))
+    ∷ coefficientExceeds (pos 32768 ∷ [])
+    ∷ coefficientExceeds (pos 0 ∷ negℤ (pos 32768) ∷ [])
+    ∷ []
+
+pub limit-examples : T (every (λ x. x) tests)
+unfolding every vertices tabulate layout headerBytes start sectionsBytes sectionBytes cellBytes
+    refusal countField offsetField cellOf cellsOf sectionsOf some verticesDoNotRise cellsDoNotRise faceMissing without same rises precedes listed
+    tableWithin rowWithin coefficientExceeds
+limit-examples = tt

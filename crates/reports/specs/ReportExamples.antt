@@ -1,0 +1,71 @@
+-- What is made of two reductions with orders: the report, the coordinates, the text. The kinds are 1, 2, 6 and free.
+--     report-examples    the numbers and the bytes, in document 01's order
+use mathlib.Core.List.{[], _∷_}
+use mathlib.Core.Path.{_≡_, refl}
+use Prim.Native.Nat.{ℕ}
+use lib.IntN.{ℤ, pos, negℤ}
+use Rattle.integers.specs.Division.{floor, modulo}
+use Rattle.lists.specs.Tabulate.{tabulate}
+use Rattle.matrices.specs.Sum.{sum}
+use Rattle.matrices.specs.Vector.{apply}
+use Rattle.reduction_steps.specs.State.{State}
+use Rattle.reports.specs.Reductions.{tooWide, reduced}
+use Rattle.reports.specs.Report.{reported, columnsOf, torsionCount, reportList, coordinateAt, coordinateList}
+use Rattle.reports.specs.Text.{digits, decimal, spaced, generatorLines, dimensionText}
+
+abbrev minus : ℕ → ℤ
+minus n = negℤ (pos n)
+
+-- four rows of Q, three pivots; column 1 of G is (-12, 1, 0, 0)
+abbrev pub left : State
+left =
+    record {
+      matrix =
+          (pos 1 ∷ pos 0 ∷ pos 0 ∷ [])
+          ∷ (pos 0 ∷ pos 2 ∷ pos 0 ∷ [])
+          ∷ (pos 0 ∷ pos 0 ∷ pos 6 ∷ [])
+          ∷ (pos 0 ∷ pos 0 ∷ pos 0 ∷ [])
+          ∷ [];
+      rowFollower =
+          (pos 1 ∷ pos 12 ∷ pos 0 ∷ pos 0 ∷ [])
+          ∷ (pos 0 ∷ pos 1 ∷ pos 0 ∷ pos 0 ∷ [])
+          ∷ (pos 0 ∷ pos 0 ∷ pos 1 ∷ pos 0 ∷ [])
+          ∷ (pos 0 ∷ pos 0 ∷ pos 0 ∷ pos 1 ∷ [])
+          ∷ [];
+      rowInverse =
+          (pos 1 ∷ pos 0 ∷ pos 0 ∷ pos 0 ∷ [])
+          ∷ (minus 12 ∷ pos 1 ∷ pos 0 ∷ pos 0 ∷ [])
+          ∷ (pos 0 ∷ pos 0 ∷ pos 1 ∷ pos 0 ∷ [])
+          ∷ (pos 0 ∷ pos 0 ∷ pos 0 ∷ pos 1 ∷ [])
+          ∷ [];
+      columnFollower = [] ∷ [] ∷ [] ∷ [];
+      columnInverse = [] ∷ [] ∷ [] ∷ [];
+    }
+
+pub record ReportExamples : Type 0 where
+  -- b, t, the orders, then the columns of G for the orders and the free one
+  pub report : reportList 4 4 3 left
+      ≡ pos 1 ∷ pos 2
+      ∷ pos 2 ∷ pos 6
+      ∷ minus 12 ∷ pos 1 ∷ pos 0 ∷ pos 0
+      ∷ pos 0 ∷ pos 0 ∷ pos 1 ∷ pos 0
+      ∷ pos 0 ∷ pos 0 ∷ pos 0 ∷ pos 1
+      ∷ []
+  -- -1 modulo 2, -5 modulo 6, and -9 in the free row
+  pub coordinates : coordinateList 4 4 left (pos 5 ∷ minus 1 ∷ minus 5 ∷ minus 9 ∷ []) ≡ pos 1 ∷ pos 1 ∷ minus 9 ∷ []
+  -- 2 modulo 2, 17 modulo 6
+  pub multiples : coordinateList 4 4 left (pos 0 ∷ pos 2 ∷ pos 17 ∷ pos 0 ∷ []) ≡ pos 0 ∷ pos 5 ∷ pos 0 ∷ []
+  -- H 1 1 2 2 6, G -12 1 0 0, G 0 0 1 0 and G 0 0 0 1
+  pub text : dimensionText 1 4 (reduced 4 3 left)
+      ≡ 72 ∷ 32 ∷ 49 ∷ 32 ∷ 49 ∷ 32 ∷ 50 ∷ 32 ∷ 50 ∷ 32 ∷ 54 ∷ 10
+      ∷ 71 ∷ 32 ∷ 45 ∷ 49 ∷ 50 ∷ 32 ∷ 49 ∷ 32 ∷ 48 ∷ 32 ∷ 48 ∷ 10
+      ∷ 71 ∷ 32 ∷ 48 ∷ 32 ∷ 48 ∷ 32 ∷ 49 ∷ 32 ∷ 48 ∷ 10
+      ∷ 71 ∷ 32 ∷ 48 ∷ 32 ∷ 48 ∷ 32 ∷ 48 ∷ 32 ∷ 49 ∷ 10
+      ∷ []
+  -- R 13
+  pub wide : dimensionText 1 4 tooWide ≡ 82 ∷ 32 ∷ 49 ∷ 51 ∷ 10 ∷ []
+
+pub report-examples : ReportExamples
+unfolding reportList coordinateList coordinateAt torsionCount columnsOf reported dimensionText generatorLines spaced decimal digits
+    apply sum floor modulo tabulate
+report-examples = record { report = refl; coordinates = refl; multiples = refl; text = refl; wide = refl }

@@ -1,0 +1,86 @@
+-- Where the work of a dimension ends, for examples that go too wide: document 01, "The reduction".
+--     wide-end    the two reductions are too wide exactly where the work does not come to its end
+use mathlib.Core.Bool.{Bool, true, false}
+use mathlib.Core.Path.{_≡_, refl, sym, ap, _∙_}
+use Prim.Native.Nat.{ℕ}
+use Rattle.complexes.specs.Complex.{Sections}
+use Rattle.reduction_steps.specs.Table.{tableWithin}
+use Rattle.reduction_steps.specs.State.{State}
+use Rattle.reduction_steps.specs.Pivot.{release1}
+use Rattle.reduction_steps.specs.Step.{Machine, at, done, wide, reduce}
+use Rattle.reports.specs.Reductions.{Reductions, tooWide, reduced, firstSizes, firstStart, secondSizes, product, secondStart, afterSecond, afterFirst, reductions}
+use Rattle.reports.specs.ReductionsLaws.{after-first, first-wide, product-wide, after-second}
+
+-- in the first reduction, after the product, in the second reduction, or at its end
+pub data End : Type 0 where
+  inFirst inProduct inSecond atEnd : End
+
+unfoldable pub endOfSecond : Machine → End
+endOfSecond (at l k x) = inSecond
+endOfSecond (done r x) = atEnd
+endOfSecond wide = inSecond
+
+-- after the product, which is within the limit or not
+unfoldable pub endOfProduct : Bool → Machine → End
+endOfProduct true m = endOfSecond m
+endOfProduct false m = inProduct
+
+module _ (limit : ℕ) (K : Sections) (p : ℕ) where
+  unfoldable pub endOfFirst : Machine → End
+  endOfFirst (at l k x) = inFirst
+  endOfFirst (done r x) =
+      endOfProduct (tableWithin limit (product K p r x)) (reduce limit (secondSizes K p r) release1 (secondStart K p r x))
+  endOfFirst wide = inFirst
+
+  unfoldable pub end : End
+  end = endOfFirst (reduce limit (firstSizes K p) release1 (firstStart K p))
+
+unfoldable pub isWide : Reductions → Bool
+isWide tooWide = true
+isWide (reduced s r x) = false
+
+unfoldable pub endsWide : End → Bool
+endsWide inFirst = true
+endsWide inProduct = true
+endsWide inSecond = true
+endsWide atEnd = false
+
+-- what holds of equal reductions and an equal end holds of these
+agree : (x : Reductions) (y : End) {x′ : Reductions} {y′ : End} → x ≡ x′ → y ≡ y′ → isWide x′ ≡ endsWide y′ → isWide x ≡ endsWide y
+agree x y e f h = ap isWide e ∙ h ∙ sym (ap endsWide f)
+
+module _ (limit : ℕ) (K : Sections) (p : ℕ) where
+  Agree : Type 0
+  Agree = isWide (reductions release1 limit K p) ≡ endsWide (end limit K p)
+
+  abbrev firstMachine : Machine
+  firstMachine = reduce limit (firstSizes K p) release1 (firstStart K p)
+
+  module _ (r : ℕ) (x : State) (first : firstMachine ≡ done r x) where
+    abbrev secondMachine : Machine
+    secondMachine = reduce limit (secondSizes K p r) release1 (secondStart K p r x)
+
+    after-product : (b : Bool) → tableWithin limit (product K p r x) ≡ b → end limit K p ≡ endOfProduct b secondMachine
+    unfolding end endOfFirst
+    after-product b e = ap (endOfFirst limit K p) first ∙ ap (λ (t : Bool). endOfProduct t secondMachine) e
+
+    from-second : tableWithin limit (product K p r x) ≡ true → (m : Machine) → secondMachine ≡ m → Agree
+    unfolding Agree afterSecond endOfProduct endOfSecond isWide endsWide
+    from-second e (at l k y) f = agree _ _ (after-second release1 limit K p r x first e (at l k y) f) (after-product true e ∙ ap endOfSecond f) refl
+    from-second e (done q y) f = agree _ _ (after-second release1 limit K p r x first e (done q y) f) (after-product true e ∙ ap endOfSecond f) refl
+    from-second e wide f = agree _ _ (after-second release1 limit K p r x first e wide f) (after-product true e ∙ ap endOfSecond f) refl
+
+    from-product : (b : Bool) → tableWithin limit (product K p r x) ≡ b → Agree
+    unfolding Agree endOfProduct isWide endsWide
+    from-product true e = from-second e secondMachine refl
+    from-product false e = agree _ _ (product-wide release1 limit K p r x first e) (after-product false e) refl
+
+  from-first : (m : Machine) → firstMachine ≡ m → Agree
+  unfolding Agree end endOfFirst afterFirst isWide endsWide
+  from-first (at l k x) e = agree _ _ (after-first release1 limit K p (at l k x) e) (ap (endOfFirst limit K p) e) refl
+  from-first (done r x) e = from-product r x e (tableWithin limit (product K p r x)) refl
+  from-first wide e = agree _ _ (first-wide release1 limit K p e) (ap (endOfFirst limit K p) e) refl
+
+  pub wide-end : isWide (reductions release1 limit K p) ≡ endsWide (end limit K p)
+  unfolding Agree
+  wide-end = from-first firstMachine refl
