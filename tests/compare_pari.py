@@ -4,7 +4,10 @@
 PARI's Smith forms of the boundary matrices alone give ranks and orders: the cells and
 matrices are built here, not by the model. PARI also checks the reported generators:
 with the boundaries they span the cycles, and each of finite order times its order is
-a boundary. The command gp must be installed (Debian package pari-gp).
+a boundary. Whether a dimension is refused with 13 is settled by the entries that the
+reduction of document 01 makes, which PARI does not know: the model's reduction tells it,
+and PARI that no dimension with an invariant factor beyond the limit is reported.
+The command gp must be installed (Debian package pari-gp).
 """
 
 import argparse
@@ -17,6 +20,7 @@ from functools import partial
 from itertools import combinations
 
 from model import homology, matrix_cases, meshes, random_meshes
+from model.calls import TOO_WIDE
 from model.sheet import LIBRARY_COUNT_LIMIT, PROGRAM_COUNT_LIMIT, Refused, from_facets
 
 TOP = 3
@@ -89,7 +93,9 @@ def model_answers(data):
         try:
             found = homology.report(data, p)
             answers.append(Answer(found.rank, tuple(found.orders), tuple(found.generators)))
-        except Refused:
+        except Refused as refused:
+            if refused.number != TOO_WIDE:
+                raise
             answers.append(Answer())
     return answers
 
@@ -104,8 +110,12 @@ def program_answers(program, data):
         if mark == "G":
             last = answers[-1]
             answers[-1] = Answer(last.rank, last.orders, last.generators + (numbers,))
+        elif mark == "H":
+            answers.append(Answer(numbers[1], tuple(numbers[3:])))
+        elif numbers == [TOO_WIDE]:
+            answers.append(Answer())
         else:
-            answers.append(Answer(numbers[1], tuple(numbers[3:])) if mark == "H" else Answer())
+            sys.exit(f"a sheet that is accepted is answered with {line}")
     return answers
 
 
@@ -123,20 +133,31 @@ def sheet_questions(cells, answers):
     return asked
 
 
-def sheet_faults(name, cells, answers, told):
-    """What PARI says otherwise about one sheet; `told` has its answers by key."""
+def factors_of(told):
+    """The invariant factors of the boundary matrices of dimensions 0 to 4, by PARI."""
+    return {0: [], TOP + 1: [], **{p: told["smith", p] for p in range(1, TOP + 1)}}
+
+
+def factor_beyond(factors, p):
+    """Whether an invariant factor in the reductions of dimension p lies beyond the limit."""
+    return max(factors[p] + factors[p + 1], default=0) > homology.ENTRY_LIMIT
+
+
+def sheet_faults(name, cells, answers, due, told):
+    """What PARI, or the model's answers `due` as to 13, say otherwise about one sheet; `told` has PARI's answers by key."""
     if len(answers) != TOP + 1:
         return [f"{name}: {len(answers)} dimensions are answered"]
     faults = []
-    divisors = {0: [], TOP + 1: [], **{p: told["smith", p] for p in range(1, TOP + 1)}}
+    factors = factors_of(told)
     for p, answer in enumerate(answers):
-        orders = tuple(d for d in divisors[p + 1] if d > 1)
-        rank = len(cells[p]) - len(divisors[p]) - len(divisors[p + 1])
-        wide = max(divisors[p] + divisors[p + 1], default=0) > homology.ENTRY_LIMIT
-        if (answer.rank is None) != wide:
-            faults.append(f"{name}, dimension {p}: {answer}, an order beyond the limit is {wide}")
-        elif wide:
+        orders = tuple(d for d in factors[p + 1] if d > 1)
+        rank = len(cells[p]) - len(factors[p]) - len(factors[p + 1])
+        if (answer.rank is None) != (due[p].rank is None):
+            faults.append(f"{name}, dimension {p}: {answer}, the model has {due[p]}")
+        elif answer.rank is None:
             continue
+        elif factor_beyond(factors, p):
+            faults.append(f"{name}, dimension {p}: {answer}, PARI has a factor beyond the limit")
         elif (answer.rank, answer.orders) != (rank, orders):
             faults.append(f"{name}, dimension {p}: {answer.rank} {answer.orders}, "
                           f"PARI has {rank} {orders}")
@@ -147,21 +168,26 @@ def sheet_faults(name, cells, answers, told):
 
 def compare_sheets(named, answers_of):
     """Faults found on the sheets, and a line that says what was compared."""
-    facts = [(name, cells_of(facets), answers_of(from_facets(facets)))
-             for name, facets in named.items()]
-    asked = [(i, key, question) for i, (_, cells, answers) in enumerate(facts)
+    facts = []
+    for name, facets in named.items():
+        data = from_facets(facets)
+        due = model_answers(data)
+        answers = due if answers_of is model_answers else answers_of(data)
+        facts.append((name, cells_of(facets), answers, due))
+    asked = [(i, key, question) for i, (_, cells, answers, _) in enumerate(facts)
              for key, question in sheet_questions(cells, answers).items()]
     told = [{} for _ in facts]
     for (i, key, _), line in zip(asked, run_gp([question for _, _, question in asked])):
         told[i][key] = line
-    faults = [fault for (name, cells, answers), lines in zip(facts, told)
-              for fault in sheet_faults(name, cells, answers, lines)]
-    every = [answer for _, _, answers in facts for answer in answers]
-    twisted = sum(1 for answer in every if answer.orders)
-    wide = sum(1 for answer in every if answer.rank is None)
+    faults = [fault for fact, lines in zip(facts, told) for fault in sheet_faults(*fact, lines)]
+    every = [(answer, factor_beyond(factors_of(lines), p))
+             for (_, _, answers, _), lines in zip(facts, told) for p, answer in enumerate(answers)]
+    twisted = sum(1 for answer, _ in every if answer.orders)
+    wide = [beyond for answer, beyond in every if answer.rank is None]
     spans = sum(1 for _, key, _ in asked if key[0] == "spans")
     return faults, (f"{len(facts)} sheets: {len(every)} dimensions, {twisted} with orders, "
-                    f"{wide} too wide, generators checked in {spans}")
+                    f"{len(wide)} too wide ({wide.count(False)} of them with no invariant factor "
+                    f"beyond the limit), generators checked in {spans}")
 
 
 def compare_matrices(cases):
@@ -178,6 +204,7 @@ def sheets_to_compare(options):
     """Facets by name: the sheets of 01 and other known ones, towers, random ones."""
     named = {name: facets for name, (facets, _) in meshes.known().items()}
     named.update({f"tower {floors}": meshes.tower(floors) for floors in (1, 2, 3, 4, 8, 19, 20)})
+    named["open tower 20"] = meshes.open_tower(20)
     named.update({name: facets for name, facets in meshes.sized().items()
                   if options.large or max(map(len, cells_of(facets).values())) <= LATTICE_CELLS})
     rng = random.Random(options.seed)

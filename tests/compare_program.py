@@ -8,18 +8,39 @@ from pathlib import Path
 
 from make_sheets import fault_sheets, known_sheets, random_sheets
 from model.calls import program_output
+from model.sheet import PROGRAM_COUNT_LIMIT, longest, refusal
 
 PROGRAM = Path("target/bin/homology")
+INPUT_ROOM = longest(PROGRAM_COUNT_LIMIT) + 1
+SPREAD = 12
+
+
+def by_refusal(sheets):
+    """The names of the sheets by the number of their refusal, 0 for accepted ones."""
+    names = {number: [] for number in range(8)}
+    for name, data in sheets.items():
+        names[refusal(data, PROGRAM_COUNT_LIMIT)].append(name)
+    return names
 
 
 def odd_inputs(sheets):
-    """Empty input, every sheet's first bytes, and sheets with much behind them."""
+    """Empty input, a long one, and a spread of sheets of every kind, each cut short and with much behind it."""
     odd = {"empty": b"", "a byte": b"\0", "a megabyte of zeros": bytes(1 << 20)}
-    for name in sorted(sheets)[:40]:
-        data = sheets[name]
-        odd[f"{name}, cut"] = data[: len(data) // 2]
-        odd[f"{name}, and a tail"] = data + bytes(5000)
+    for names in by_refusal(sheets).values():
+        for name in names[:: max(1, len(names) // SPREAD)][:SPREAD]:
+            data = sheets[name]
+            odd[f"{name}, cut"] = data[: len(data) // 2]
+            odd[f"{name}, and a tail"] = data + bytes(5000)
     return odd
+
+
+def summary(sheets):
+    """How many inputs of each kind were run; stops where a kind has none."""
+    counts = {"accepted" if number == 0 else f"refused {number}": len(names) for number, names in by_refusal(sheets).items()}
+    counts[f"longer than {INPUT_ROOM} bytes"] = sum(len(data) > INPUT_ROOM for data in sheets.values())
+    if not all(counts.values()):
+        raise SystemExit(f"a kind of input is missing: {counts}")
+    return ", ".join(f"{count} {name}" for name, count in counts.items())
 
 
 def differs(program, data):
@@ -45,7 +66,7 @@ def main():
         if found:
             wrong += 1
             print(f"{name}: status {found[0]}, printed {found[1]!r}, due {found[2]!r}")
-    print(f"{len(sheets)} inputs, {wrong} differ")
+    print(f"{len(sheets)} inputs ({summary(sheets)}), {wrong} differ")
     raise SystemExit(1 if wrong else 0)
 
 

@@ -35,6 +35,14 @@ def tower(floors):
     return facets
 
 
+def open_tower(floors):
+    """The doubling tower without its triangle: one free loop and no orders.
+
+    The loop on A0 is 2 ** floors times that on the last triple, so that from 20 floors on the reduction goes too wide.
+    """
+    return tower(floors)[1:]
+
+
 def torus():
     """Moebius' torus with 7 vertices."""
     return [tuple((i + step) % 7 for step in steps)
@@ -191,4 +199,5 @@ def known():
         "ring of cubes": (box(3, 3, 1, left_out=[(1, 1, 0)]), [(1, []), (1, []), none, none]),
         "tower 1": (tower(1), [(1, []), (0, [2]), none, none]),
         "tower 3": (tower(3), [(1, []), (0, [8]), none, none]),
+        "open tower 3": (open_tower(3), [(1, []), (1, []), none, none]),
     }

@@ -52,6 +52,11 @@ def section_starts(counts):
     return starts
 
 
+def longest(count_limit):
+    """The length of the longest sheet within a count limit."""
+    return section_starts([count_limit] * DIMENSIONS)[-1]
+
+
 def read_section(data, p, count, start):
     """The cells of one section of dimension p."""
     numbers = struct.unpack_from(f"<{count * (p + 1)}H", data, start)

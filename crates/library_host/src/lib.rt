@@ -1,23 +1,33 @@
 // The library's calls, at its count limit of 256, for the tests and the benchmark in C. They answer 0 for done or the number of the refusal.
+ghost use mathlib.Core.Path.{_≡_};
+ghost use Rattle.reports.specs.Call.{reportCall, coordinateCall, libraryLimit};
+ghost use Rattle.calls.specs.Answer.{answered};
+ghost use Rattle.library_host.specs.Answer.{numberTold, LibraryAnswers};
 use calls::answer::Answer;
 
-fn number(answer: Answer) -> u32 {
+fn number(answer: Answer) -> u32
+    ensures { λ r. ⌜ r ≡ numberTold (answered answer) ⌝ }
+{
     match answer {
         Answer::Done(_) => 0,
         Answer::Refused(refusal) => refusal.number(),
     }
 }
 
+// The report of a dimension.
 #[no_mangle]
 pub extern "C" fn library_report(
     sheet: &[u8],
     dimension: u32,
     report: &mut [i64],
     work: &mut [i32],
-) -> u32 {
+) -> u32
+    ensures { λ r. ⌜ LibraryAnswers (reportCall libraryLimit (now (sheet .entry)) dimension (now (report .entry)) (now (work .entry))) r (now (report .exit)) (now (work .exit)) ⌝ }
+{
     number(calls::report::report(sheet, dimension, report, work))
 }
 
+// The coordinates of a cycle.
 #[no_mangle]
 pub extern "C" fn library_coordinates(
     sheet: &[u8],
@@ -25,6 +35,8 @@ pub extern "C" fn library_coordinates(
     chain: &[i32],
     coordinates: &mut [i64],
     work: &mut [i32],
-) -> u32 {
+) -> u32
+    ensures { λ r. ⌜ LibraryAnswers (coordinateCall libraryLimit (now (sheet .entry)) dimension (now (chain .entry)) (now (coordinates .entry)) (now (work .entry))) r (now (coordinates .exit)) (now (work .exit)) ⌝ }
+{
     number(calls::coordinates::coordinates(sheet, dimension, chain, coordinates, work))
 }
