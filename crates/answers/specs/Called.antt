@@ -6,7 +6,8 @@ use Prim.Native.Nat.{ℕ, _≤_}
 use lib.ListN.{length, getD}
 use lib.IntN.{ℤ, pos, natAbs}
 use Rattle.complexes.specs.Complex.{Sections, count}
-use Rattle.reports.specs.Call.{Answer, done, refused, coefficientLimit, Called, cleared}
+use Rattle.reports.specs.Call.{Answer, done, refused, Called, cleared}
+use Rattle.limits.specs.Limits.{coefficientLimit}
 use Rattle.answers.specs.Homology.{IsCycle}
 use Rattle.answers.specs.Right.{slot}
 

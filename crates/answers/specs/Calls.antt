@@ -19,7 +19,8 @@ use Rattle.reduction_steps.specs.Pivot.{release1}
 use Rattle.reduction_steps.specs.PivotLaws.{release1-is-rule}
 use Rattle.reports.specs.Reductions.{Reductions, tooWide, reduced}
 use Rattle.reports.specs.ReductionsLaws.{tooWide≢reduced}
-use Rattle.reports.specs.Call.{done, entryLimit, written, finished, refusalBefore, reductionsOf}
+use Rattle.reports.specs.Call.{done, written, finished, refusalBefore, reductionsOf}
+use Rattle.limits.specs.Limits.{entryLimit}
 use Rattle.reports.specs.CallLaws.{call, ReducedWith, call-done, call-output}
 use Rattle.reports.specs.WrittenLaws.{length-written, getD-written-past}
 use Rattle.reports.specs.RefusalLaws.{refusalBefore-zero}

@@ -17,7 +17,8 @@ use Rattle.complexes.specs.Boundary.{countBelow, boundary}
 use Rattle.sheet_format.specs.Check.{sectionsOf, some, refuse}
 use Rattle.sheet_format.specs.CheckLaws.{some-false}
 use Rattle.complexes.specs.Complex.{count}
-use Rattle.reports.specs.Call.{coefficientLimit, chainRefusal, chainLengthDiffers, coefficientExceeds, boundaryNotZero}
+use Rattle.reports.specs.Call.{chainRefusal, chainLengthDiffers, coefficientExceeds, boundaryNotZero}
+use Rattle.limits.specs.Limits.{coefficientLimit}
 use Rattle.answers.specs.Homology.{IsCycle}
 use Rattle.answers.specs.Right.{slot}
 use Rattle.answers.specs.Called.{NoCycle}

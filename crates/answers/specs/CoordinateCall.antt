@@ -16,7 +16,8 @@ use Rattle.reduction_steps.specs.State.{State}
 use Rattle.reduction_steps.specs.Pivot.{release1}
 use Rattle.reports.specs.Report.{coordinateList}
 use Rattle.reports.specs.ReportLaws.{coordinates-fit}
-use Rattle.reports.specs.Call.{Called, done, entryLimit, written, orElse, refusalBefore, chainRefusal, coordinateSlots, reductionsOf, coordinateCall}
+use Rattle.reports.specs.Call.{Called, done, written, orElse, refusalBefore, chainRefusal, coordinateSlots, reductionsOf, coordinateCall}
+use Rattle.limits.specs.Limits.{entryLimit}
 use Rattle.reports.specs.RefusalLaws.{orElse-zero, orElse-le, refusalBefore-le, chainRefusal-le, refusalBefore-zero}
 use Rattle.reports.specs.WrittenLaws.{getD-written}
 use Rattle.reports.specs.CallLaws.{ReducedWith, call-output}

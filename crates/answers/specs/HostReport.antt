@@ -18,7 +18,8 @@ use Rattle.reduction_steps.specs.Pivot.{release1}
 use Rattle.reports.specs.Reductions.{reduced}
 use Rattle.reports.specs.Report.{freeRank, torsionCount, reportList}
 use Rattle.reports.specs.ReportLaws.{report-fits}
-use Rattle.reports.specs.Call.{libraryLimit, hostLimit, entryLimit, refusalBefore, reportSlots, workSlots, reductionsOf}
+use Rattle.reports.specs.Call.{refusalBefore, reportSlots, workSlots, reductionsOf}
+use Rattle.limits.specs.Limits.{libraryLimit, hostLimit, entryLimit}
 use Rattle.reports.specs.RefusalLaws.{refusalBefore-le, refusalBefore-zero}
 use Rattle.reports.specs.Host.{slotsIn, hostReport, numberAt}
 use Rattle.answers.specs.Right.{reportLength}

@@ -15,7 +15,8 @@ use Rattle.sheet_format.specs.Sheet.{Bytes}
 use Rattle.reports.specs.Report.{kind, torsionCount, reportList, coordinateList}
 use Rattle.reports.specs.ReportLaws.{length-reported-le}
 use Rattle.reports.specs.Reductions.{tooWide}
-use Rattle.reports.specs.Call.{done, refused, hostLimit, reportSlots, coordinateSlots, workSlots, refusalBefore, reductionsOf, reportCall, coordinateCall}
+use Rattle.reports.specs.Call.{done, refused, reportSlots, coordinateSlots, workSlots, refusalBefore, reductionsOf, reportCall, coordinateCall}
+use Rattle.limits.specs.Limits.{hostLimit}
 use Rattle.reports.specs.RefusalLaws.{Passed, refusalBefore-zero}
 use Rattle.reports.specs.CallLaws.{ReducedWith, CallRefused, earlier, wide, call-refused}
 use Rattle.reports.specs.HostCallLaws.{reportRoom, workRoom, counts-within}

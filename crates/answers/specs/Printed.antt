@@ -7,7 +7,7 @@ use Rattle.complexes.specs.Complex.{count}
 use Rattle.sheet_format.specs.Layout.{top}
 use Rattle.sheet_format.specs.Check.{sectionsOf}
 use Rattle.reduction_steps.specs.Pivot.{release1}
-use Rattle.reports.specs.Call.{entryLimit}
+use Rattle.limits.specs.Limits.{entryLimit}
 use Rattle.reports.specs.Text.{refusalLine, reportText, programText}
 use Rattle.answers.specs.Right.{slot, IsRight}
 use Rattle.answers.specs.Wide.{GoesWide}

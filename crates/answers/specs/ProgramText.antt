@@ -21,7 +21,8 @@ use Rattle.reports.specs.ReductionsLaws.{tooWide≢reduced}
 use Rattle.reports.specs.Report.{kind, reported, freeRank, torsionCount, reportList, coordinateList}
 use Rattle.reports.specs.ReportLaws.{length-coordinateList}
 use Rattle.reports.specs.RefusalLaws.{refusal-le}
-use Rattle.reports.specs.Call.{hostLimit, entryLimit, reductionsOf}
+use Rattle.reports.specs.Call.{reductionsOf}
+use Rattle.limits.specs.Limits.{hostLimit, entryLimit}
 use Rattle.reports.specs.Text.{digits, decimal, spaced, line, refusalLine, generatorLines, reportText, dimensionText, dimensionsText, textFor, programText}
 use Rattle.reports.specs.TextLaws.{reportText-reportList}
 use Rattle.answers.specs.Right.{slot}

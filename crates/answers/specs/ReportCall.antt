@@ -16,7 +16,8 @@ use Rattle.reduction_steps.specs.State.{State}
 use Rattle.reduction_steps.specs.Pivot.{release1}
 use Rattle.reports.specs.Report.{reportList}
 use Rattle.reports.specs.ReportLaws.{report-fits}
-use Rattle.reports.specs.Call.{Called, done, entryLimit, written, refusalBefore, reportSlots, reductionsOf, reportCall}
+use Rattle.reports.specs.Call.{Called, done, written, refusalBefore, reportSlots, reductionsOf, reportCall}
+use Rattle.limits.specs.Limits.{entryLimit}
 use Rattle.reports.specs.RefusalLaws.{refusalBefore-le, refusalBefore-zero}
 use Rattle.reports.specs.WrittenLaws.{getD-written}
 use Rattle.reports.specs.CallLaws.{ReducedWith, call-output}

@@ -15,7 +15,7 @@ use Rattle.sheet_format.specs.SheetLaws.{section-sectionsOf, count-sectionsOf, 
 use Rattle.sheet.specs.Read.{Rising, Finds}
 use Rattle.sheet.specs.declared.face.Found.{Found}
 use Rattle.sheet.specs.declared.face.Found.the-variants.{At, Nothing}
-use Rattle.reports.specs.Call.{libraryLimit}
+use Rattle.limits.specs.Limits.{libraryLimit}
 use Rattle.boundaries.specs.Face.{Accepted, IsFace}
 
 -- a cell has at most 4 vertices

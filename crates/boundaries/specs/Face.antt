@@ -10,7 +10,7 @@ use Rattle.complexes.specs.Cell.{without}
 use Rattle.complexes.specs.Complex.{count, cell}
 use Rattle.complexes.specs.Boundary.{boundary}
 use Rattle.sheet_format.specs.Check.{sectionsOf, refusal}
-use Rattle.reports.specs.Call.{libraryLimit}
+use Rattle.limits.specs.Limits.{libraryLimit}
 use Rattle.lines.specs.Slice.{limit, at, Small}
 use Rattle.lines.specs.Matrices.{contents, Off}
 use Rattle.lines.specs.declared.matrix.Matrix.{Matrix}

@@ -19,7 +19,8 @@ use Rattle.reduction_steps.specs.Table.{entry, table, tableWithin}
 use Rattle.reduction_laws.specs.Tables.{entry-table, table-ext, tableWithin-table, tableWithin-false}
 use Rattle.reduction_laws.specs.Shape.{Shaped}
 use Rattle.reports.specs.Reductions.{firstSizes, secondSizes, secondStart, product}
-use Rattle.reports.specs.Call.{workSlots, entryLimit}
+use Rattle.reports.specs.Call.{workSlots}
+use Rattle.limits.specs.Limits.{entryLimit}
 use Rattle.answers.specs.Starts.{second-shaped, entry-drop}
 use Rattle.lines.specs.Slice.{lineAt}
 use Rattle.lines.specs.Matrices.{contents, Holds, Exceeds}

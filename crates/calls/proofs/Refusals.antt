@@ -13,7 +13,8 @@ use lib.ListN.{length, getD}
 use Rattle.complexes.specs.Complex.{Sections, count}
 use Rattle.sheet_format.specs.Layout.{top}
 use Rattle.sheet_format.specs.Check.{sectionsOf, refuse, refusal}
-use Rattle.reports.specs.Call.{workSlots, orElse, refusalBefore, chainRefusal, coefficientExceeds, boundaryNotZero, coefficientLimit}
+use Rattle.reports.specs.Call.{workSlots, orElse, refusalBefore, chainRefusal, coefficientExceeds, boundaryNotZero}
+use Rattle.limits.specs.Limits.{coefficientLimit}
 use Rattle.answers.specs.ChainChecks.{chain-passes, not-a-cycle-iff}
 use Rattle.refusal.specs.Number.{numberOf}
 use Rattle.refusal.specs.declared.Refusal.{Refusal}

@@ -9,7 +9,8 @@ use Rattle.sheet_format.specs.Layout.{top}
 use Rattle.sheet_format.specs.Check.{sectionsOf}
 use Rattle.reduction_steps.specs.State.{State}
 use Rattle.reports.specs.Report.{reportList}
-use Rattle.reports.specs.Call.{reportSlots, libraryLimit, refusalBefore, reductionsOf, reportCall, written}
+use Rattle.reports.specs.Call.{reportSlots, refusalBefore, reductionsOf, reportCall, written}
+use Rattle.limits.specs.Limits.{libraryLimit}
 use Rattle.reports.specs.RefusalLaws.{Passed, refusalBefore-zero}
 use Rattle.refusal.specs.Number.{numberOf}
 use Rattle.refusal.specs.declared.Refusal.{Refusal}

@@ -12,7 +12,8 @@ use Rattle.sheet_format.specs.Layout.{top}
 use Rattle.sheet_format.specs.Check.{sectionsOf}
 use Rattle.reduction_steps.specs.Pivot.{release1}
 use Rattle.reduction_steps.specs.PivotLaws.{release1-is-rule}
-use Rattle.reports.specs.Call.{workSlots, reportSlots, entryLimit, coefficientLimit, libraryLimit, reductionsOf}
+use Rattle.reports.specs.Call.{workSlots, reportSlots, reductionsOf}
+use Rattle.limits.specs.Limits.{entryLimit, coefficientLimit, libraryLimit}
 use Rattle.answers.specs.TwoReductions.{Right, reductions-right}
 use Rattle.lines.specs.Slice.{at}
 use Rattle.operations.specs.Laid.{Laid, stateOf}

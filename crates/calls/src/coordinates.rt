@@ -1,6 +1,7 @@
 // The coordinate call.
 ghost use Prim.Native.Nat.{_≤_};
-ghost use Rattle.reports.specs.Call.{coordinateCall, libraryLimit};
+ghost use Rattle.reports.specs.Call.{coordinateCall};
+ghost use Rattle.limits.specs.Limits.{libraryLimit};
 ghost use Rattle.calls.specs.Answer.{CallAnswers};
 use crate::answer::Answer;
 use crate::reductions::Reductions;

@@ -1,6 +1,7 @@
 // The report call.
 ghost use Prim.Native.Nat.{_≤_};
-ghost use Rattle.reports.specs.Call.{reportCall, libraryLimit};
+ghost use Rattle.reports.specs.Call.{reportCall};
+ghost use Rattle.limits.specs.Limits.{libraryLimit};
 ghost use Rattle.calls.specs.Answer.{CallAnswers};
 use crate::answer::Answer;
 use crate::reductions::Reductions;

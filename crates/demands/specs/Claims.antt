@@ -13,7 +13,8 @@ use Rattle.sheet_format.specs.Check.{refusal, sectionsOf}
 use Rattle.sheet_format.specs.Sheet.{Bytes, IsSheet}
 use Rattle.homology_groups.specs.Chain.{Chain, combination}
 use Rattle.reduction_steps.specs.Pivot.{release1}
-use Rattle.reports.specs.Call.{done, libraryLimit, hostLimit, entryLimit, orElse, refusalBefore, chainRefusal, reportSlots, coordinateSlots, workSlots, reportCall, coordinateCall}
+use Rattle.reports.specs.Call.{done, orElse, refusalBefore, chainRefusal, reportSlots, coordinateSlots, workSlots, reportCall, coordinateCall}
+use Rattle.limits.specs.Limits.{libraryLimit, hostLimit, entryLimit}
 use Rattle.reports.specs.Host.{chainFrom, coefficientIn, slotsIn, hostReport, hostCoordinates, numberAt}
 use Rattle.reports.specs.Text.{refusalLine, programText}
 use Rattle.answers.specs.Homology.{IsBoundary}

@@ -16,6 +16,7 @@ use Rattle.reports.specs.Report.{freeRank, torsionCount}
 use Rattle.reports.specs.Reductions.{Reductions, tooWide, reduced}
 use Rattle.reports.specs.Call.{reductionsOf, reportCall}
 use Rattle.reports.specs.Host.{chainFrom}
+use Rattle.reports.specs.TextLaws.{programText-take}
 use Rattle.answers.specs.Homology.{IsCycle, IsBoundary}
 use Rattle.answers.specs.Right.{slot, generatorIn, IsRight, HasCounts}
 use Rattle.answers.specs.TwoReductions.{Right}
@@ -30,7 +31,7 @@ use Rattle.answers.specs.ProgramText.{refused-iff, dimensions-printed}
 use Rattle.demands.specs.Claims.{ReportNumbers, CoordinateNumbers, NotACycle, ReportLeaves, CoordinatesLeave, Acceptance, Reports, CoordinateCounts, SameCounts}
 use Rattle.demands.specs.Claims.{CoordinatesOf, ReportOf, CoordinatesDecide, CoordinatesCombine}
 use Rattle.demands.specs.Claims.{HostReportNumbers, HostCoordinateNumbers, HostReportLeft, HostCoordinatesLeft, HostReports, HostCoordinateCounts}
-use Rattle.demands.specs.Claims.{ProgramRefuses, ProgramPrints}
+use Rattle.demands.specs.Claims.{ProgramRefuses, ProgramPrints, ProgramInput}
 use Rattle.demands.specs.Claims as claims
 
 -- ==== Demand 1
@@ -219,3 +220,6 @@ programRefuses = refused-iff
 
 pub programPrints : ProgramPrints
 programPrints = dimensions-printed
+
+pub programInput : ProgramInput
+programInput = programText-take

@@ -13,7 +13,8 @@ use Rattle.sheet_format.specs.Sheet.{Bytes}
 use Rattle.sheet_format.specs.SheetLaws.{count-sectionsOf}
 use Rattle.refusal.specs.declared.Refusal.{Refusal}
 use Rattle.refusal.specs.Number.{numberOf}
-use Rattle.reports.specs.Call.{hostLimit, reportCall, coordinateCall}
+use Rattle.reports.specs.Call.{reportCall, coordinateCall}
+use Rattle.limits.specs.Limits.{hostLimit}
 use Rattle.reports.specs.Host.{HostCalled, numbersBytes, chainFrom, slotsIn, hostReport, hostCoordinates}
 use Rattle.reports.specs.HostCallLaws.{HostRefused, HostDone, reportRoom, coordinateRoom, workRoom, report-refused, report-done, coordinates-refused, coordinates-done}
 use Rattle.answers.specs.HostSizes.{ReportSized, CoordinatesSized, report-sized, coordinates-sized}

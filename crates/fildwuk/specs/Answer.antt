@@ -5,7 +5,7 @@ use Prim.Native.Nat.{ℕ, _≤_}
 use lib.IntN.{ℤ}
 use Rattle.complexes.specs.Complex.{count}
 use Rattle.sheet_format.specs.Check.{sectionsOf}
-use Rattle.reports.specs.Call.{hostLimit}
+use Rattle.limits.specs.Limits.{hostLimit}
 use Rattle.reports.specs.Host.{HostCalled, chainFrom, hostCoordinates}
 
 -- the number and the output are those of the definition

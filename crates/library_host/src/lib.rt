@@ -1,6 +1,7 @@
 // The library's calls, at its count limit of 256, for the tests and the benchmark in C. They answer 0 for done or the number of the refusal.
 ghost use mathlib.Core.Path.{_≡_};
-ghost use Rattle.reports.specs.Call.{reportCall, coordinateCall, libraryLimit};
+ghost use Rattle.reports.specs.Call.{reportCall, coordinateCall};
+ghost use Rattle.limits.specs.Limits.{libraryLimit};
 ghost use Rattle.calls.specs.Answer.{answered};
 ghost use Rattle.library_host.specs.Answer.{numberTold, LibraryAnswers};
 use calls::answer::Answer;

@@ -4,7 +4,7 @@ use mathlib.Core.List.{List}
 use Prim.Native.Nat.{ℕ, suc, _+_, _^_, _≤_}
 use lib.ListN.{length, take}
 use lib.IntN.{ℤ, pos, negsuc}
-use Rattle.reports.specs.Call.{hostLimit}
+use Rattle.limits.specs.Limits.{hostLimit}
 use Rattle.reports.specs.Host.{chainFrom}
 
 -- the bits of a signed 64-bit number, as an unsigned one

@@ -4,7 +4,7 @@ ghost use mathlib.Core.List.{_++_};
 ghost use Prim.Native.Nat.{ℕ, _+_, _*_, _≤_, _<_, min};
 ghost use lib.ListN.{length, take, drop, replicate};
 ghost use lib.IntN.{ℤ, pos};
-ghost use Rattle.reports.specs.Call.{hostLimit};
+ghost use Rattle.limits.specs.Limits.{hostLimit};
 ghost use Rattle.reports.specs.Host.{numberBytes, numbersBytes, coefficientAt};
 ghost use Rattle.little_endian.specs.Bytes.{SameBits, ReadsChain};
 use sheet::reader::Sheet;

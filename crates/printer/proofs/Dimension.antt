@@ -15,7 +15,8 @@ use Rattle.refusal.specs.declared.Refusal.{Refusal}
 use Rattle.refusal.specs.Number.{numberOf}
 use Rattle.reports.specs.Report.{kind, reported, torsionCount, reportList}
 use Rattle.reports.specs.ReportLaws.{length-coordinateList}
-use Rattle.reports.specs.Call.{hostLimit, reductionsOf, reportCall}
+use Rattle.reports.specs.Call.{reductionsOf, reportCall}
+use Rattle.limits.specs.Limits.{hostLimit}
 use Rattle.reports.specs.CallLaws.{ReducedWith}
 use Rattle.reports.specs.HostCallLaws.{reportRoom, workRoom}
 use Rattle.reports.specs.Text.{refusalLine, dimensionText, reportText}

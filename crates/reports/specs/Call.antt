@@ -6,7 +6,7 @@ use Prim.Native.Nat.{ℕ, zero, suc, _+_, _*_, max}
 use lib.Dec.{eqb, ltb}
 use lib.ListN.{length, getD, drop, replicate}
 use lib.IntN.{ℤ, pos, natAbs}
-pub use Rattle.limits.specs.Limits.{libraryLimit, hostLimit, entryLimit, coefficientLimit}
+use Rattle.limits.specs.Limits.{entryLimit, coefficientLimit}
 use Rattle.matrices.specs.Vector.{apply}
 use Rattle.complexes.specs.Complex.{Sections, count}
 use Rattle.complexes.specs.Boundary.{countBelow, boundary}

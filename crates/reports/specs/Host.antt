@@ -12,7 +12,8 @@ use Rattle.sheet_format.specs.Check.{sectionsOf}
 use Rattle.reduction_steps.specs.State.{State}
 use Rattle.reports.specs.Reductions.{Reductions, tooWide, reduced}
 use Rattle.reports.specs.Report.{reportList, coordinateList}
-use Rattle.reports.specs.Call.{hostLimit, orElse, refusalBefore, chainRefusal, reportSlots, coordinateSlots, workSlots, reductionsOf}
+use Rattle.reports.specs.Call.{orElse, refusalBefore, chainRefusal, reportSlots, coordinateSlots, workSlots, reductionsOf}
+use Rattle.limits.specs.Limits.{hostLimit}
 
 -- ---- numbers as bytes
 

@@ -20,7 +20,8 @@ use Rattle.sheet_format.specs.SheetLaws.{count-sectionsOf, countField-out}
 use Rattle.reduction_steps.specs.State.{State}
 use Rattle.reports.specs.Reductions.{Reductions}
 use Rattle.reports.specs.Report.{reportList, coordinateList}
-use Rattle.reports.specs.Call.{done, refused, hostLimit, orElse, refusalBefore, chainRefusal, reportSlots, coordinateSlots, workSlots, reductionsOf, reportCall, coordinateCall}
+use Rattle.reports.specs.Call.{done, refused, orElse, refusalBefore, chainRefusal, reportSlots, coordinateSlots, workSlots, reductionsOf, reportCall, coordinateCall}
+use Rattle.limits.specs.Limits.{hostLimit}
 use Rattle.reports.specs.CallLaws.{call, ReducedWith, CallRefused, earlier, wide, call-done, call-refused, call-output}
 use Rattle.reports.specs.Host.{HostCalled, numbersBytes, chainFrom, slotsIn, orRefusedWith, finishedWith, hostReport, hostCoordinates}
 

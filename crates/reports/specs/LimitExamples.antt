@@ -11,7 +11,8 @@ use Rattle.complexes.specs.Cell.{without, same, rises, precedes, listed}
 use Rattle.sheet_format.specs.Layout.{cellBytes, sectionBytes, sectionsBytes, start, headerBytes, layout}
 use Rattle.sheet_format.specs.Check.{countField, offsetField, cellOf, cellsOf, sectionsOf, some, countExceeds, verticesDoNotRise, cellsDoNotRise, faceMissing, refusal}
 use Rattle.reduction_steps.specs.Table.{rowWithin, tableWithin}
-use Rattle.reports.specs.Call.{libraryLimit, hostLimit, entryLimit, coefficientExceeds}
+use Rattle.reports.specs.Call.{coefficientExceeds}
+use Rattle.limits.specs.Limits.{libraryLimit, hostLimit, entryLimit}
 
 -- the sheet of n vertices
 unfoldable pub vertices : ℕ → List ℕ

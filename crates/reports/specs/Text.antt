@@ -13,7 +13,8 @@ use Rattle.reduction_steps.specs.Table.{entry}
 use Rattle.reduction_steps.specs.State.{State}
 use Rattle.reports.specs.Reductions.{Reductions, tooWide, reduced}
 use Rattle.reports.specs.Report.{kind, reported, freeRank, torsionCount}
-use Rattle.reports.specs.Call.{hostLimit, reductionsOf}
+use Rattle.reports.specs.Call.{reductionsOf}
+use Rattle.limits.specs.Limits.{hostLimit}
 
 -- the decimal digits of n, of which it has at most `most`
 unfoldable pub digits : ℕ → ℕ → List ℕ

@@ -17,7 +17,7 @@ use Rattle.reduction_steps.specs.Table.{entry}
 use Rattle.reduction_steps.specs.State.{State}
 use Rattle.reports.specs.Reductions.{reduced}
 use Rattle.reports.specs.Report.{kind, reported, columnsOf, freeRank, torsionCount, reportList}
-use Rattle.reports.specs.Call.{hostLimit}
+use Rattle.limits.specs.Limits.{hostLimit}
 use Rattle.reports.specs.Text.{decimal, spaced, line, generatorLines, generatorsText, dimensionText, textFor, programText, reportText}
 
 pub spaced-append : (a b : List ℤ) → spaced (a ++ b) ≡ spaced a ++ spaced b

@@ -6,7 +6,8 @@ use Prim.Native.Nat.{ℕ}
 use lib.Dec.{T}
 use lib.IntN.{ℤ, pos, negℤ}
 use lib.ListN.{replicate}
-use Rattle.reports.specs.Call.{libraryLimit, Called, refused, reportCall, coordinateCall}
+use Rattle.reports.specs.Call.{Called, refused, reportCall, coordinateCall}
+use Rattle.limits.specs.Limits.{libraryLimit}
 use Rattle.starred.specs.Same.{sameCalled, sameCalled-eq}
 
 -- what is asked for: the report, or the coordinates of a chain

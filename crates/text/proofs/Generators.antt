@@ -10,7 +10,7 @@ use native.Mathlib.Omega.{arith}
 use lib.ListN.{length, take, drop}
 use lib.Seq.{drop-drop}
 use lib.IntN.{ℤ, pos}
-use Rattle.reports.specs.Call.{hostLimit}
+use Rattle.limits.specs.Limits.{hostLimit}
 use Rattle.reports.specs.Text.{line, generatorsText, reportText}
 use Rattle.reports.specs.TextLaws.{generatorsText-suc}
 use Rattle.text.specs.Put.{PutsWithin}

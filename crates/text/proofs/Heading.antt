@@ -6,7 +6,7 @@ use native.Mathlib.Nat.{sub-zero}
 use native.Mathlib.Omega.{arith}
 use lib.ListN.{length, take}
 use lib.IntN.{ℤ, pos}
-use Rattle.reports.specs.Call.{hostLimit}
+use Rattle.limits.specs.Limits.{hostLimit}
 use Rattle.reports.specs.Text.{decimal, spaced, line}
 use Rattle.text.specs.Put.{Puts, PutsWithin}
 use Rattle.text.specs.Room.{numberRoom, fieldRoom, headingRoom}

@@ -5,7 +5,7 @@ ghost use lib.ListN.{length, take, drop};
 ghost use lib.IntN.{pos};
 ghost use Rattle.refusal.specs.Number.{numberOf};
 ghost use Rattle.reports.specs.Text.{spaced, line, refusalLine, reportText};
-ghost use Rattle.reports.specs.Call.{hostLimit};
+ghost use Rattle.limits.specs.Limits.{hostLimit};
 ghost use Rattle.sheet_format.specs.Layout.{top};
 ghost use Rattle.text.specs.Put.{PutsWithin};
 ghost use Rattle.text.specs.Room.{fieldRoom, lineRoom, headingRoom, dimensionRoom};

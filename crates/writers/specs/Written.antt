@@ -9,7 +9,8 @@ use Rattle.lists.specs.Tabulate.{tabulate}
 use Rattle.lists.specs.Splice.{splice}
 use Rattle.reduction_steps.specs.Table.{entry}
 use Rattle.reports.specs.Report.{freeRank, torsionCount, reportList, coordinateList}
-use Rattle.reports.specs.Call.{written, libraryLimit, coefficientLimit}
+use Rattle.reports.specs.Call.{written}
+use Rattle.limits.specs.Limits.{libraryLimit, coefficientLimit}
 use Rattle.lines.specs.Slice.{at, Small}
 use Rattle.lines.specs.Matrices.{contents}
 use Rattle.lines.specs.declared.matrix.Matrix.{Matrix}

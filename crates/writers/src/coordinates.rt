@@ -10,7 +10,7 @@ ghost use Rattle.reduction_steps.specs.Table.{entry};
 ghost use Rattle.lines.specs.Slice.{Small, at};
 ghost use Rattle.lines.specs.Matrices.{Held};
 ghost use Rattle.operations.specs.Laid.{linesOf};
-ghost use Rattle.reports.specs.Call.{libraryLimit, coefficientLimit};
+ghost use Rattle.limits.specs.Limits.{libraryLimit, coefficientLimit};
 ghost use Rattle.writers.specs.Written.{CanCoordinate, WroteCoordinates};
 use crate::kind::kind;
 use crate::kind::reported_count;

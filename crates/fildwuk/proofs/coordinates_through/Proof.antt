@@ -10,7 +10,8 @@ use lib.ListN.{length, take, drop, length-append}
 use lib.Seq.{length-take-le}
 use lib.IntN.{ℤ}
 use Rattle.sheet_format.specs.Sheet.{Bytes}
-use Rattle.reports.specs.Call.{hostLimit, coordinateCall}
+use Rattle.reports.specs.Call.{coordinateCall}
+use Rattle.limits.specs.Limits.{hostLimit}
 use Rattle.reports.specs.Host.{slotsIn}
 use Rattle.reports.specs.HostCallLaws.{coordinateRoom, workRoom}
 use Rattle.answers.specs.HostSizes.{CoordinatesSized}

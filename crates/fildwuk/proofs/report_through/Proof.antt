@@ -9,7 +9,8 @@ use lib.ListN.{length, take, drop, length-append}
 use lib.Seq.{length-take-le}
 use lib.IntN.{ℤ}
 use Rattle.sheet_format.specs.Sheet.{Bytes}
-use Rattle.reports.specs.Call.{hostLimit, reportCall}
+use Rattle.reports.specs.Call.{reportCall}
+use Rattle.limits.specs.Limits.{hostLimit}
 use Rattle.reports.specs.Host.{slotsIn}
 use Rattle.reports.specs.HostCallLaws.{reportRoom, workRoom}
 use Rattle.answers.specs.HostSizes.{ReportSized}

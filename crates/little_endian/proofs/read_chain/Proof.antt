@@ -16,7 +16,7 @@ use mir.Syntax.{w32}
 use mir.Facts.{toZ-ofZ}
 use Rattle.lists.specs.Tabulate.{tabulate}
 use Rattle.lists.specs.TabulateLaws.{length-tabulate, getD-tabulate}
-use Rattle.reports.specs.Call.{hostLimit}
+use Rattle.limits.specs.Limits.{hostLimit}
 use Rattle.reports.specs.Host.{coefficientAt, chainFrom, otherLength}
 use Rattle.little_endian.specs.Bytes.{ReadsChain}
 use Rattle.little_endian.proofs.read_chain.Statement.{statement}

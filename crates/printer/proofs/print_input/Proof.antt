@@ -7,7 +7,7 @@ use native.Mathlib.Omega.{arith}
 use borrow.Author.Needs.{needs}
 use lib.ListN.{length}
 use Rattle.sheet_format.specs.Layout.{longest}
-use Rattle.reports.specs.Call.{hostLimit}
+use Rattle.limits.specs.Limits.{hostLimit}
 use Rattle.reports.specs.Text.{programText}
 use Rattle.reports.specs.TextLaws.{programText-take}
 use Rattle.text.specs.Put.{PutsWithin}

@@ -9,7 +9,7 @@ use Rattle.sheet_format.specs.Check.{refusal}
 use Rattle.sheet.specs.declared.reader.Reading.{Reading}
 use Rattle.sheet.specs.declared.reader.Reading.the-variants.{Accepted, Refused}
 use Rattle.sheet.specs.Number.{readingNumber}
-use Rattle.reports.specs.Call.{hostLimit}
+use Rattle.limits.specs.Limits.{hostLimit}
 use Rattle.printer.proofs.Program.{accepted-text, refused-text}
 use Rattle.printer.proofs.print_sheet.Statement.{statement}
 use Rattle.printer.proofs.print_sheet.Tie as tie

@@ -7,7 +7,8 @@ use borrow.Author.Needs.{needs}
 use denote.Ref.{now}
 use lib.IntN.{ℤ}
 use Rattle.sheet_format.specs.Sheet.{Bytes}
-use Rattle.reports.specs.Call.{hostLimit, reportCall}
+use Rattle.reports.specs.Call.{reportCall}
+use Rattle.limits.specs.Limits.{hostLimit}
 use Rattle.writers.specs.declared.reduced.Counts.{Counts}
 use Rattle.calls.specs.declared.answer.Answer.{Answer}
 use Rattle.calls.specs.declared.answer.Answer.the-variants.{Done, Refused}

@@ -19,7 +19,7 @@ use Rattle.complexes.specs.Complex.{count, cell, Complex}
 use Rattle.complexes.specs.Boundary.{sign}
 use Rattle.sheet_format.specs.Layout.{top}
 use Rattle.sheet_format.specs.Check.{sectionsOf}
-use Rattle.reports.specs.Call.{libraryLimit, coefficientLimit}
+use Rattle.limits.specs.Limits.{libraryLimit, coefficientLimit}
 use Rattle.lines.specs.Slice.{limit}
 use Rattle.lines.proofs.Words.{read, sfits-below, read-wide}
 use Rattle.boundaries.specs.Face.{IsFace, Sums, AddsFaces}

@@ -28,7 +28,8 @@ use Rattle.sheet_format.specs.Layout.{top}
 use Rattle.sheet_format.specs.Check.{sectionsOf, some}
 use Rattle.sheet_format.specs.CheckLaws.{some-at, some-false}
 use Rattle.sheet_format.specs.SheetLaws.{count-sectionsOf}
-use Rattle.reports.specs.Call.{libraryLimit, coefficientLimit, boundaryNotZero}
+use Rattle.reports.specs.Call.{boundaryNotZero}
+use Rattle.limits.specs.Limits.{libraryLimit, coefficientLimit}
 use Rattle.lines.proofs.Words.{read, cast-fits, cast-is, zero-of-bits}
 use Rattle.boundaries.specs.Face.{Sums, AddsFaces}
 use Rattle.boundaries.proofs.Sheet.{complex}

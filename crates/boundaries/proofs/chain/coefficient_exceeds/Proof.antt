@@ -15,7 +15,8 @@ use mir.Syntax.{w32}
 use mir.Val.{SFits}
 use mir.Facts.{toZ-ofZ, sfits-lit}
 use Rattle.sheet_format.specs.CheckLaws.{some-at, some-false}
-use Rattle.reports.specs.Call.{coefficientLimit, coefficientExceeds}
+use Rattle.reports.specs.Call.{coefficientExceeds}
+use Rattle.limits.specs.Limits.{coefficientLimit}
 use Rattle.lines.proofs.Words.{read}
 use Rattle.boundaries.proofs.Words.{beyond-low, beyond-high, within}
 use Rattle.boundaries.proofs.chain.coefficient_exceeds.Statement.{statement}

@@ -7,7 +7,7 @@ use borrow.Author.Needs.{needs}
 use denote.Ref.{now}
 use Rattle.sheet_format.specs.Check.{startAt}
 use Rattle.sheet_format.specs.Sheet.{Bytes}
-use Rattle.reports.specs.Call.{libraryLimit}
+use Rattle.limits.specs.Limits.{libraryLimit}
 use Rattle.boundaries.specs.Face.{IsFace}
 use Rattle.boundaries.proofs.Sheet.{Looked, place, few, count-le, rising, found}
 use Rattle.boundaries.proofs.face.face_place.Statement.{statement}

@@ -14,7 +14,7 @@ use Rattle.complexes.specs.Boundary.{sign, boundary}
 use Rattle.complexes.specs.CoefficientLaws.{natAbs-sign}
 use Rattle.sheet_format.specs.Layout.{top}
 use Rattle.sheet_format.specs.Check.{sectionsOf}
-use Rattle.reports.specs.Call.{libraryLimit}
+use Rattle.limits.specs.Limits.{libraryLimit}
 use Rattle.lines.specs.Slice.{lineAt, Small}
 use Rattle.lines.specs.Matrices.{Held, contents}
 use Rattle.lines.specs.declared.matrix.Matrix.{Matrix}

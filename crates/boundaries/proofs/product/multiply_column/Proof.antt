@@ -17,7 +17,7 @@ use Rattle.complexes.specs.Complex.{count, Complex}
 use Rattle.complexes.specs.Boundary.{sign}
 use Rattle.sheet_format.specs.Layout.{top}
 use Rattle.sheet_format.specs.Check.{sectionsOf}
-use Rattle.reports.specs.Call.{libraryLimit}
+use Rattle.limits.specs.Limits.{libraryLimit}
 use Rattle.lines.specs.Slice.{limit, at, lineAt, Small}
 use Rattle.lines.specs.Matrices.{Held, contents, end}
 use Rattle.lines.specs.declared.matrix.Matrix.{Matrix}

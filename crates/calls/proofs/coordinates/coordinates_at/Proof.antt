@@ -11,7 +11,8 @@ use Rattle.sheet_format.specs.Layout.{top}
 use Rattle.sheet_format.specs.Check.{sectionsOf, refusal}
 use Rattle.sheet_format.specs.SheetLaws.{count-sectionsOf}
 use Rattle.sheet.specs.Number.{readingNumber}
-use Rattle.reports.specs.Call.{coordinateSlots, workSlots, libraryLimit, reductionsOf, coefficientExceeds, chainRefusal}
+use Rattle.reports.specs.Call.{coordinateSlots, workSlots, reductionsOf, coefficientExceeds, chainRefusal}
+use Rattle.limits.specs.Limits.{libraryLimit}
 use Rattle.reports.specs.RefusalLaws.{Passed}
 use Rattle.boundaries.specs.Face.{Accepted}
 use Rattle.calls.specs.Slices.{ReducedTwice}

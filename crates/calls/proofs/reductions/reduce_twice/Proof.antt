@@ -10,7 +10,7 @@ use lib.ListN.{length, replicate}
 use Rattle.complexes.specs.Complex.{Complex}
 use Rattle.sheet_format.specs.Layout.{top}
 use Rattle.sheet_format.specs.Check.{sectionsOf}
-use Rattle.reports.specs.Call.{libraryLimit}
+use Rattle.limits.specs.Limits.{libraryLimit}
 use Rattle.calls.specs.Slices.{firstLayoutOf, secondLayoutOf}
 use Rattle.calls.proofs.Sheet.{ReducedWith, counted, sheet-complex, first-of, second-of}
 use Rattle.calls.proofs.Filling.{laid}

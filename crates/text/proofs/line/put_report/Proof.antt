@@ -4,7 +4,7 @@ use mathlib.Core.Path.{_∙_}
 use Prim.Native.Nat.{_+_, _-_, _*_, _≤_}
 use native.Mathlib.Omega.{arith}
 use lib.ListN.{length}
-use Rattle.reports.specs.Call.{hostLimit}
+use Rattle.limits.specs.Limits.{hostLimit}
 use Rattle.text.specs.Room.{generatorRoom}
 use Rattle.text.specs.PutLaws.{within-next}
 use Rattle.text.proofs.Generators.{Generators, generators-none, generators-inside, generators-room, generators-more, report-put}

@@ -16,7 +16,7 @@ use Rattle.integers.specs.Order.{natAbs-mul, natAbs-add}
 use Rattle.matrices.specs.Sum.{sum}
 use Rattle.matrices.specs.SumLaws.{sum-ext}
 use Rattle.matrices.specs.Vector.{apply}
-use Rattle.reports.specs.Call.{libraryLimit, coefficientLimit}
+use Rattle.limits.specs.Limits.{libraryLimit, coefficientLimit}
 use Rattle.reduction_steps.specs.Table.{entry}
 use Rattle.lines.specs.Slice.{limit, at, Small}
 use Rattle.operations.specs.Laid.{linesOf}

@@ -15,7 +15,8 @@ use Rattle.integers.specs.Division.{modulo}
 use Rattle.matrices.specs.Vector.{apply}
 use Rattle.reduction_steps.specs.Table.{entry}
 use Rattle.reports.specs.Report.{reported, torsionCount, coordinateAt, coordinateList}
-use Rattle.reports.specs.Call.{libraryLimit, written}
+use Rattle.reports.specs.Call.{written}
+use Rattle.limits.specs.Limits.{libraryLimit}
 use Rattle.lines.specs.Slice.{at}
 use Rattle.lines.specs.declared.matrix.Matrix.{Matrix}
 use Rattle.lines.proofs.Words.{read}
