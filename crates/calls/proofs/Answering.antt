@@ -17,7 +17,7 @@ use Rattle.refusal.specs.declared.Refusal.the-variants as refusal
 use Rattle.writers.specs.declared.reduced.Counts.{Counts}
 use Rattle.calls.specs.Answer.{CallAnswers}
 use Rattle.calls.specs.declared.answer.Answer.the-variants.{Done, Refused}
-use Rattle.calls.proofs.Refusals.{number-positive}
+use Rattle.refusal.specs.NumberLaws.{number-positive}
 
 module _ (before : ℕ) (R : Reductions) (numbers : ℕ → ℕ → State → List ℤ) (output work : List ℤ) where
   pub refuses : {x : Refusal} → before ≡ numberOf x → CallAnswers (call before R numbers output work) (Refused x) output work

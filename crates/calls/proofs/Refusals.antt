@@ -17,23 +17,8 @@ use Rattle.reports.specs.Call.{workSlots, orElse, refusalBefore, chainRefusal, 
 use Rattle.limits.specs.Limits.{coefficientLimit}
 use Rattle.answers.specs.ChainChecks.{chain-passes, not-a-cycle-iff}
 use Rattle.refusal.specs.Number.{numberOf}
+use Rattle.refusal.specs.NumberLaws.{number-positive}
 use Rattle.refusal.specs.declared.Refusal.{Refusal}
-use Rattle.refusal.specs.declared.Refusal.the-variants.{SheetTooShort, CountExceedsLimit, OffsetDiffers, LengthDiffers, VerticesDoNotRise, CellsDoNotRise, FaceMissing, DimensionExceedsTop, SliceTooShort, ChainLengthDiffers, CoefficientExceedsLimit, BoundaryNotZero, TooWide}
-
-pub number-positive : (x : Refusal) → 0 < numberOf x
-number-positive SheetTooShort = omega arith
-number-positive CountExceedsLimit = omega arith
-number-positive OffsetDiffers = omega arith
-number-positive LengthDiffers = omega arith
-number-positive VerticesDoNotRise = omega arith
-number-positive CellsDoNotRise = omega arith
-number-positive FaceMissing = omega arith
-number-positive DimensionExceedsTop = omega arith
-number-positive SliceTooShort = omega arith
-number-positive ChainLengthDiffers = omega arith
-number-positive CoefficientExceedsLimit = omega arith
-number-positive BoundaryNotZero = omega arith
-number-positive TooWide = omega arith
 
 pub orElse-first : (first later : ℕ) (x : Refusal) → first ≡ numberOf x → orElse first later ≡ numberOf x
 orElse-first zero later x e = absurd (omega (arith, number-positive x))

@@ -1,2 +1,3 @@
 -- The numbers of the refusals.
 pub mod Number
+pub mod NumberLaws

@@ -1,8 +1,7 @@
 // The checks 1 to 7 in document 01's order.
 ghost use mathlib.Core.Path.{_≡_};
 ghost use Rattle.limits.specs.Limits.{libraryLimit, hostLimit};
-ghost use Rattle.sheet_format.specs.Check.{refusal};
-ghost use Rattle.sheet.specs.Number.{readingNumber};
+ghost use Rattle.sheet.specs.Number.{ReadsSheet};
 use crate::check::cells_do_not_rise;
 use crate::check::count_exceeds;
 use crate::check::face_missing;
@@ -51,9 +50,9 @@ impl Sheet {
         }
     }
 
-    // Accepted, or the first refusal that applies.
+    // Accepted, exactly where the bytes are the layout of a complex within the limit, or the first refusal that applies.
     pub fn read(self, s: &[u8]) -> Reading
-        ensures { λ r. ⌜ readingNumber r ≡ refusal (self .limit) (now (s .entry)) ⌝ }
+        ensures { λ r. ⌜ ReadsSheet (self .limit) (now (s .entry)) r ⌝ }
     {
         if s.len() < HEADER_LENGTH {
             return Reading::Refused(Refusal::SheetTooShort);

@@ -18,7 +18,7 @@ use Rattle.printer.proofs.print_sheet.Tie as tie
 number : (c : tie.After-read) (r : Reading) → c .read .result ≡ r → refusal hostLimit (now (c .before .before .before .args .s)) ≡ readingNumber r
 number c r e =
     ap (λ (limit : ℕ). refusal limit (now (c .before .before .before .args .s))) (sym (c .before .host .ensures))
-    ∙ sym (c .read .ensures)
+    ∙ sym (c .read .ensures .number)
     ∙ ap readingNumber e
 
 host-requires : tie.Need-host-requires

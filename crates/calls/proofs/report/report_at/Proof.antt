@@ -37,7 +37,7 @@ returns : tie.Need-returns
 returns c =
     let a = c .before .before .before .before .before .args in
     let x = c .before .refusal .given .0 .0 in
-    let told : refusal (a .sheet .limit) (now (a .s)) ≡ _ = sym (c .before .before .before .read .ensures) ∙ ap readingNumber (c .before .refusal .given .1) in
+    let told : refusal (a .sheet .limit) (now (a .s)) ≡ _ = sym (c .before .before .before .read .ensures .number) ∙ ap readingNumber (c .before .refusal .given .1) in
     report-refuses (a .sheet .limit) (now (a .s)) (a .dimension) (now (a .report)) (now (a .work))
     (sheet-refused (a .sheet .limit) (now (a .s)) (a .dimension) reportSlots (length (now (a .report))) (length (now (a .work))) x told)
 
@@ -49,7 +49,7 @@ module _ (c : tie.After-enum-told) where
   start = c .before .before .before .before
 
   accepted : refusal (start .args .sheet .limit) (now (start .args .s)) ≡ 0
-  accepted = sym (c .before .before .read .ensures) ∙ ap readingNumber (c .enum-told .given .1)
+  accepted = sym (c .before .before .read .ensures .number) ∙ ap readingNumber (c .enum-told .given .1)
 
 -- ---- the dimension
 

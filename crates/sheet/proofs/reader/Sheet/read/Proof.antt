@@ -8,12 +8,17 @@ use Prim.Native.Nat.{ℕ}
 use lib.ListN.{length}
 use denote.Ref.{now}
 use Rattle.sheet_format.specs.Check.{startAt, sectionsOf, tooShort, countExceeds, offsetDiffers, lengthDiffers, verticesDoNotRise, cellsDoNotRise, refusal}
+use Rattle.sheet_format.specs.Sheet.{Bytes}
+use Rattle.sheet.proofs.Accepted.{reads-sheet}
 use Rattle.sheet.proofs.reader.Sheet.read.Statement.{statement}
 use Rattle.sheet.proofs.reader.Sheet.read.Tie as tie
 
 -- the sheet, and the checks that passed on the way to the next
-abbrev Bytes : tie.Start → List ℕ
-Bytes c = now (c .args .s)
+abbrev sheetOf : tie.Start → List ℕ
+sheetOf c = now (c .args .s)
+
+bytes : (c : tie.After-shared-slice-known) → Bytes (sheetOf (c .before))
+bytes c = record { small = λ i. c .shared-slice-known .given i .fits }
 
 abbrev start₁ : tie.Else1 → tie.Start
 start₁ c = c .before .before
@@ -33,34 +38,36 @@ start₅ c = start₄ (c .before .before)
 abbrev start₆ : tie.Else6 → tie.Start
 start₆ c = start₅ (c .before .before)
 
-long : (c : tie.Else1) → tooShort (Bytes (start₁ c)) ≡ false
-long c = le-ltb (length (Bytes (start₁ c))) 16 (c .if1 .left)
+long : (c : tie.Else1) → tooShort (sheetOf (start₁ c)) ≡ false
+long c = le-ltb (length (sheetOf (start₁ c))) 16 (c .if1 .left)
 
-counts : (c : tie.Else2) → countExceeds (start₂ c .args .self .limit) (Bytes (start₂ c)) ≡ false
+counts : (c : tie.Else2) → countExceeds (start₂ c .args .self .limit) (sheetOf (start₂ c)) ≡ false
 counts c = sym (c .before .count-exceeds .ensures) ∙ c .if2 .left
 
-offsets : (c : tie.Else3) → offsetDiffers (Bytes (start₃ c)) ≡ false
+offsets : (c : tie.Else3) → offsetDiffers (sheetOf (start₃ c)) ≡ false
 offsets c = sym (c .before .offset-differs .ensures) ∙ c .if3 .left
 
-ends : (c : tie.Else4) → lengthDiffers (Bytes (start₄ c)) ≡ false
-ends c = ap not (eq-eqb (length (Bytes (start₄ c))) (startAt (Bytes (start₄ c)) 4) (c .if4 .left ∙ c .before .start .ensures .is))
+ends : (c : tie.Else4) → lengthDiffers (sheetOf (start₄ c)) ≡ false
+ends c = ap not (eq-eqb (length (sheetOf (start₄ c))) (startAt (sheetOf (start₄ c)) 4) (c .if4 .left ∙ c .before .start .ensures .is))
 
-vertices : (c : tie.Else5) → verticesDoNotRise (sectionsOf (Bytes (start₅ c))) ≡ false
+vertices : (c : tie.Else5) → verticesDoNotRise (sectionsOf (sheetOf (start₅ c))) ≡ false
 vertices c = sym (c .before .vertices-do-not-rise .ensures) ∙ c .if5 .left
 
-cells : (c : tie.Else6) → cellsDoNotRise (sectionsOf (Bytes (start₆ c))) ≡ false
+cells : (c : tie.Else6) → cellsDoNotRise (sectionsOf (sheetOf (start₆ c))) ≡ false
 cells c = sym (c .before .cells-do-not-rise .ensures) ∙ c .if6 .left
 
 returns : tie.Need-returns
 unfolding refusal
-returns c = rw (lt-ltb (length (Bytes (c .before .before))) 16 (c .if1 .taken))
+returns c = reads-sheet (bytes (c .before)) (rw (lt-ltb (length (sheetOf (c .before .before))) 16 (c .if1 .taken)))
 
 count-exceeds-requires : tie.Need-count-exceeds-requires
 count-exceeds-requires c κs = search needs
 
 returns-2 : tie.Need-returns-2
 unfolding refusal
-returns-2 c = rw (long (c .before .before), ← c .before .count-exceeds .ensures, c .if2 .taken)
+returns-2 c =
+    let c₁ = c .before .before in
+    reads-sheet (bytes (c₁ .before)) (rw (long c₁, ← c .before .count-exceeds .ensures, c .if2 .taken))
 
 offset-differs-requires : tie.Need-offset-differs-requires
 offset-differs-requires c κs = search needs
@@ -70,7 +77,7 @@ unfolding refusal
 returns-3 c =
     let c₂ = c .before .before in
     let c₁ = c₂ .before .before in
-    rw (long c₁, counts c₂, ← c .before .offset-differs .ensures, c .if3 .taken)
+    reads-sheet (bytes (c₁ .before)) (rw (long c₁, counts c₂, ← c .before .offset-differs .ensures, c .if3 .taken))
 
 add-start : tie.Need-add-start
 add-start c = search needs
@@ -84,8 +91,8 @@ returns-4 c =
     let c₃ = c .before .before in
     let c₂ = c₃ .before .before in
     let c₁ = c₂ .before .before in
-    let b = Bytes (start₃ c₃) in
-    rw (long c₁, counts c₂, offsets c₃, ne-eqb (length b) (startAt b 4) (λ e. c .if4 .taken (e ∙ sym (c .before .start .ensures .is))))
+    let b = sheetOf (start₃ c₃) in
+    reads-sheet (bytes (c₁ .before)) (rw (long c₁, counts c₂, offsets c₃, ne-eqb (length b) (startAt b 4) (λ e. c .if4 .taken (e ∙ sym (c .before .start .ensures .is)))))
 
 vertices-do-not-rise-requires : tie.Need-vertices-do-not-rise-requires
 vertices-do-not-rise-requires c κs = search needs
@@ -97,7 +104,7 @@ returns-5 c =
     let c₃ = c₄ .before .before in
     let c₂ = c₃ .before .before in
     let c₁ = c₂ .before .before in
-    rw (long c₁, counts c₂, offsets c₃, ends c₄, ← c .before .vertices-do-not-rise .ensures, c .if5 .taken)
+    reads-sheet (bytes (c₁ .before)) (rw (long c₁, counts c₂, offsets c₃, ends c₄, ← c .before .vertices-do-not-rise .ensures, c .if5 .taken))
 
 cells-do-not-rise-requires : tie.Need-cells-do-not-rise-requires
 cells-do-not-rise-requires c κs = search needs
@@ -110,7 +117,7 @@ returns-6 c =
     let c₃ = c₄ .before .before in
     let c₂ = c₃ .before .before in
     let c₁ = c₂ .before .before in
-    rw (long c₁, counts c₂, offsets c₃, ends c₄, vertices c₅, ← c .before .cells-do-not-rise .ensures, c .if6 .taken)
+    reads-sheet (bytes (c₁ .before)) (rw (long c₁, counts c₂, offsets c₃, ends c₄, vertices c₅, ← c .before .cells-do-not-rise .ensures, c .if6 .taken))
 
 face-missing-requires : tie.Need-face-missing-requires
 face-missing-requires c κs = cells c
@@ -124,7 +131,7 @@ returns-7 c =
     let c₃ = c₄ .before .before in
     let c₂ = c₃ .before .before in
     let c₁ = c₂ .before .before in
-    rw (long c₁, counts c₂, offsets c₃, ends c₄, vertices c₅, cells c₆, ← c .before .face-missing .ensures, c .if7 .taken)
+    reads-sheet (bytes (c₁ .before)) (rw (long c₁, counts c₂, offsets c₃, ends c₄, vertices c₅, cells c₆, ← c .before .face-missing .ensures, c .if7 .taken))
 
 returns-8 : tie.Need-returns-8
 unfolding refusal
@@ -135,7 +142,7 @@ returns-8 c =
     let c₃ = c₄ .before .before in
     let c₂ = c₃ .before .before in
     let c₁ = c₂ .before .before in
-    rw (long c₁, counts c₂, offsets c₃, ends c₄, vertices c₅, cells c₆, ← c .before .face-missing .ensures, c .if7 .left)
+    reads-sheet (bytes (c₁ .before)) (rw (long c₁, counts c₂, offsets c₃, ends c₄, vertices c₅, cells c₆, ← c .before .face-missing .ensures, c .if7 .left))
 
 pub read-spec : {M : Type 1} → statement M
 read-spec =
