@@ -41,21 +41,13 @@ abbrev pub columnMeasure : ℕ → ℕ → ℕ → Matrix → ℕ
 columnMeasure rounds n k A = 4 * rounds + columnCalls n k A
 
 module _ (n k : ℕ) (A : Matrix) where
-  pub calls-positive : 0 < columnCalls n k A
+  pub calls-range : (1 ≤ columnCalls n k A) × (columnCalls n k A ≤ 2)
   unfolding columnCalls callsAfter
-  calls-positive = go (rowSearch n k A)
+  calls-range = go (rowSearch n k A)
     where
-      go : (r : Row) → 0 < callsAfter r
-      go noRow = omega arith
-      go (row i) = omega arith
-
-  pub calls-bound : columnCalls n k A ≤ 2
-  unfolding columnCalls callsAfter
-  calls-bound = go (rowSearch n k A)
-    where
-      go : (r : Row) → callsAfter r ≤ 2
-      go noRow = Nat.le-refl 2
-      go (row i) = omega arith
+      go : (r : Row) → (1 ≤ callsAfter r) × (callsAfter r ≤ 2)
+      go noRow = (omega arith, Nat.le-refl 2)
+      go (row i) = (Nat.le-refl 1, omega arith)
 
   -- an entry of row k is not divisible
   calls-remain : k < n → Indivisible A (A k k) k (suc k) n → columnCalls n k A ≡ 1

@@ -12,7 +12,6 @@ use lib.IntN.{ℤ, pos, negsuc, natAbs}
 use lib.ListN.{length, replicate}
 use Rattle.integers.specs.Division.{_∣ℤ_}
 use Rattle.integers.specs.Floor.{dvd-iff-modulo}
-use Rattle.matrices.specs.Matrix.{Matrix}
 use Rattle.matrices.specs.Operation.{subtract}
 use Rattle.reduction_steps.specs.State.{Outcome, tooWide, made, onRow}
 use Rattle.reduction_steps.specs.Pivot.{Choice, none, place, release1, Least}

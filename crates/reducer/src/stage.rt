@@ -1,6 +1,6 @@
 // One stage of the reduction. Pivot choice, row pass and column pass call one another; the pivot's absolute value falls on each return to the
 // choice, and step e is followed by a column pass that leaves a remainder. The number of rounds bounds how deep the calls go.
-ghost use Rattle.reduction_steps.specs.Step.{c, d};
+ghost use Rattle.reduction_steps.specs.Step as steps;
 ghost use Rattle.reducer.specs.Answer.{Begun, Placed, ColumnClear, ChoiceEnds, PassEnds};
 use crate::bring::bring_pivot;
 use crate::pass::Pass;
@@ -17,9 +17,9 @@ use operations::remainder::first_indivisible;
 use operations::remainder::row_keeps;
 use refusal::Refusal;
 
-// How many pivots one call of the cycle tries. A round takes at most four frames: the choice, the row pass, the column pass, and the column pass after
-// step e. The choice that finds no round left is one more, so that the cycle is at most 4 * ROUNDS + 1 = 33 frames deep. Its proof shows this: the
-// measure by which it ends (proofs/Measures.antt) is 4 * ROUNDS at the first call and falls with every call.
+// How many pivots one call of the cycle tries. A round takes at most four frames: the choice, the row pass, the column pass, and the column pass
+// after step e. The choice that finds no round left is one more, so that the cycle is at most 4 * ROUNDS + 1 = 33 frames deep. Its proof shows this:
+// the measure by which it ends (proofs/Measures.antt) is 4 * ROUNDS at the first call and falls with every call.
 pub const ROUNDS: usize = 8;
 
 // Cleared: the stage is over and k rises by one. Exhausted: there is no pivot, and the rank is k. Again: no round is left, and the stage goes on from
@@ -51,7 +51,7 @@ pub fn choose_pivot(layout: Layout, w: &mut [i32], k: usize, rounds: usize) -> S
 // Step c.
 fn row_pass(layout: Layout, w: &mut [i32], k: usize, rounds: usize) -> Stage
     requires { ⌜ Placed layout k (now w) ⌝ }
-    ensures { λ r. ⌜ PassEnds c layout k rounds (now (w .entry)) r (now (w .exit)) ⌝ }
+    ensures { λ r. ⌜ PassEnds steps.c layout k rounds (now (w .entry)) r (now (w .exit)) ⌝ }
 {
     let Pass::Made = clear_column(layout, w, k) else {
         return Stage::Refused(Refusal::TooWide);
@@ -65,7 +65,7 @@ fn row_pass(layout: Layout, w: &mut [i32], k: usize, rounds: usize) -> Stage
 // Steps d and e.
 fn column_pass(layout: Layout, w: &mut [i32], k: usize, rounds: usize) -> Stage
     requires { ⌜ ColumnClear layout k (now w) ⌝ }
-    ensures { λ r. ⌜ PassEnds d layout k rounds (now (w .entry)) r (now (w .exit)) ⌝ }
+    ensures { λ r. ⌜ PassEnds steps.d layout k rounds (now (w .entry)) r (now (w .exit)) ⌝ }
 {
     let Pass::Made = clear_row(layout, w, k) else {
         return Stage::Refused(Refusal::TooWide);

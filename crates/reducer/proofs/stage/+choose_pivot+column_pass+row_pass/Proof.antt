@@ -2,7 +2,7 @@
 -- below 4 for the place in the round (`Measures`). Where a function goes, with what holds there, is a lemma of `Stages`. Assumes nothing.
 use mathlib.Core.Path.{_≡_, refl, sym, ap, _∙_}
 use mathlib.Core.List.{List}
-use Prim.Native.Nat.{ℕ, _+_, _-_, _<_}
+use Prim.Native.Nat.{ℕ, _<_}
 use native.Mathlib.Nat as Nat
 use native.Mathlib.Omega.{arith}
 use lib.IntN.{ℤ, pos}
@@ -17,7 +17,7 @@ use Rattle.operations.specs.Scan.{pivotChoice, indivisibleRow}
 use Rattle.reducer.specs.Answer.{matrixOf, rowPassOf, columnPassOf, PassMade, StageRefused}
 use Rattle.reducer.proofs.States.{held-matrix, operated-done, operated-wide}
 use Rattle.reducer.proofs.Words.{pivot-positive}
-use Rattle.reducer.proofs.Measures.{choiceMeasure, rowMeasure, columnMeasure, calls-positive, calls-bound}
+use Rattle.reducer.proofs.Measures.{choiceMeasure, rowMeasure, columnMeasure, calls-range}
 use Rattle.reducer.proofs.Stages.{ToRows, ToChoice, ToColumns, ColumnsAgain, onward-ends, again, laid-kept, passed-made, pass-stops, Chosen, exhausted, chosen-least, bring-goes, to-rows, rows-go, rows-to-choice, rows-to-columns, columns-go, columns-to-choice, RowClear, row-clear, Found, cleared, row-lower, row-within, add-stops, columns-again}
 use Rattle.reducer.proofs.stage.choose_pivot.Reads as choose-pivot
 use Rattle.reducer.proofs.stage.choose_pivot.Kinds as choose-pivot-kinds
@@ -260,7 +260,7 @@ column-cleared t c =
 column-pass-choose-pivot-requires : (t : ℕ) → column-pass-lts.Need-choose-pivot-requires (column-pass-calls t) (column-pass-at t) column-pass.Post
 column-pass-choose-pivot-requires t c κs =
     let start = column-start t (c .before .before .before .before) in
-    (omega (arith, start .pre .0, calls-positive (start .args .layout .matrix .width) (start .args .k) (matrixOf (start .args .layout) (start .args .w .now))), column-to-choice t (c .before) .holds)
+    (omega (arith, start .pre .0, calls-range (start .args .layout .matrix .width) (start .args .k) (matrixOf (start .args .layout) (start .args .w .now))), column-to-choice t (c .before) .holds)
 
 column-pass-same-length-2 : (t : ℕ) → column-pass-lts.Need-same-length-2 (column-pass-calls t) (column-pass-at t) column-pass.Post
 column-pass-same-length-2 t c = c .before .choose-pivot .kept .1 .0 ∙ c .before .before .before .before .before .before .before .before .before .clear-row .kept .1 .0
@@ -430,7 +430,7 @@ row-pass-returns-2 t c = onward-ends (row-to-choice t (c .before .before .before
 row-pass-column-pass-requires : (t : ℕ) → row-pass-lts.Need-column-pass-requires (row-pass-calls t) (row-pass-at t) row-pass.Post
 row-pass-column-pass-requires t c κs =
     let start = row-start t (c .before .before .before .before) in
-    (omega (arith, start .pre .0, calls-bound (start .args .layout .matrix .width) (start .args .k) (matrixOf (start .args .layout) (c .before .before .before .before .before .before .before .clear-column .last .1 .0))), row-to-columns t (c .before) .holds)
+    (omega (arith, start .pre .0, calls-range (start .args .layout .matrix .width) (start .args .k) (matrixOf (start .args .layout) (c .before .before .before .before .before .before .before .clear-column .last .1 .0))), row-to-columns t (c .before) .holds)
 
 row-pass-same-length-3 : (t : ℕ) → row-pass-lts.Need-same-length-3 (row-pass-calls t) (row-pass-at t) row-pass.Post
 row-pass-same-length-3 t c = c .before .column-pass .kept .1 .0 ∙ c .before .before .before .before .before .before .before .before .before .clear-column .kept .1 .0
