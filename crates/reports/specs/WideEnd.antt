@@ -1,6 +1,6 @@
 -- Where the work of a dimension ends, for examples that go too wide: document 01, "The reduction".
---     wide-end    the two reductions are too wide exactly where the work does not come to its end
-use mathlib.Core.Bool.{Bool, true, false}
+--     wide-end    the two reductions are too wide exactly where the work does not come to its end; end-wide: the one direction
+use mathlib.Core.Bool.{Bool, true, false, false≢true}
 use mathlib.Core.Path.{_≡_, refl, sym, ap, _∙_}
 use Prim.Native.Nat.{ℕ}
 use Rattle.complexes.specs.Complex.{Sections}
@@ -84,3 +84,12 @@ module _ (limit : ℕ) (K : Sections) (p : ℕ) where
   pub wide-end : isWide (reductions release1 limit K p) ≡ endsWide (end limit K p)
   unfolding Agree
   wide-end = from-first firstMachine refl
+
+  -- what does not come to its end is too wide
+  pub end-wide : (e : End) → end limit K p ≡ e → endsWide e ≡ true → reductions release1 limit K p ≡ tooWide
+  unfolding isWide
+  end-wide e f w = narrow (reductions release1 limit K p) (wide-end ∙ ap endsWide f ∙ w)
+    where
+      narrow : (x : Reductions) → isWide x ≡ true → x ≡ tooWide
+      narrow tooWide h = refl
+      narrow (reduced s r x) h = absurd (false≢true h)
