@@ -34,15 +34,21 @@ def bytes_of(data):
     return " ∷ ".join([str(byte) for byte in data] + ["[]"])
 
 
+def cells_of(section):
+    """The cells of a section as a list."""
+    return " ∷ ".join([f"({bytes_of(cell)})" for cell in section] + ["[]"])
+
+
 def sections(cells):
     """Sections as lists of cells."""
-    parts = [" ∷ ".join([f"({bytes_of(cell)})" for cell in section] + ["[]"]) for section in cells]
-    return "\n    ∷ ".join(["[]" if part == "[]" else f"({part})" for part in parts] + ["[]"])
+    parts = [f"({cells_of(section)})" if section else "[]" for section in cells]
+    return "\n    ∷ ".join(parts + ["[]"])
 
 
 def tall(rows):
     """Rows as a list of lists, a line for each."""
-    return "".join(f"\n          {'∷ ' if i else ''}({numbers(row)})" for i, row in enumerate(rows)) + "\n          ∷ []"
+    indent = "\n" + 10 * " "
+    return indent + f"{indent}∷ ".join([f"({numbers(row)})" for row in rows] + ["[]"])
 
 
 def definition(about, name, kind, value):
@@ -63,38 +69,46 @@ def state(found, columns):
             "    }")
 
 
-def coordinates_of(data, chain):
-    """The coordinates of a chain of dimension 1."""
-    return homology.coordinates(data, DIMENSION, chain)
+def times(factor, chain):
+    """A multiple of a chain."""
+    return [factor * x for x in chain]
+
+
+def printed(data, generators):
+    """The lines that the program prints for the dimension."""
+    lines = program_output(data).splitlines(keepends=True)
+    first = next(i for i, line in enumerate(lines) if line.startswith(f"H {DIMENSION} "))
+    return "".join(lines[first:first + 1 + len(generators)])
+
+
+def content(facets):
+    """The text of the file."""
+    data = from_facets(facets)
+    sheet = parse(data, LIBRARY_COUNT_LIMIT)
+    found = homology.classes(sheet, DIMENSION)
+    report = homology.report(data, DIMENSION)
+    loop = report.generators[0]
+    for factor, coordinate in ((1, 1), (2, 0), (-1, 1)):
+        assert homology.coordinates(data, DIMENSION, times(factor, loop)) == [coordinate]
+    left = state(found, sheet.count(DIMENSION + 1))
+    text = printed(data, report.generators)
+    return HEADER + "".join([
+        definition("6 vertices, 15 edges, 10 triangles", "cells", "Sections", sections(closure(facets))),
+        definition("their sheet", "sheet", "List ℕ", bytes_of(data)),
+        definition("what the second reduction leaves", "left", "State", left),
+        definition("b, t, the orders and the generator", "report", "List ℤ", numbers(report.numbers())),
+        definition("the generator, a loop", "loop", "List ℤ", numbers(loop)),
+        definition("twice the loop", "twice", "List ℤ", numbers(times(2, loop))),
+        definition("the loop run backwards", "backwards", "List ℤ", numbers(times(-1, loop))),
+        definition(", then ".join(text.splitlines()), "text", "List ℕ", bytes_of(text.encode())),
+    ])
 
 
 def main():
     parser = argparse.ArgumentParser(description=__doc__.splitlines()[0])
     parser.add_argument("crate", type=Path, metavar="CRATE", help="the folder of the crate")
     crate = parser.parse_args().crate
-    facets = tower(1)
-    data = from_facets(facets)
-    sheet = parse(data, LIBRARY_COUNT_LIMIT)
-    found = homology.classes(sheet, DIMENSION)
-    report = homology.report(data, DIMENSION)
-    loop = report.generators[0]
-    assert (report.rank, report.orders) == (0, [2])
-    assert [coordinates_of(data, [times * x for x in loop]) for times in (1, 2, -1)] == [[1], [0], [1]]
-    lines = program_output(data).splitlines(keepends=True)
-    first = next(i for i, line in enumerate(lines) if line.startswith(f"H {DIMENSION} "))
-    text = "".join(lines[first:first + 1 + len(report.generators)])
-    spoken = ", then ".join(text.splitlines())
-    (crate / "specs" / "Plane.antt").write_text(
-        HEADER
-        + definition("6 vertices, 15 edges, 10 triangles", "cells", "Sections", sections(closure(facets)))
-        + definition("their sheet", "sheet", "List ℕ", bytes_of(data))
-        + definition("what the second reduction leaves", "left", "State", state(found, sheet.count(DIMENSION + 1)))
-        + definition("b = 0, one order, 2, and its generator", "report", "List ℤ", numbers(report.numbers()))
-        + definition("the generator, a loop", "loop", "List ℤ", numbers(loop))
-        + definition("twice the loop", "twice", "List ℤ", numbers([2 * x for x in loop]))
-        + definition("the loop run backwards", "backwards", "List ℤ", numbers([-x for x in loop]))
-        + definition(spoken, "text", "List ℕ", bytes_of(text.encode())),
-        encoding="utf-8")
+    (crate / "specs" / "Plane.antt").write_text(content(tower(1)), encoding="utf-8")
 
 
 if __name__ == "__main__":
