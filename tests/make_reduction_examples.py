@@ -301,11 +301,15 @@ def header(about):
     return f"-- {about}\n-- {WRITTEN_BY}\n{IMPORTS}"
 
 
+def numbers(row):
+    """Whole numbers as a list."""
+    return " ∷ ".join([f"pos {x}" if x >= 0 else f"minus {-x}" for x in row] + ["[]"])
+
+
 def table(rows):
     """Rows as a list of lists."""
-    numbers = [" ∷ ".join([f"pos {x}" if x >= 0 else f"minus {-x}" for x in row] + ["[]"])
-               for row in rows]
-    return " ∷ ".join([text if text == "[]" else f"({text})" for text in numbers] + ["[]"])
+    lines = [numbers(row) for row in rows]
+    return " ∷ ".join([text if text == "[]" else f"({text})" for text in lines] + ["[]"])
 
 
 def lines_of(one, name, values):

@@ -1,6 +1,7 @@
 -- The program's text and the host calls' bytes on sheets of document 01, through both reductions, and where these go too wide.
 --     examples    every sheet of `textCases` gives its text; every call of `hostCases` gives its number and leaves its bytes; an edge
 --                 goes too wide in the first reduction and in the product
+--     edge-wide   so its two reductions are too wide
 use mathlib.Core.Bool.{Bool, _&&_}
 use Prim.Native.Nat.{ℕ}
 use mathlib.Core.List.{List}
@@ -22,14 +23,14 @@ use Rattle.reduction_steps.specs.Table.{table, rowWithin, tableWithin}
 use Rattle.reduction_steps.specs.State.{follow, rowOperation, columnOperation, within, checked, andThen, onRow, onColumn}
 use Rattle.reduction_steps.specs.Pivot.{better, alongRow, downRows, release1}
 use Rattle.reduction_steps.specs.Step.{columnKeeps, rowKeeps, rowIndivisible, firstIndivisible, positive, bring, quotient, rowPass, columnPass, next, step, run, reduce}
-use Rattle.reports.specs.Reductions.{firstStart, product, secondStart, afterSecond, second, afterFirst, reductions}
+use Rattle.reports.specs.Reductions.{tooWide, firstStart, product, secondStart, afterSecond, second, afterFirst, reductions}
 use Rattle.reports.specs.Report.{reported, columnsOf, torsionCount, reportList, coordinateAt, coordinateList}
 use Rattle.reports.specs.Call.{coefficientExceeds, boundaryNotZero, refusalBefore, chainRefusal, reductionsOf}
 use Rattle.reports.specs.Text.{digits, decimal, spaced, generatorLines, dimensionText, dimensionsText, textFor, programText}
 use Rattle.reports.specs.Host.{HostCalled, lowBytes, numberBytes, numbersBytes, coefficientAt, otherLength, chainFrom, finishedWith, hostReport, hostCoordinates}
 use Rattle.reports.specs.TextCases.{TextCase, textCases}
 use Rattle.reports.specs.HostCases.{Request, report, coordinatesOf, HostCase, hostCases}
-use Rattle.reports.specs.WideEnd.{inFirst, inProduct, atEnd, endOfSecond, endOfProduct, endOfFirst, end}
+use Rattle.reports.specs.WideEnd.{inFirst, inProduct, atEnd, endOfSecond, endOfProduct, endOfFirst, end, endsWide, end-wide}
 
 unfoldable pub sameBytes : List ℕ → List ℕ → Bool
 sameBytes = sameList eqb
@@ -83,3 +84,8 @@ unfolding every sameList sameBytes textGood hostGood called sameCalled end endOf
     hostReport hostCoordinates refusalBefore chainRefusal coefficientExceeds boundaryNotZero
     chainFrom otherLength coefficientAt finishedWith numbersBytes numberBytes lowBytes reportList coordinateList coordinateAt columnsOf
 examples = record { texts = tt; hosts = tt; wideInFirst = refl; wideInProduct = refl; notWide = refl }
+
+-- the edge's reductions at the limit 0 are too wide
+pub edge-wide : (reductions release1 0 edgeSections 1 ≡ tooWide) × (reductions release1 0 edgeSections 0 ≡ tooWide)
+unfolding endsWide
+edge-wide = (end-wide 0 edgeSections 1 inFirst (examples .wideInFirst) refl, end-wide 0 edgeSections 0 inProduct (examples .wideInProduct) refl)

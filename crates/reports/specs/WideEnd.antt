@@ -1,6 +1,6 @@
 -- Where the work of a dimension ends, for examples that go too wide: document 01, "The reduction".
---     wide-end    the two reductions are too wide exactly where the work does not come to its end
-use mathlib.Core.Bool.{Bool, true, false}
+--     wide-end    the two reductions are too wide exactly where the work does not come to its end; end-wide: the one direction
+use mathlib.Core.Bool.{Bool, true, false, false≢true}
 use mathlib.Core.Path.{_≡_, refl, sym, ap, _∙_}
 use Prim.Native.Nat.{ℕ}
 use Rattle.complexes.specs.Complex.{Sections}
@@ -45,6 +45,12 @@ endsWide inProduct = true
 endsWide inSecond = true
 endsWide atEnd = false
 
+after-all : (s : ℕ) (m : Machine) → isWide (afterSecond s m) ≡ endsWide (endOfSecond m)
+unfolding afterSecond endOfSecond isWide endsWide
+after-all s (at l k x) = refl
+after-all s (done r x) = refl
+after-all s wide = refl
+
 -- what holds of equal reductions and an equal end holds of these
 agree : (x : Reductions) (y : End) {x′ : Reductions} {y′ : End} → x ≡ x′ → y ≡ y′ → isWide x′ ≡ endsWide y′ → isWide x ≡ endsWide y
 agree x y e f h = ap isWide e ∙ h ∙ sym (ap endsWide f)
@@ -64,15 +70,9 @@ module _ (limit : ℕ) (K : Sections) (p : ℕ) where
     unfolding end endOfFirst
     after-product b e = ap (endOfFirst limit K p) first ∙ ap (λ (t : Bool). endOfProduct t secondMachine) e
 
-    from-second : tableWithin limit (product K p r x) ≡ true → (m : Machine) → secondMachine ≡ m → Agree
-    unfolding Agree afterSecond endOfProduct endOfSecond isWide endsWide
-    from-second e (at l k y) f = agree _ _ (after-second release1 limit K p r x first e (at l k y) f) (after-product true e ∙ ap endOfSecond f) refl
-    from-second e (done q y) f = agree _ _ (after-second release1 limit K p r x first e (done q y) f) (after-product true e ∙ ap endOfSecond f) refl
-    from-second e wide f = agree _ _ (after-second release1 limit K p r x first e wide f) (after-product true e ∙ ap endOfSecond f) refl
-
     from-product : (b : Bool) → tableWithin limit (product K p r x) ≡ b → Agree
     unfolding Agree endOfProduct isWide endsWide
-    from-product true e = from-second e secondMachine refl
+    from-product true e = agree _ _ (after-second release1 limit K p r x first e secondMachine refl) (after-product true e) (after-all _ secondMachine)
     from-product false e = agree _ _ (product-wide release1 limit K p r x first e) (after-product false e) refl
 
   from-first : (m : Machine) → firstMachine ≡ m → Agree
@@ -84,3 +84,12 @@ module _ (limit : ℕ) (K : Sections) (p : ℕ) where
   pub wide-end : isWide (reductions release1 limit K p) ≡ endsWide (end limit K p)
   unfolding Agree
   wide-end = from-first firstMachine refl
+
+  -- what does not come to its end is too wide
+  pub end-wide : (e : End) → end limit K p ≡ e → endsWide e ≡ true → reductions release1 limit K p ≡ tooWide
+  unfolding isWide
+  end-wide e f w = narrow (reductions release1 limit K p) (wide-end ∙ ap endsWide f ∙ w)
+    where
+      narrow : (x : Reductions) → isWide x ≡ true → x ≡ tooWide
+      narrow tooWide h = refl
+      narrow (reduced s r x) h = absurd (false≢true h)

@@ -1,0 +1,85 @@
+-- The projective plane: `reductions-plane` computes the two reductions of dimension 1, and the calls and the text follow from it.
+--     plane-calls    the report, and the coordinates of the generator, of twice the generator and of its opposite: 1, 0, 1
+--     plane-wide     at the entry limit 1, dimension 2 goes too wide in the first reduction and dimension 1 in the second
+use mathlib.Core.List.{List, [], _∷_, _++_}
+use mathlib.Core.Path.{_≡_, refl}
+use Prim.Native.Nat.{ℕ}
+use lib.IntN.{ℤ, pos}
+use lib.ListN.{replicate}
+use Rattle.integers.specs.Division.{floor, modulo, divides}
+use Rattle.lists.specs.Tabulate.{tabulate}
+use Rattle.matrices.specs.Sum.{sum}
+use Rattle.matrices.specs.Matrix.{mul, identity, null}
+use Rattle.matrices.specs.Vector.{apply}
+use Rattle.matrices.specs.Operation.{onRows, onColumns, inverse}
+use Rattle.complexes.specs.Cell.{without, same, rises, precedes, listed}
+use Rattle.complexes.specs.Boundary.{sign, coefficient, countBelow, boundary}
+use Rattle.sheet_format.specs.Layout.{start}
+use Rattle.sheet_format.specs.Check.{countField, offsetField, cellOf, cellsOf, sectionsOf, some, verticesDoNotRise, cellsDoNotRise, faceMissing, refusal}
+use Rattle.reduction_steps.specs.Table.{table, rowWithin, tableWithin}
+use Rattle.reduction_steps.specs.State.{follow, rowOperation, columnOperation, within, checked, andThen, onRow, onColumn}
+use Rattle.reduction_steps.specs.Pivot.{better, alongRow, downRows, release1}
+use Rattle.reduction_steps.specs.Step.{columnKeeps, rowKeeps, rowIndivisible, firstIndivisible, positive, bring, quotient, rowPass, columnPass, next, step, run, reduce}
+use Rattle.reports.specs.Reductions.{tooWide, reduced, firstStart, product, secondStart, afterSecond, second, afterFirst, reductions}
+use Rattle.reports.specs.Report.{reported, columnsOf, torsionCount, reportList, coordinateAt, coordinateList}
+use Rattle.reports.specs.Call.{Called, done, coefficientExceeds, boundaryNotZero, refusalBefore, chainRefusal, finished, reductionsOf, reportCall, coordinateCall}
+use Rattle.reports.specs.Text.{digits, decimal, spaced, generatorLines, dimensionText}
+use Rattle.reports.specs.WideEnd.{inFirst, inSecond, endOfSecond, endOfProduct, endOfFirst, end, endsWide, end-wide}
+use Rattle.projective_plane.specs.Plane.{cells, sheet, left, report, loop, twice, backwards, text}
+
+-- ten rows of Q, ten pivots
+pub reductions-plane : reductionsOf sheet 1 ≡ reduced 10 10 left
+unfolding reductionsOf reductions firstStart afterFirst second product secondStart afterSecond countBelow boundary coefficient sign
+    countField cellOf cellsOf sectionsOf without same start
+    reduce run step next bring positive quotient rowPass columnPass columnKeeps rowKeeps rowIndivisible firstIndivisible
+    release1 downRows alongRow better onRow onColumn checked andThen within rowOperation columnOperation follow tableWithin rowWithin table
+    onRows onColumns inverse identity null mul sum floor divides tabulate
+reductions-plane = refl
+
+-- ---- the calls in dimension 1
+
+-- n slots as they are lent: a slot left untouched shows
+abbrev nines : ℕ → List ℤ
+nines n = replicate n (pos 9)
+
+-- done with b = 0 and t = 1, these numbers in the output and the other slots untouched, the work slice cleared
+abbrev gives : List ℤ → List ℤ → Called
+gives numbers rest = record { answer = done 0 1; output = numbers ++ rest; work = replicate 600 (pos 0) }
+
+pub record PlaneCalls : Type 0 where
+  pub report-call : reportCall 256 sheet 1 (nines 242) (nines 600) ≡ gives report (nines 224)
+  pub coordinate-loop : coordinateCall 256 sheet 1 loop (nines 15) (nines 600) ≡ gives (pos 1 ∷ []) (nines 14)
+  pub coordinate-twice : coordinateCall 256 sheet 1 twice (nines 15) (nines 600) ≡ gives (pos 0 ∷ []) (nines 14)
+  pub coordinate-backwards : coordinateCall 256 sheet 1 backwards (nines 15) (nines 600) ≡ gives (pos 1 ∷ []) (nines 14)
+  pub printed : dimensionText 1 15 (reductionsOf sheet 1) ≡ text
+
+pub plane-calls : PlaneCalls
+unfolding reportCall coordinateCall refusalBefore chainRefusal coefficientExceeds boundaryNotZero finished
+    refusal countField offsetField cellOf cellsOf sectionsOf some verticesDoNotRise cellsDoNotRise faceMissing without same rises precedes listed start
+    countBelow boundary coefficient sign apply sum floor modulo tabulate reportList coordinateList coordinateAt torsionCount columnsOf reported
+    dimensionText generatorLines spaced decimal digits
+plane-calls = record {
+  report-call = rw reductions-plane;
+  coordinate-loop = rw reductions-plane;
+  coordinate-twice = rw reductions-plane;
+  coordinate-backwards = rw reductions-plane;
+  printed = rw reductions-plane;
+}
+
+-- ---- too wide at the entry limit 1: the order 2 stands in the matrix of dimension 2, and in the second reduction of dimension 1
+
+pub record PlaneWide : Type 0 where
+  pub first : end 1 cells 2 ≡ inFirst
+  pub second : end 1 cells 1 ≡ inSecond
+
+pub plane-wide : PlaneWide
+unfolding end endOfFirst endOfProduct endOfSecond firstStart product secondStart countBelow boundary coefficient sign without same
+    reduce run step next bring positive quotient rowPass columnPass columnKeeps rowKeeps rowIndivisible firstIndivisible
+    release1 downRows alongRow better onRow onColumn checked andThen within rowOperation columnOperation follow tableWithin rowWithin table
+    onRows onColumns inverse identity null mul sum floor divides tabulate
+plane-wide = record { first = refl; second = refl }
+
+-- so the two reductions are too wide
+pub plane-too-wide : (reductions release1 1 cells 2 ≡ tooWide) × (reductions release1 1 cells 1 ≡ tooWide)
+unfolding endsWide
+plane-too-wide = (end-wide 1 cells 2 inFirst (plane-wide .first) refl, end-wide 1 cells 1 inSecond (plane-wide .second) refl)
