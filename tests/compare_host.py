@@ -5,6 +5,7 @@ import argparse
 import random
 import struct
 import subprocess
+from collections import Counter
 from pathlib import Path
 
 from make_sheets import fault_sheets, known_sheets, random_sheets
@@ -57,8 +58,9 @@ def requests(rng, data):
 
 
 def due(kind, data, p, chain, lent):
-    """The model's answer and output."""
-    return host_report(data, p, lent) if kind == b"R" else host_coordinates(data, p, chain, lent)
+    """The model's answer and output, as the driver writes them."""
+    number, output = host_report(data, p, lent) if kind == b"R" else host_coordinates(data, p, chain, lent)
+    return number, struct.pack("<I", number) + output
 
 
 def main():
@@ -70,19 +72,21 @@ def main():
     options = parser.parse_args()
     rng = random.Random(options.seed)
     sheets = {**known_sheets(), **fault_sheets(), **random_sheets(rng, options.random)}
-    calls = [(name, kind, data, p, chain, lent) for name, data in sheets.items() for kind, p, chain, lent in requests(rng, data)]
-    run = subprocess.run([options.driver], input=b"".join(request(call[1], *call[2:]) for call in calls), capture_output=True, check=False)
-    wrong, at = 0, 0
-    for name, kind, data, p, chain, lent in calls:
-        number, output = due(kind, data, p, chain, lent)
-        answer = run.stdout[at : at + 4 + len(lent)]
-        at += 4 + len(lent)
-        if answer != struct.pack("<I", number) + output:
+    calls = [(f"{name}, {kind.decode()} in dimension {p}", request(kind, data, p, chain, lent), *due(kind, data, p, chain, lent))
+             for name, data in sheets.items() for kind, p, chain, lent in requests(rng, data)]
+    run = subprocess.run([options.driver], input=b"".join(call[1] for call in calls), capture_output=True, check=False)
+    wrong, at, told = 0, 0, Counter()
+    for name, _, number, answer in calls:
+        found = run.stdout[at : at + len(answer)]
+        at += len(answer)
+        told[number] += 1
+        if found != answer:
             wrong += 1
-            print(f"{name}, {kind.decode()} in dimension {p}: answered {answer[:4].hex()}, due {number}")
+            print(f"{name}: answered {found[:4].hex()}, due {number}")
     wrong += run.returncode != 0 or at != len(run.stdout)
+    print(", ".join(f"{told[number]} answered {number}" for number in sorted(told)))
     print(f"{len(calls)} calls, {wrong} differ, the driver's status {run.returncode}")
-    raise SystemExit(1 if wrong else 0)
+    raise SystemExit(1 if wrong or set(told) != set(range(13)) else 0)
 
 
 if __name__ == "__main__":

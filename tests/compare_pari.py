@@ -144,7 +144,7 @@ def factor_beyond(factors, p):
 
 
 def sheet_faults(name, cells, answers, due, told):
-    """What PARI, or the model's answers `due` as to 13, say otherwise about one sheet; `told` has PARI's answers by key."""
+    """What PARI, whose answers `told` has by key, or the model, as to 13, say otherwise about one sheet."""
     if len(answers) != TOP + 1:
         return [f"{name}: {len(answers)} dimensions are answered"]
     faults = []

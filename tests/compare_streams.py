@@ -70,10 +70,10 @@ def fed(program, pieces, pause):
 
 def interrupt(process):
     """Stops the program, which ends a write that waits, and continues it."""
-    process.send_signal(signal.SIGSTOP)
+    os.kill(process.pid, signal.SIGSTOP)
     state = Path(f"/proc/{process.pid}/stat")
     wait_until(lambda: state.read_text().rsplit(")", 1)[1].split()[0] in "TZ")
-    process.send_signal(signal.SIGCONT)
+    os.kill(process.pid, signal.SIGCONT)
 
 
 def taken(rng, program, data):

@@ -1,60 +1,52 @@
 /* Answers host calls for a test harness. Standard input holds requests, one after another: a byte `R` or `C`, then lengths and a dimension as
  * 4-byte numbers, low byte first: sheet, dimension, chain, output; then the sheet's bytes, the chain's bytes and the output's bytes as lent.
- * For each request standard output gets the answer as 4 bytes and the output's bytes as the call left them. Guard bytes around the output are
- * checked: a changed one ends the program with status 3. */
-#include <stdio.h>
-#include <stdlib.h>
-#include <string.h>
-
+ * For each request standard output gets the answer as 4 bytes and the output's bytes as the call left them. Each call is made twice, with
+ * untouchable memory after and before every block; the program ends with status 3 where the two differ or bytes outside the output have
+ * changed. */
+#include "fenced.h"
 #include "fildwuk.h"
 
-enum { GUARD = 64 };
+struct request {
+    int kind;
+    uint32_t sheet_len, dimension, chain_len, output_len;
+    uint8_t *sheet, *chain, *lent;
+};
 
-static int read_number(uint32_t *n) {
-    uint8_t b[4];
-    if (fread(b, 1, 4, stdin) != 4)
-        return 0;
-    *n = (uint32_t)b[0] | (uint32_t)b[1] << 8 | (uint32_t)b[2] << 16 | (uint32_t)b[3] << 24;
-    return 1;
+/* Makes the call with the output in the block. */
+static uint32_t call(const struct request *r, enum side side, struct fenced output) {
+    struct fenced sheet = fence_copy(r->sheet, r->sheet_len, side), chain = fence_copy(r->chain, r->chain_len, side);
+    memcpy(output.bytes, r->lent, r->output_len);
+    uint32_t number =
+        r->kind == 'R' ? fildwuk_report(sheet.bytes, sheet.length, r->dimension, output.bytes, output.length)
+                       : fildwuk_coordinates(sheet.bytes, sheet.length, r->dimension, chain.bytes, chain.length, output.bytes, output.length);
+    release(sheet);
+    release(chain);
+    return number;
 }
 
-/* A block of its own for n bytes of standard input, so that a sanitizer sees a read past its end. */
-static uint8_t *read_block(uint32_t n) {
-    uint8_t *block = malloc(n ? n : 1);
-    if (block == NULL || fread(block, 1, n, stdin) != n)
-        exit(2);
-    return block;
-}
-
-static void answer(int kind, uint32_t sheet_len, uint32_t dimension, uint32_t chain_len, uint32_t output_len) {
-    uint8_t *sheet = read_block(sheet_len), *chain = read_block(chain_len), *lent = read_block(output_len);
-    uint8_t *guarded = malloc(output_len + 2 * GUARD);
-    if (guarded == NULL)
-        exit(2);
-    memset(guarded, 0xa5, output_len + 2 * GUARD);
-    memcpy(guarded + GUARD, lent, output_len);
-    uint32_t number = kind == 'R' ? fildwuk_report(sheet, sheet_len, dimension, guarded + GUARD, output_len)
-                                  : fildwuk_coordinates(sheet, sheet_len, dimension, chain, chain_len, guarded + GUARD, output_len);
-    for (int i = 0; i < GUARD; i++)
-        if (guarded[i] != 0xa5 || guarded[GUARD + output_len + (uint32_t)i] != 0xa5)
-            exit(3);
-    uint8_t head[4] = {(uint8_t)number, (uint8_t)(number >> 8), (uint8_t)(number >> 16), (uint8_t)(number >> 24)};
-    fwrite(head, 1, 4, stdout);
-    fwrite(guarded + GUARD, 1, output_len, stdout);
-    free(sheet);
-    free(chain);
-    free(lent);
-    free(guarded);
+static void answer(const struct request *r) {
+    struct fenced after = fence(r->output_len, AFTER), before = fence(r->output_len, BEFORE);
+    uint32_t number = call(r, AFTER, after), again = call(r, BEFORE, before);
+    if (number != again || memcmp(after.bytes, before.bytes, r->output_len) != 0 || !intact(after) || !intact(before))
+        exit(3);
+    write_number(number);
+    fwrite(after.bytes, 1, r->output_len, stdout);
+    release(after);
+    release(before);
 }
 
 int main(void) {
-    int kind;
-    while ((kind = getchar()) != EOF) {
-        uint32_t n[4];
-        for (int i = 0; i < 4; i++)
-            if (!read_number(&n[i]))
-                return 2;
-        answer(kind, n[0], n[1], n[2], n[3]);
+    struct request r;
+    while ((r.kind = getchar()) != EOF) {
+        if (!read_number(&r.sheet_len) || !read_number(&r.dimension) || !read_number(&r.chain_len) || !read_number(&r.output_len))
+            return 2;
+        r.sheet = read_bytes(r.sheet_len);
+        r.chain = read_bytes(r.chain_len);
+        r.lent = read_bytes(r.output_len);
+        answer(&r);
+        free(r.sheet);
+        free(r.chain);
+        free(r.lent);
     }
     return 0;
 }

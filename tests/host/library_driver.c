@@ -1,46 +1,48 @@
-/* The library's report call on one sheet from standard input, at its count limit of 256: for each dimension the answer and, where it is done, the
- * report. The slices are lent with a pattern; the program ends with status 3 where a slot past the report has changed or, after done and after
- * 13, the work slice does not read 0 throughout. */
-#include <inttypes.h>
-#include <stdio.h>
-#include <stdlib.h>
+/* Answers the library's calls, at its count limit of 256, for a test harness. Standard input holds requests, one after another: a byte `R` or
+ * `C`, then as 4-byte numbers, low byte first, the sheet's bytes, the dimension, the chain's coefficients, the output's slots and the work
+ * slice's slots; then the sheet and the coefficients, 4 bytes each. The output and the work slice are lent with every byte at PATTERN. For each
+ * request standard output gets the answer as 4 bytes, the output and the work slice as the call left them. Untouchable memory lies after every
+ * block; the program ends with status 3 where bytes outside the lent slices have changed. */
+#include "fenced.h"
 
 extern uint32_t library_report(const uint8_t *sheet, size_t sheet_len, uint32_t dimension, int64_t *report, size_t report_len, int32_t *work,
                                size_t work_len);
+extern uint32_t library_coordinates(const uint8_t *sheet, size_t sheet_len, uint32_t dimension, const int32_t *chain, size_t chain_len,
+                                    int64_t *coordinates, size_t coordinates_len, int32_t *work, size_t work_len);
 
-enum { CELLS = 256, REPORT = 2 + CELLS + CELLS * CELLS, WORK = 3 * CELLS * CELLS, PATTERN = 0x5a5a5a };
+static struct fenced read_fenced(size_t n) {
+    uint8_t *bytes = read_bytes(n);
+    struct fenced block = fence_copy(bytes, n, AFTER);
+    free(bytes);
+    return block;
+}
 
-static uint8_t sheet[8192];
-static int64_t report[REPORT + 8];
-static int32_t work[WORK];
-
-/* The slots that the report takes. */
-static size_t written(size_t cells) { return 2 + (size_t)report[1] + (size_t)(report[0] + report[1]) * cells; }
-
-static void show(uint32_t answer, size_t cells) {
-    size_t slots = answer == 0 ? written(cells) : 0;
-    printf("%" PRIu32, answer);
-    for (size_t i = 0; i < slots; i++)
-        printf(" %" PRId64, report[i]);
-    printf("\n");
-    for (size_t i = slots; i < REPORT + 8; i++)
-        if (report[i] != PATTERN)
-            exit(3);
-    for (size_t i = 0; i < WORK; i++)
-        if (work[i] != (answer == 0 || answer == 13 ? 0 : PATTERN))
-            exit(3);
+static void answer(int kind, uint32_t dimension, struct fenced sheet, struct fenced chain, struct fenced output, struct fenced work) {
+    int64_t *slots = (int64_t *)(void *)output.bytes;
+    int32_t *room = (int32_t *)(void *)work.bytes;
+    write_number(kind == 'R' ? library_report(sheet.bytes, sheet.length, dimension, slots, output.length / 8, room, work.length / 4)
+                             : library_coordinates(sheet.bytes, sheet.length, dimension, (const int32_t *)(const void *)chain.bytes,
+                                                   chain.length / 4, slots, output.length / 8, room, work.length / 4));
+    if (!intact(output) || !intact(work))
+        exit(3);
+    fwrite(output.bytes, 1, output.length, stdout);
+    fwrite(work.bytes, 1, work.length, stdout);
 }
 
 int main(void) {
-    size_t length = fread(sheet, 1, sizeof sheet, stdin);
-    for (uint32_t p = 0; p < 5; p++) {
-        for (size_t i = 0; i < REPORT + 8; i++)
-            report[i] = PATTERN;
-        for (size_t i = 0; i < WORK; i++)
-            work[i] = PATTERN;
-        uint32_t answer = library_report(sheet, length, p, report, REPORT, work, WORK);
-        size_t cells = p < 4 && length > 15 ? (size_t)sheet[4 * p] + 256 * (size_t)sheet[4 * p + 1] : 0;
-        show(answer, cells);
+    int kind;
+    while ((kind = getchar()) != EOF) {
+        uint32_t n[5];
+        for (int i = 0; i < 5; i++)
+            if (!read_number(&n[i]))
+                return 2;
+        struct fenced sheet = read_fenced(n[0]), chain = read_fenced(4 * (size_t)n[2]);
+        struct fenced output = fence(8 * (size_t)n[3], AFTER), work = fence(4 * (size_t)n[4], AFTER);
+        answer(kind, n[1], sheet, chain, output, work);
+        release(sheet);
+        release(chain);
+        release(output);
+        release(work);
     }
     return 0;
 }

@@ -4,6 +4,7 @@ A slice length that is not given is long enough. Refusals are raised as Refused.
 """
 
 from dataclasses import dataclass
+from functools import lru_cache
 
 from model.matrices import apply, boundary, identity, is_cycle, multiply
 from model.reduction import ENTRY_LIMIT, TooWide, check, reduce
@@ -86,12 +87,21 @@ def admit(data, p, count_limit):
     return sheet
 
 
-def reduced(sheet, p, limit):
-    """Both reductions of dimension p; raises Refused 13."""
+@lru_cache(maxsize=16)
+def outcome(sheet, p, limit):
+    """Both reductions of dimension p or what was too wide, kept for further calls on the sheet."""
     try:
         return classes(sheet, p, limit)
     except TooWide as wide:
-        raise Refused(13) from wide
+        return wide
+
+
+def reduced(sheet, p, limit):
+    """Both reductions of dimension p; raises Refused 13."""
+    found = outcome(sheet, p, limit)
+    if isinstance(found, TooWide):
+        raise Refused(13) from found
+    return found
 
 
 def report(data, p, count_limit=LIBRARY_COUNT_LIMIT, limit=ENTRY_LIMIT,

@@ -38,7 +38,8 @@ def tower(floors):
 def open_tower(floors):
     """The doubling tower without its triangle: one free loop and no orders.
 
-    The loop on A0 is 2 ** floors times that on the last triple, so that from 20 floors on the reduction goes too wide.
+    The loop on A0 is 2 ** floors times that on the last triple, so that from 20 floors on the
+    reduction goes too wide.
     """
     return tower(floors)[1:]
 

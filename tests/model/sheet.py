@@ -21,7 +21,7 @@ class Refused(Exception):
 
 @dataclass(frozen=True)
 class Sheet:
-    """Cells by dimension: sections[p] is a list of tuples of p + 1 vertex numbers."""
+    """Cells by dimension: sections[p] is a tuple of tuples of p + 1 vertex numbers."""
 
     sections: tuple
 
@@ -31,7 +31,7 @@ class Sheet:
 
     def cells(self, p):
         """The cells of dimension p in sheet order."""
-        return self.sections[p] if 0 <= p < DIMENSIONS else []
+        return self.sections[p] if 0 <= p < DIMENSIONS else ()
 
 
 def rises(items):
@@ -60,7 +60,7 @@ def longest(count_limit):
 def read_section(data, p, count, start):
     """The cells of one section of dimension p."""
     numbers = struct.unpack_from(f"<{count * (p + 1)}H", data, start)
-    return [numbers[i * (p + 1):(i + 1) * (p + 1)] for i in range(count)]
+    return tuple(numbers[i * (p + 1):(i + 1) * (p + 1)] for i in range(count))
 
 
 def face_missing(sections):
