@@ -38,9 +38,16 @@ fn line_product(w: &[i32], line: usize, width: usize, places: [usize; FACES], fa
 // Column j of the product.
 fn multiply_column(s: &[u8], p: usize, q: Matrix, m: Matrix, w: &mut [i32], j: usize) -> Effect
     requires { ⌜ Accepted (now s) × (p < top) ⌝ }
-    requires { ⌜ (q .width ≡ count (sectionsOf (now s)) p) × (m .width ≡ count (sectionsOf (now s)) (suc p)) × (m .lines ≡ q .lines) × (j < m .width) ⌝ }
+    requires { ⌜
+        (q .width ≡ count (sectionsOf (now s)) p) × (m .width ≡ count (sectionsOf (now s)) (suc p)) ×
+        (m .lines ≡ q .lines) × (j < m .width)
+        ⌝ }
     requires { ⌜ Held (length (now w)) q × (end m ≤ q .at) × Small (now w) ⌝ }
-    ensures { λ r. ⌜ ColumnBecame m (now (w .entry)) (mul (q .width) (contents q (now (w .entry))) (boundary (sectionsOf (now (s .entry))) (suc p))) j r (now (w .exit)) ⌝ }
+    ensures { λ r. ⌜
+        ColumnBecame m (now (w .entry))
+        (mul (q .width) (contents q (now (w .entry))) (boundary (sectionsOf (now (s .entry))) (suc p))) j r
+        (now (w .exit))
+        ⌝ }
 {
     let places = face_places(s, p, j);
     let lines = q.lines;
@@ -66,7 +73,11 @@ pub fn multiply(s: &[u8], p: usize, q: Matrix, m: Matrix, w: &mut [i32]) -> Effe
     requires { ⌜ Accepted (now s) ⌝ }
     requires { ⌜ (q .width ≡ count (sectionsOf (now s)) p) × (m .width ≡ count (sectionsOf (now s)) (suc p)) × (m .lines ≡ q .lines) ⌝ }
     requires { ⌜ Held (length (now w)) q × (end m ≤ q .at) × Small (now w) ⌝ }
-    ensures { λ r. ⌜ Became m (now (w .entry)) (mul (q .width) (contents q (now (w .entry))) (boundary (sectionsOf (now (s .entry))) (suc p))) r (now (w .exit)) ⌝ }
+    ensures { λ r. ⌜
+        Became m (now (w .entry))
+        (mul (q .width) (contents q (now (w .entry))) (boundary (sectionsOf (now (s .entry))) (suc p))) r
+        (now (w .exit))
+        ⌝ }
 {
     let mut j: usize = 0;
     let columns = m.width;

@@ -28,7 +28,11 @@ pub fn coordinates_at(
     work: &mut [i32],
 ) -> Answer
     requires { ⌜ sheet .limit ≤ libraryLimit ⌝ }
-    ensures { λ r. ⌜ CallAnswers (coordinateCall (sheet .limit) (now (s .entry)) dimension (now (chain .entry)) (now (coordinates .entry)) (now (work .entry))) r (now (coordinates .exit)) (now (work .exit)) ⌝ }
+    ensures { λ r. ⌜
+        CallAnswers
+        (coordinateCall (sheet .limit) (now (s .entry)) dimension (now (chain .entry)) (now (coordinates .entry)) (now (work .entry)))
+        r (now (coordinates .exit)) (now (work .exit))
+        ⌝ }
 {
     if let Reading::Refused(refusal) = sheet.read(s) {
         return Answer::Refused(refusal);
@@ -69,7 +73,11 @@ pub fn coordinates(
     coordinates: &mut [i64],
     work: &mut [i32],
 ) -> Answer
-    ensures { λ r. ⌜ CallAnswers (coordinateCall libraryLimit (now (s .entry)) dimension (now (chain .entry)) (now (coordinates .entry)) (now (work .entry))) r (now (coordinates .exit)) (now (work .exit)) ⌝ }
+    ensures { λ r. ⌜
+        CallAnswers
+        (coordinateCall libraryLimit (now (s .entry)) dimension (now (chain .entry)) (now (coordinates .entry)) (now (work .entry)))
+        r (now (coordinates .exit)) (now (work .exit))
+        ⌝ }
 {
     coordinates_at(Sheet::library(), s, dimension, chain, coordinates, work)
 }

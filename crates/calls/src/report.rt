@@ -25,7 +25,10 @@ pub fn report_at(
     work: &mut [i32],
 ) -> Answer
     requires { ⌜ sheet .limit ≤ libraryLimit ⌝ }
-    ensures { λ r. ⌜ CallAnswers (reportCall (sheet .limit) (now (s .entry)) dimension (now (report .entry)) (now (work .entry))) r (now (report .exit)) (now (work .exit)) ⌝ }
+    ensures { λ r. ⌜
+        CallAnswers (reportCall (sheet .limit) (now (s .entry)) dimension (now (report .entry)) (now (work .entry))) r
+        (now (report .exit)) (now (work .exit))
+        ⌝ }
 {
     if let Reading::Refused(refusal) = sheet.read(s) {
         return Answer::Refused(refusal);
@@ -51,7 +54,10 @@ pub fn report_at(
 
 // The report of a dimension: document 01, "The report and the coordinates".
 pub fn report(s: &[u8], dimension: u32, report: &mut [i64], work: &mut [i32]) -> Answer
-    ensures { λ r. ⌜ CallAnswers (reportCall libraryLimit (now (s .entry)) dimension (now (report .entry)) (now (work .entry))) r (now (report .exit)) (now (work .exit)) ⌝ }
+    ensures { λ r. ⌜
+        CallAnswers (reportCall libraryLimit (now (s .entry)) dimension (now (report .entry)) (now (work .entry))) r
+        (now (report .exit)) (now (work .exit))
+        ⌝ }
 {
     report_at(Sheet::library(), s, dimension, report, work)
 }

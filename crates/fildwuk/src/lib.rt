@@ -62,7 +62,10 @@ fn coordinates_through(
     coordinates: &mut [u8],
 ) -> u32
     requires { ⌜ (length (now numbers) ≡ coordinateRoom) × (length (now work) ≡ workRoom) ⌝ }
-    ensures { λ r. ⌜ AnswersChain (now (sheet .entry)) dimension (now (coefficients .entry)) (now (coordinates .entry)) r (now (coordinates .exit)) ⌝ }
+    ensures { λ r. ⌜
+        AnswersChain (now (sheet .entry)) dimension (now (coefficients .entry)) (now (coordinates .entry)) r
+        (now (coordinates .exit))
+        ⌝ }
 {
     let slots = smaller(coordinates.len() / 8, CELLS);
     match coordinates_at(
@@ -89,7 +92,10 @@ pub extern "C" fn fildwuk_coordinates(
     chain: &[u8],
     coordinates: &mut [u8],
 ) -> u32
-    ensures { λ r. ⌜ HostAnswers (hostCoordinates (now (sheet .entry)) dimension (now (chain .entry)) (now (coordinates .entry))) r (now (coordinates .exit)) ⌝ }
+    ensures { λ r. ⌜
+        HostAnswers (hostCoordinates (now (sheet .entry)) dimension (now (chain .entry)) (now (coordinates .entry))) r
+        (now (coordinates .exit))
+        ⌝ }
 {
     let mut work = [0i32; WORK_SLOTS];
     let mut numbers = [0i64; CELLS];

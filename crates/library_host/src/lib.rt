@@ -23,7 +23,11 @@ pub extern "C" fn library_report(
     report: &mut [i64],
     work: &mut [i32],
 ) -> u32
-    ensures { λ r. ⌜ LibraryAnswers (reportCall libraryLimit (now (sheet .entry)) dimension (now (report .entry)) (now (work .entry))) r (now (report .exit)) (now (work .exit)) ⌝ }
+    ensures { λ r. ⌜
+        LibraryAnswers
+        (reportCall libraryLimit (now (sheet .entry)) dimension (now (report .entry)) (now (work .entry))) r
+        (now (report .exit)) (now (work .exit))
+        ⌝ }
 {
     number(calls::report::report(sheet, dimension, report, work))
 }
@@ -37,7 +41,11 @@ pub extern "C" fn library_coordinates(
     coordinates: &mut [i64],
     work: &mut [i32],
 ) -> u32
-    ensures { λ r. ⌜ LibraryAnswers (coordinateCall libraryLimit (now (sheet .entry)) dimension (now (chain .entry)) (now (coordinates .entry)) (now (work .entry))) r (now (coordinates .exit)) (now (work .exit)) ⌝ }
+    ensures { λ r. ⌜
+        LibraryAnswers
+        (coordinateCall libraryLimit (now (sheet .entry)) dimension (now (chain .entry)) (now (coordinates .entry)) (now (work .entry)))
+        r (now (coordinates .exit)) (now (work .exit))
+        ⌝ }
 {
     number(calls::coordinates::coordinates(sheet, dimension, chain, coordinates, work))
 }

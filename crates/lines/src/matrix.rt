@@ -44,7 +44,10 @@ impl Matrix {
         requires { ⌜ Held (length (now w)) self ⌝ }
         requires { ⌜ Small (now w) ⌝ }
         requires { ⌜ (i < self .lines) × (k < self .lines) × (i ≢ k) × (natAbs q ≤ limit) ⌝ }
-        ensures { λ r. ⌜ Became self (now (w .entry)) (onRows (operation.subtract i k q) (contents self (now (w .entry)))) r (now (w .exit)) ⌝ }
+        ensures { λ r. ⌜
+            Became self (now (w .entry)) (onRows (operation.subtract i k q) (contents self (now (w .entry)))) r
+            (now (w .exit))
+            ⌝ }
     {
         line::subtract(w, self.line(i), self.line(k), self.width, q)
     }
@@ -74,7 +77,10 @@ impl Matrix {
         requires { ⌜ Held (length (now w)) self ⌝ }
         requires { ⌜ Small (now w) ⌝ }
         requires { ⌜ (j < self .width) × (k < self .width) ⌝ }
-        ensures { λ r. ⌜ Became self (now (w .entry)) (onColumns (operation.swap j k) (contents self (now (w .entry)))) r (now (w .exit)) ⌝ }
+        ensures { λ r. ⌜
+            Became self (now (w .entry)) (onColumns (operation.swap j k) (contents self (now (w .entry)))) r
+            (now (w .exit))
+            ⌝ }
     {
         let mut i: usize = 0;
         let lines = self.lines;
@@ -94,7 +100,10 @@ impl Matrix {
         requires { ⌜ Small (now w) ⌝ }
         requires { ⌜ (i < self .lines) × (j < self .width) × (k < self .width) × (j ≢ k) × (natAbs q ≤ limit) ⌝ }
         requires { ⌜ ((a : ℕ) → a < self .lines → a ≢ i → contents self (now w) a k ≡ pos 0) ⌝ }
-        ensures { λ r. ⌜ Became self (now (w .entry)) (onColumns (operation.subtract j k q) (contents self (now (w .entry)))) r (now (w .exit)) ⌝ }
+        ensures { λ r. ⌜
+            Became self (now (w .entry)) (onColumns (operation.subtract j k q) (contents self (now (w .entry)))) r
+            (now (w .exit))
+            ⌝ }
     {
         let at = self.line(i);
         line::subtract(w, at + j, at + k, 1, q)

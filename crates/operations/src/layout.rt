@@ -118,7 +118,10 @@ impl Layout {
         requires { ⌜ Laid (length (now w)) self ⌝ }
         requires { ⌜ Small (now w) ⌝ }
         requires { ⌜ (i < self .matrix .lines) × (k < self .matrix .lines) × (i ≢ k) × (natAbs q ≤ limit) ⌝ }
-        ensures { λ r. ⌜ Operated self (onRow limit (sizesOf self) (operation.subtract i k q) (stateOf self (now (w .entry)))) r (now (w .exit)) ⌝ }
+        ensures { λ r. ⌜
+            Operated self (onRow limit (sizesOf self) (operation.subtract i k q) (stateOf self (now (w .entry)))) r
+            (now (w .exit))
+            ⌝ }
     {
         let Effect::Done = self.matrix.subtract_line(w, i, k, q) else {
             return Effect::TooWide;
@@ -134,7 +137,10 @@ impl Layout {
         requires { ⌜ Laid (length (now w)) self ⌝ }
         requires { ⌜ Small (now w) ⌝ }
         requires { ⌜ (i < self .matrix .lines) × (k < self .matrix .lines) ⌝ }
-        ensures { λ r. ⌜ Operated self (onRow limit (sizesOf self) (operation.swap i k) (stateOf self (now (w .entry)))) r (now (w .exit)) ⌝ }
+        ensures { λ r. ⌜
+            Operated self (onRow limit (sizesOf self) (operation.swap i k) (stateOf self (now (w .entry)))) r
+            (now (w .exit))
+            ⌝ }
     {
         let Effect::Done = self.matrix.swap_lines(w, i, k) else {
             return Effect::TooWide;
@@ -150,7 +156,10 @@ impl Layout {
         requires { ⌜ Laid (length (now w)) self ⌝ }
         requires { ⌜ Small (now w) ⌝ }
         requires { ⌜ k < self .matrix .lines ⌝ }
-        ensures { λ r. ⌜ Operated self (onRow limit (sizesOf self) (operation.negate k) (stateOf self (now (w .entry)))) r (now (w .exit)) ⌝ }
+        ensures { λ r. ⌜
+            Operated self (onRow limit (sizesOf self) (operation.negate k) (stateOf self (now (w .entry)))) r
+            (now (w .exit))
+            ⌝ }
     {
         let Effect::Done = self.matrix.negate_line(w, k) else {
             return Effect::TooWide;
@@ -167,7 +176,10 @@ impl Layout {
         requires { ⌜ Small (now w) ⌝ }
         requires { ⌜ (k < self .matrix .lines) × (j < self .matrix .width) × (k < self .matrix .width) × (j ≢ k) × (natAbs q ≤ limit) ⌝ }
         requires { ⌜ ((a : ℕ) → a < self .matrix .lines → a ≢ k → contents (self .matrix) (now w) a k ≡ pos 0) ⌝ }
-        ensures { λ r. ⌜ Operated self (onColumn limit (sizesOf self) (operation.subtract j k q) (stateOf self (now (w .entry)))) r (now (w .exit)) ⌝ }
+        ensures { λ r. ⌜
+            Operated self (onColumn limit (sizesOf self) (operation.subtract j k q) (stateOf self (now (w .entry)))) r
+            (now (w .exit))
+            ⌝ }
     {
         let Effect::Done = self.matrix.subtract_place(w, k, j, k, q) else {
             return Effect::TooWide;
@@ -183,7 +195,10 @@ impl Layout {
         requires { ⌜ Laid (length (now w)) self ⌝ }
         requires { ⌜ Small (now w) ⌝ }
         requires { ⌜ (j < self .matrix .width) × (k < self .matrix .width) ⌝ }
-        ensures { λ r. ⌜ Operated self (onColumn limit (sizesOf self) (operation.swap j k) (stateOf self (now (w .entry)))) r (now (w .exit)) ⌝ }
+        ensures { λ r. ⌜
+            Operated self (onColumn limit (sizesOf self) (operation.swap j k) (stateOf self (now (w .entry)))) r
+            (now (w .exit))
+            ⌝ }
     {
         let Effect::Done = self.matrix.swap_places(w, j, k) else {
             return Effect::TooWide;

@@ -47,7 +47,10 @@ fn better(m: Matrix, w: &[i32], i: usize, j: usize, best: Best) -> Best
     requires { ⌜ Held (length (now w)) m ⌝ }
     requires { ⌜ Small (now w) ⌝ }
     requires { ⌜ (i < m .lines) × (j < m .width) × IsBest (contents m (now w)) best ⌝ }
-    ensures { λ r. ⌜ IsBest (contents m (now (w .entry))) r × (choiceOf r ≡ steps.better (contents m (now (w .entry))) (choiceOf best) i j) ⌝ }
+    ensures { λ r. ⌜
+        IsBest (contents m (now (w .entry))) r ×
+        (choiceOf r ≡ steps.better (contents m (now (w .entry))) (choiceOf best) i j)
+        ⌝ }
 {
     let size = absolute(m.entry(w, i, j));
     if size == 0 {
@@ -70,7 +73,10 @@ fn along_row(m: Matrix, w: &[i32], i: usize, k: usize, best: Best) -> Best
     requires { ⌜ Held (length (now w)) m ⌝ }
     requires { ⌜ Small (now w) ⌝ }
     requires { ⌜ (i < m .lines) × (k ≤ m .width) × IsBest (contents m (now w)) best ⌝ }
-    ensures { λ r. ⌜ IsBest (contents m (now (w .entry))) r × (choiceOf r ≡ steps.alongRow (contents m (now (w .entry))) i (m .width - k) k (choiceOf best)) ⌝ }
+    ensures { λ r. ⌜
+        IsBest (contents m (now (w .entry))) r ×
+        (choiceOf r ≡ steps.alongRow (contents m (now (w .entry))) i (m .width - k) k (choiceOf best))
+        ⌝ }
 {
     let mut chosen = best;
     let mut j = k;

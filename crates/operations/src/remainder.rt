@@ -69,7 +69,10 @@ fn row_indivisible(m: Matrix, w: &[i32], d: i64, i: usize, from: usize) -> bool
 pub fn first_indivisible(m: Matrix, w: &[i32], k: usize) -> Indivisible
     requires { ⌜ Held (length (now w)) m ⌝ }
     requires { ⌜ (k < m .lines) × (k < m .width) × (pos 0 <ℤ contents m (now w) k k) ⌝ }
-    ensures { λ r. ⌜ indivisibleRow r ≡ firstIndivisible (contents m (now (w .entry))) (contents m (now (w .entry)) k k) (suc k) (m .width - suc k) (m .lines - suc k) (suc k) ⌝ }
+    ensures { λ r. ⌜
+        indivisibleRow r ≡ firstIndivisible (contents m (now (w .entry))) (contents m (now (w .entry)) k k) (suc k)
+        (m .width - suc k) (m .lines - suc k) (suc k)
+        ⌝ }
 {
     let d = m.entry(w, k, k);
     if d == 1 {

@@ -38,7 +38,11 @@ fn put_dimension(
 ) -> usize
     requires { ⌜ (refusal hostLimit (now s) ≡ 0) × (p ≤ top) × (at + dimensionRoom ≤ length (now out)) ⌝ }
     requires { ⌜ (length (now report) ≡ reportRoom) × (length (now work) ≡ workRoom) ⌝ }
-    ensures { λ r. ⌜ PutsWithin dimensionRoom (dimensionText p (count (sectionsOf (now (s .entry))) p) (reductionsOf (now (s .entry)) p)) at (now (out .entry)) r (now (out .exit)) ⌝ }
+    ensures { λ r. ⌜
+        PutsWithin dimensionRoom
+        (dimensionText p (count (sectionsOf (now (s .entry))) p) (reductionsOf (now (s .entry)) p)) at
+        (now (out .entry)) r (now (out .exit))
+        ⌝ }
 {
     match report_at(Sheet::host(), s, p as u32, report, work) {
         Answer::Refused(refusal) => put_refusal(refusal, out, at),
@@ -99,7 +103,9 @@ fn print_first(bytes: &[u8], n: usize, out: &mut [u8; TEXT_ROOM]) -> usize
 // Writes what the program prints for an input b. The first n bytes of `input` are those of b: all of b where it is shorter than the array, and as
 // many as the array has where it is not.
 pub fn print_input(input: &[u8; INPUT_ROOM], n: usize, out: &mut [u8; TEXT_ROOM]) -> usize
-    ensures { λ r. ⌜ ((b : List ℕ) → take (length (now (input .entry))) b ≡ take n (now (input .entry)) → PutsWithin textRoom (programText b) 0 (now (out .entry)) r (now (out .exit))) ⌝ }
+    ensures { λ r. ⌜
+        ((b : List ℕ) → take (length (now (input .entry))) b ≡ take n (now (input .entry)) → PutsWithin textRoom (programText b) 0 (now (out .entry)) r (now (out .exit)))
+        ⌝ }
 {
     print_first(input, n, out)
 }

@@ -90,7 +90,10 @@ fn stands_before(s: &[u8], a: usize, b: usize, n: usize) -> bool
 // Check 6 in one section.
 fn section_cells_do_not_rise(s: &[u8], at: usize, n: usize, many: usize) -> bool
     requires { ⌜ (at < 2 ^ 31) × (n ≤ 4) × (many < 65536) ⌝ }
-    ensures { λ r. ⌜ r ≡ some (pred many) (λ i. not (precedes (cellOf (now (s .entry)) n (at + 2 * (n * i))) (cellOf (now (s .entry)) n (at + 2 * (n * suc i))))) ⌝ }
+    ensures { λ r. ⌜
+        r ≡ some (pred many)
+        (λ i. not (precedes (cellOf (now (s .entry)) n (at + 2 * (n * i))) (cellOf (now (s .entry)) n (at + 2 * (n * suc i)))))
+        ⌝ }
 {
     let mut i: usize = 0;
     while i + 1 < many {
@@ -120,7 +123,10 @@ pub fn cells_do_not_rise(s: &[u8]) -> bool
 fn cell_misses(s: &[u8], a: usize, at: usize, n: usize, many: usize) -> bool
     requires { ⌜ (a < 2 ^ 32) × (at < 2 ^ 31) × (n ≤ 4) × (many < 65536) ⌝ }
     requires { ⌜ Rising (cellsOf (now s) n many at) ⌝ }
-    ensures { λ r. ⌜ r ≡ some (suc n) (λ j. not (listed (without j (cellOf (now (s .entry)) (suc n) a)) (cellsOf (now (s .entry)) n many at))) ⌝ }
+    ensures { λ r. ⌜
+        r ≡ some (suc n)
+        (λ j. not (listed (without j (cellOf (now (s .entry)) (suc n) a)) (cellsOf (now (s .entry)) n many at)))
+        ⌝ }
 {
     let mut j: usize = 0;
     while j <= n {
@@ -136,7 +142,10 @@ fn cell_misses(s: &[u8], a: usize, at: usize, n: usize, many: usize) -> bool
 fn section_misses(s: &[u8], a: usize, cells: usize, at: usize, n: usize, many: usize) -> bool
     requires { ⌜ (a < 2 ^ 31) × (cells < 65536) × (at < 2 ^ 31) × (n ≤ 3) × (many < 65536) ⌝ }
     requires { ⌜ Rising (cellsOf (now s) n many at) ⌝ }
-    ensures { λ r. ⌜ r ≡ some cells (λ i. some (suc n) (λ j. not (listed (without j (cellOf (now (s .entry)) (suc n) (a + 2 * (suc n * i)))) (cellsOf (now (s .entry)) n many at)))) ⌝ }
+    ensures { λ r. ⌜
+        r ≡ some cells
+        (λ i. some (suc n) (λ j. not (listed (without j (cellOf (now (s .entry)) (suc n) (a + 2 * (suc n * i)))) (cellsOf (now (s .entry)) n many at))))
+        ⌝ }
 {
     let mut i: usize = 0;
     while i < cells {

@@ -16,7 +16,10 @@ use refusal::Refusal;
 // Writes the numbers from place `from` up to place `to`, each after a space.
 fn put_fields(numbers: &[i64], from: usize, to: usize, out: &mut [u8], at: usize) -> usize
     requires { ⌜ (from ≤ to) × (to ≤ length (now numbers)) × (at + fieldRoom * (to - from) ≤ length (now out)) ⌝ }
-    ensures { λ r. ⌜ PutsWithin (fieldRoom * (to - from)) (spaced (take (to - from) (drop from (now (numbers .entry))))) at (now (out .entry)) r (now (out .exit)) ⌝ }
+    ensures { λ r. ⌜
+        PutsWithin (fieldRoom * (to - from)) (spaced (take (to - from) (drop from (now (numbers .entry))))) at
+        (now (out .entry)) r (now (out .exit))
+        ⌝ }
 {
     let mut next = at;
     let mut i = from;
@@ -38,7 +41,10 @@ pub fn put_line(
     at: usize,
 ) -> usize
     requires { ⌜ (from ≤ to) × (to ≤ length (now numbers)) × (at + lineRoom (to - from) ≤ length (now out)) ⌝ }
-    ensures { λ r. ⌜ PutsWithin (lineRoom (to - from)) (line letter (take (to - from) (drop from (now (numbers .entry))))) at (now (out .entry)) r (now (out .exit)) ⌝ }
+    ensures { λ r. ⌜
+        PutsWithin (lineRoom (to - from)) (line letter (take (to - from) (drop from (now (numbers .entry))))) at
+        (now (out .entry)) r (now (out .exit))
+        ⌝ }
 {
     let mut next = put(letter, out, at);
     next = put_fields(numbers, from, to, out, next);
@@ -57,7 +63,10 @@ pub fn put_refusal(refusal: Refusal, out: &mut [u8], at: usize) -> usize
 // Writes the first line of the report of dimension p: `H`, p, and the report's b, t and orders.
 fn put_heading(p: usize, torsion: usize, report: &[i64], out: &mut [u8], at: usize) -> usize
     requires { ⌜ (p ≤ top) × (torsion ≤ hostLimit) × (2 + torsion ≤ length (now report)) × (at + headingRoom ≤ length (now out)) ⌝ }
-    ensures { λ r. ⌜ PutsWithin headingRoom (line 72 (pos p ∷ take (2 + torsion) (now (report .entry)))) at (now (out .entry)) r (now (out .exit)) ⌝ }
+    ensures { λ r. ⌜
+        PutsWithin headingRoom (line 72 (pos p ∷ take (2 + torsion) (now (report .entry)))) at (now (out .entry)) r
+        (now (out .exit))
+        ⌝ }
 {
     let mut next = put(72, out, at);
     next = put(32, out, next);
@@ -78,7 +87,10 @@ pub fn put_report(
 ) -> usize
     requires { ⌜ (p ≤ top) × (cells ≤ hostLimit) × (torsion ≤ cells) × (generators ≤ cells) ⌝ }
     requires { ⌜ (2 + torsion + generators * cells ≤ length (now report)) × (at + dimensionRoom ≤ length (now out)) ⌝ }
-    ensures { λ r. ⌜ PutsWithin dimensionRoom (reportText p cells torsion generators (now (report .entry))) at (now (out .entry)) r (now (out .exit)) ⌝ }
+    ensures { λ r. ⌜
+        PutsWithin dimensionRoom (reportText p cells torsion generators (now (report .entry))) at (now (out .entry)) r
+        (now (out .exit))
+        ⌝ }
 {
     let first = 2 + torsion;
     let mut next = put_heading(p, torsion, report, out, at);

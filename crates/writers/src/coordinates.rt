@@ -54,7 +54,10 @@ pub fn write_coordinates(
     coordinates: &mut [i64],
 ) -> Counts
     requires { ⌜ CanCoordinate reduced (now w) (now chain) (length (now coordinates)) ⌝ }
-    ensures { λ r. ⌜ WroteCoordinates reduced (now (w .entry)) (now (chain .entry)) (now (coordinates .entry)) r (now (coordinates .exit)) ⌝ }
+    ensures { λ r. ⌜
+        WroteCoordinates reduced (now (w .entry)) (now (chain .entry)) (now (coordinates .entry)) r
+        (now (coordinates .exit))
+        ⌝ }
 {
     let m = reduced.layout.matrix;
     let q = reduced.layout.row_follower;

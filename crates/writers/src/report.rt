@@ -16,7 +16,10 @@ use lines::matrix::Matrix;
 // Writes the orders among the first n rows' kinds from slot `from` on, and answers the slot after them.
 fn write_orders(m: Matrix, w: &[i32], n: usize, report: &mut [i64], from: usize) -> usize
     requires { ⌜ Held (length (now w)) m × (n ≤ m .lines) × (from + n ≤ length (now report)) × Kinds m (now w) ⌝ }
-    ensures { λ r. ⌜ WrittenFrom from (map (kindIn m (now (w .entry))) (reported (kindIn m (now (w .entry))) n)) (now (report .entry)) r (now (report .exit)) ⌝ }
+    ensures { λ r. ⌜
+        WrittenFrom from (map (kindIn m (now (w .entry))) (reported (kindIn m (now (w .entry))) n))
+        (now (report .entry)) r (now (report .exit))
+        ⌝ }
 {
     let mut next = from;
     let mut i: usize = 0;
@@ -47,8 +50,15 @@ fn write_line(g: Matrix, w: &[i32], i: usize, report: &mut [i64], from: usize)
 
 // Writes the columns of G, which are lines of g, of the rows whose kind is not 1.
 fn write_generators(m: Matrix, g: Matrix, w: &[i32], report: &mut [i64], from: usize) -> usize
-    requires { ⌜ Held (length (now w)) m × Held (length (now w)) g × (m .lines ≡ g .lines) × (from + g .lines * g .width ≤ length (now report)) × Kinds m (now w) ⌝ }
-    ensures { λ r. ⌜ WrittenFrom from (columnsOf (linesOf g (now (w .entry))) (g .width) (reported (kindIn m (now (w .entry))) (m .lines))) (now (report .entry)) r (now (report .exit)) ⌝ }
+    requires { ⌜
+        Held (length (now w)) m × Held (length (now w)) g × (m .lines ≡ g .lines) ×
+        (from + g .lines * g .width ≤ length (now report)) × Kinds m (now w)
+        ⌝ }
+    ensures { λ r. ⌜
+        WrittenFrom from
+        (columnsOf (linesOf g (now (w .entry))) (g .width) (reported (kindIn m (now (w .entry))) (m .lines)))
+        (now (report .entry)) r (now (report .exit))
+        ⌝ }
 {
     let lines = m.lines;
     let width = g.width;
