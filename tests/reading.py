@@ -13,7 +13,7 @@ import sys
 
 ROOT = os.path.join(os.path.dirname(os.path.abspath(__file__)), "..", "crates")
 CALLS = {"reportCall", "coordinateCall", "hostReport", "hostCoordinates", "programText"}
-RIGHT = ["Reports", "CoordinateCounts", "SameCounts", "CoordinatesOf", "ReportOf", "CoordinatesDecide", "CoordinatesCombine",
+RIGHT = ["Reports", "CoordinateCounts", "SameCounts", "CoordinatesOf", "ReportOf", "CoordinatesDecide", "CoordinatesCombine", "CoordinatesReduced",
          "HostReports", "HostCoordinateCounts"]
 PARTS = [
     ("the sheet", ["Acceptance"], CALLS),

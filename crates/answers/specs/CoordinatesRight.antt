@@ -7,7 +7,12 @@ use Prim.Native.Nat.{ℕ, _+_, _-_, _<_}
 use native.Mathlib.Omega.{arith}
 use lib.ListN.{getD}
 use lib.IntN.{ℤ, pos, _-ℤ_}
+use lib.Signed.{_≤ℤ_, _<ℤ_, <ℤ-≤ℤ-trans}
+use Rattle.integers.specs.Division.{floor, modulo}
+use Rattle.integers.specs.Order.{lt-pos, le-of-lt}
+use Rattle.integers.specs.Floor.{Division, floor-division}
 use Rattle.matrices.specs.Matrix.{transpose}
+use Rattle.matrices.specs.Vector.{apply}
 use Rattle.homology_groups.specs.Chain.{Chain, Same, combination}
 use Rattle.homology_groups.specs.ChainLaws.{boundary-same}
 use Rattle.homology_groups.specs.Presents.{generator}
@@ -18,10 +23,10 @@ use Rattle.reduction_steps.specs.Table.{entry}
 use Rattle.reduction_steps.specs.State.{State}
 use Rattle.reports.specs.Report.{kind, freeRank, torsionCount, coordinateList}
 use Rattle.answers.specs.Homology.{IsCycle, IsBoundary}
-use Rattle.answers.specs.Right.{slot, generatorIn}
+use Rattle.answers.specs.Right.{slot, orderIn, generatorIn}
 use Rattle.answers.specs.TwoReductions.{Right}
 use Rattle.answers.specs.Numbers.{ones, is-ones, total, coordinate-is}
-use Rattle.answers.specs.ReportRight.{Reads, reads-generator}
+use Rattle.answers.specs.ReportRight.{Reads, reads-generator, order-is, report-is-right}
 
 -- the numbers from place 0 on are the coordinates of z that s rows of Q, rank r and the state x give
 pub record ReadsCoordinates (K : Sections) (p s r : ℕ) (x : State) (z : List ℤ) (coordinates : ℕ → ℤ) : Type 0 where
@@ -67,3 +72,24 @@ module _ {K : Sections} {p s r : ℕ} {x : State} (R : Right K p s r x) where
 
       same : Same n (combination k (coordinateOf z) G) (combination k c (generatorIn report (torsionCount r x) n))
       same = combination-ext (λ j h. sym (read reads j h)) (reads-generator R reported)
+
+  -- a coordinate of order d lies in 0 to d - 1
+  pub coordinates-reduced : {z : List ℤ} {c report : ℕ → ℤ} → ReadsCoordinates K p s r x z c → Reads K p s r x report → (j : ℕ) → j < torsionCount r x
+      → (pos 0 ≤ℤ c j) × (c j <ℤ orderIn report (torsionCount r x) j)
+  unfolding coordinate
+  coordinates-reduced {z} {c} {report} reads reported j l = (
+    subst (λ (v : ℤ). pos 0 ≤ℤ v) (sym is) (division .low),
+    subst (λ (v : ℤ). v <ℤ orderIn report (torsionCount r x) j) (sym is) (subst (λ (d : ℤ). modulo value (kind x (ones R + j)) <ℤ d) (order-is R reported j) (division .high)),
+  )
+    where
+      value : ℤ
+      value = apply n (entry (x .rowFollower)) (slot z) (ones R + j)
+
+      is : c j ≡ modulo value (kind x (ones R + j))
+      is = read reads j (omega arith)
+
+      positive : pos 0 <ℤ kind x (ones R + j)
+      positive = subst (λ (d : ℤ). pos 0 <ℤ d) (sym (order-is R reported j)) (<ℤ-≤ℤ-trans (lt-pos {m = 0} {n = 1} (omega arith)) (le-of-lt (report-is-right R reported .order-above-one j l)))
+
+      division : Division value (kind x (ones R + j)) (floor value (kind x (ones R + j))) (modulo value (kind x (ones R + j)))
+      division = floor-division value (kind x (ones R + j)) positive

@@ -62,7 +62,7 @@ module _ {K : Sections} {p s r : ℕ} {x : State} (R : Right K p s r x) where
     reads-free : (j : ℕ) → t ≤ j → orderIn report t j ≡ pos 0
     reads-free j h = ap (λ (c : Bool). cond c (report (2 + j)) (pos 0)) (le-ltb j t h)
 
-    order-is : (j : ℕ) → kind x (u + j) ≡ orderIn report t j
+    pub order-is : (j : ℕ) → kind x (u + j) ≡ orderIn report t j
     order-is j = go (decLt j t)
       where
         go : Dec (j < t) → kind x (u + j) ≡ orderIn report t j

@@ -6,7 +6,8 @@ use mathlib.Core.Logic.{_↔_, _≢_}
 use mathlib.Core.List.{List}
 use Prim.Native.Nat.{ℕ, _+_, _*_, _≤_, _<_}
 use lib.ListN.{length, take}
-use lib.IntN.{ℤ, _-ℤ_}
+use lib.IntN.{ℤ, pos, _-ℤ_}
+use lib.Signed.{_≤ℤ_, _<ℤ_}
 use Rattle.complexes.specs.Complex.{count}
 use Rattle.sheet_format.specs.Layout.{longest}
 use Rattle.sheet_format.specs.Check.{refusal, sectionsOf}
@@ -18,7 +19,7 @@ use Rattle.limits.specs.Limits.{libraryLimit, hostLimit, entryLimit}
 use Rattle.reports.specs.Host.{chainFrom, coefficientIn, slotsIn, hostReport, hostCoordinates, numberAt}
 use Rattle.reports.specs.Text.{refusalLine, programText}
 use Rattle.answers.specs.Homology.{IsBoundary}
-use Rattle.answers.specs.Right.{slot, generatorIn, IsRight, reportLength, HasCounts}
+use Rattle.answers.specs.Right.{slot, orderIn, generatorIn, IsRight, reportLength, HasCounts}
 use Rattle.answers.specs.Wide.{GoesWide}
 use Rattle.answers.specs.Called.{answerNumber, Answers, NoCycle, KeptPast, Leaves}
 use Rattle.answers.specs.Printed.{DimensionsPrinted}
@@ -110,6 +111,12 @@ CoordinatesCombine =
     (b : List ℕ) (p : ℕ) → Bytes b → (z : Chain) (c report : ℕ → ℤ) → CoordinatesOf b p z c → ReportOf b p report →
     (f t : ℕ) → HasCounts (sectionsOf b) p f t →
     IsBoundary (sectionsOf b) p (λ i. z i -ℤ combination (t + f) c (generatorIn report t (count (sectionsOf b) p)) i)
+
+-- document 01: "a row of order d is taken modulo d into 0 to d - 1"
+abbrev pub CoordinatesReduced : Type 0
+CoordinatesReduced =
+    (b : List ℕ) (p : ℕ) → Bytes b → (z : Chain) (c report : ℕ → ℤ) → CoordinatesOf b p z c → ReportOf b p report →
+    (f t : ℕ) → HasCounts (sectionsOf b) p f t → (j : ℕ) → j < t → (pos 0 ≤ℤ c j) × (c j <ℤ orderIn report t j)
 
 -- ==== The host calls
 

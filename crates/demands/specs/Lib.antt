@@ -1,3 +1,5 @@
--- The owner's demands over what the calls answer and leave and what the program prints: `Claims` states them, `Proofs` proves them.
+-- The owner's demands over what the calls answer and leave and what the program prints: `Claims` states them, `Proofs` proves them, and `Met` shows that their
+-- hypotheses are met.
 pub mod Claims
 pub mod Proofs
+pub mod Met

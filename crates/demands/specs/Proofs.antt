@@ -5,6 +5,7 @@ use mathlib.Core.List.{List}
 use Prim.Native.Nat.{ℕ, _+_, _<_}
 use native.Mathlib.Omega.{arith}
 use lib.IntN.{ℤ, _-ℤ_}
+use lib.Signed.{_<ℤ_}
 use Rattle.complexes.specs.Complex.{count}
 use Rattle.sheet_format.specs.Check.{sectionsOf}
 use Rattle.sheet_format.specs.Sheet.{Bytes}
@@ -18,18 +19,18 @@ use Rattle.reports.specs.Call.{reductionsOf, reportCall}
 use Rattle.reports.specs.Host.{chainFrom}
 use Rattle.reports.specs.TextLaws.{programText-take}
 use Rattle.answers.specs.Homology.{IsCycle, IsBoundary}
-use Rattle.answers.specs.Right.{slot, generatorIn, IsRight, HasCounts}
+use Rattle.answers.specs.Right.{slot, orderIn, generatorIn, IsRight, HasCounts}
 use Rattle.answers.specs.TwoReductions.{Right}
 use Rattle.answers.specs.ChainChecks.{not-a-cycle-iff}
 use Rattle.answers.specs.ReportRight.{Reads, report-is-right, has-counts, counts-unique}
-use Rattle.answers.specs.CoordinatesRight.{ReadsCoordinates, coordinates-decide, coordinates-combine}
+use Rattle.answers.specs.CoordinatesRight.{ReadsCoordinates, coordinates-decide, coordinates-combine, coordinates-reduced}
 use Rattle.answers.specs.ReportCall.{report-answers, report-left, report-work, report-kept, report-answered, report-reads}
 use Rattle.answers.specs.CoordinateCall.{coordinates-answer, coordinates-left, coordinates-work, coordinates-kept, coordinates-answered, coordinates-read, chain-cycle}
 use Rattle.answers.specs.HostReport.{host-report-answers, host-report-left, host-reported}
 use Rattle.answers.specs.HostCoordinates.{host-coordinates-answer, host-coordinates-left, host-coordinated, given-coefficient}
 use Rattle.answers.specs.ProgramText.{refused-iff, dimensions-printed}
 use Rattle.demands.specs.Claims.{ReportNumbers, CoordinateNumbers, NotACycle, ReportLeaves, CoordinatesLeave, Acceptance, Reports, CoordinateCounts, SameCounts}
-use Rattle.demands.specs.Claims.{CoordinatesOf, ReportOf, CoordinatesDecide, CoordinatesCombine}
+use Rattle.demands.specs.Claims.{CoordinatesOf, ReportOf, CoordinatesDecide, CoordinatesCombine, CoordinatesReduced}
 use Rattle.demands.specs.Claims.{HostReportNumbers, HostCoordinateNumbers, HostReportLeft, HostCoordinatesLeft, HostReports, HostCoordinateCounts}
 use Rattle.demands.specs.Claims.{ProgramRefuses, ProgramPrints, ProgramInput}
 use Rattle.demands.specs.Claims as claims
@@ -183,6 +184,15 @@ coordinatesCombine b p bytes z c report of-z of-report f t counts =
   where
     combined : ℕ → ℕ → Chain
     combined f t = combination (t + f) c (generatorIn report t (count (sectionsOf b) p))
+
+pub coordinatesReduced : CoordinatesReduced
+coordinatesReduced b p bytes z c report of-z of-report f t counts j l =
+    let B = coordinates-behind b p bytes z c of-z in
+    let D = report-behind b p bytes report of-report in
+    let reads = same-reduced (λ s r x. Reads (sectionsOf b) p s r x report) (B .reductions) (D .reductions) (D .reads) in
+    let own = counts-unique counts (has-counts (B .right)) in
+    let reduced = coordinates-reduced (B .right) (B .reads) reads j (omega (arith, own .1)) in
+    (reduced .0, subst (λ (n : ℕ). c j <ℤ orderIn report n j) (sym (own .1)) (reduced .1))
 
 -- ==== The host calls
 

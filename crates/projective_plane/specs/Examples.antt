@@ -39,7 +39,7 @@ reductions-plane = refl
 -- ---- the calls in dimension 1
 
 -- n slots as they are lent: a slot left untouched shows
-abbrev nines : ℕ → List ℤ
+abbrev pub nines : ℕ → List ℤ
 nines n = replicate n (pos 9)
 
 -- done with b = 0 and t = 1, these numbers in the output and the other slots untouched, the work slice cleared

@@ -1,0 +1,116 @@
+-- The hypotheses of the claims are met, shown on the projective plane of crate `projective_plane` in dimension 1, whose one loop has order 2:
+--     plane-report, loop-coordinates, ..   a report and coordinates that are done
+--     twice-bounds, loop-differs           what demand 3 then says: the loop and its opposite differ by a boundary, the loop and twice it do not
+--     plane-goes-wide                      the two reductions go too wide, at the entry limit 1
+use mathlib.Core.Path.{_≡_, refl, sym, _∙_, ap, subst}
+use mathlib.Core.Bool.{Bool, true, false, _&&_}
+use mathlib.Core.List.{List, [], _∷_}
+use Prim.Native.Nat.{ℕ, zero, suc, _+_, _<_}
+use native.Mathlib.Omega.{arith}
+use lib.Dec.{T, ltb, ltb→lt}
+use lib.ListN.{length, getD}
+use lib.IntN.{ℤ, pos, negsuc, _-ℤ_}
+use Rattle.lists.specs.Same.{every, both}
+use Rattle.lists.specs.Tabulate.{tabulate}
+use Rattle.complexes.specs.Complex.{Sections, Complex}
+use Rattle.sheet_format.specs.Layout.{top, start}
+use Rattle.sheet_format.specs.Check.{countField, cellOf, cellsOf, sectionsOf, refusal}
+use Rattle.sheet_format.specs.Sheet.{Bytes}
+use Rattle.sheet_format.specs.Accept.{accepted-complex}
+use Rattle.reduction_steps.specs.Pivot.{release1}
+use Rattle.reduction_steps.specs.PivotLaws.{release1-is-rule}
+use Rattle.reports.specs.Call.{Called, reportSlots, reportCall, coordinateCall}
+use Rattle.reports.specs.RefusalLaws.{refusalBefore-zero}
+use Rattle.answers.specs.Homology.{IsBoundary}
+use Rattle.answers.specs.Right.{slot, HasCounts}
+use Rattle.answers.specs.Wide.{GoesWide}
+use Rattle.answers.specs.Called.{answerNumber}
+use Rattle.answers.specs.WideLaws.{wide-iff}
+use Rattle.projective_plane.specs.Plane.{cells, sheet, loop, twice, backwards}
+use Rattle.projective_plane.specs.Examples.{nines, plane-calls, plane-too-wide}
+use Rattle.demands.specs.Claims.{CoordinatesOf, ReportOf}
+use Rattle.demands.specs.Claims as claims
+use Rattle.demands.specs.Proofs.{reportNumbers, coordinateCounts, coordinatesDecide}
+
+-- ---- a sheet of bytes
+
+bytes-of : (b : List ℕ) → T (every (λ x. ltb x 256) b) → (i : ℕ) → getD b i 0 < 256
+unfolding every
+bytes-of [] h i = omega arith
+bytes-of (x ∷ b) h zero = ltb→lt x 256 (both (ltb x 256) (every (λ y. ltb y 256) b) h .0)
+bytes-of (x ∷ b) h (suc i) = bytes-of b (both (ltb x 256) (every (λ y. ltb y 256) b) h .1) i
+
+pub plane-bytes : Bytes sheet
+unfolding every
+plane-bytes = record { small = bytes-of sheet tt }
+
+-- ---- a report and coordinates that are done
+
+pub plane-report : ReportOf sheet 1 (slot (reportCall 256 sheet 1 (nines 242) (nines 600) .output))
+plane-report = claims.ReportOf.by-library 256 (nines 242) (nines 600) 0 1 (ap (λ (c : Called). c .answer) (plane-calls .report-call))
+
+-- the coordinates that a call leaves of a chain of the plane
+abbrev read : List ℤ → ℕ → ℤ
+read z = slot (coordinateCall 256 sheet 1 z (nines 15) (nines 600) .output)
+
+pub loop-coordinates : CoordinatesOf sheet 1 (slot loop) (read loop)
+loop-coordinates = claims.CoordinatesOf.by-library 256 loop (nines 15) (nines 600) 0 1 (ap (λ (c : Called). c .answer) (plane-calls .coordinate-loop))
+
+pub backwards-coordinates : CoordinatesOf sheet 1 (slot backwards) (read backwards)
+backwards-coordinates =
+    claims.CoordinatesOf.by-library 256 backwards (nines 15) (nines 600) 0 1 (ap (λ (c : Called). c .answer) (plane-calls .coordinate-backwards))
+
+pub twice-coordinates : CoordinatesOf sheet 1 (slot twice) (read twice)
+twice-coordinates = claims.CoordinatesOf.by-library 256 twice (nines 15) (nines 600) 0 1 (ap (λ (c : Called). c .answer) (plane-calls .coordinate-twice))
+
+pub plane-counts : HasCounts (sectionsOf sheet) 1 0 1
+plane-counts =
+    coordinateCounts 256 sheet 1 loop (nines 15) (nines 600) plane-bytes 0 1 (ap (λ (c : Called). c .answer) (plane-calls .coordinate-loop))
+
+-- ---- what demand 3 says of them
+
+-- what stands at place 0 of the output
+abbrev first : Called → ℤ
+first called = slot (called .output) 0
+
+pub twice-bounds : IsBoundary (sectionsOf sheet) 1 (λ i. slot loop i -ℤ slot backwards i)
+twice-bounds =
+    coordinatesDecide sheet 1 plane-bytes (slot loop) (slot backwards) (read loop) (read backwards) loop-coordinates backwards-coordinates 0 1 plane-counts .0 same
+  where
+    same : (j : ℕ) → j < 1 + 0 → read loop j ≡ read backwards j
+    same zero l = ap first (plane-calls .coordinate-loop) ∙ sym (ap first (plane-calls .coordinate-backwards))
+    same (suc j) l = absurd (omega arith)
+
+pub loop-differs : IsBoundary (sectionsOf sheet) 1 (λ i. slot loop i -ℤ slot twice i) → ⊥
+loop-differs h =
+    one≢zero
+    (sym (ap first (plane-calls .coordinate-loop))
+    ∙ coordinatesDecide sheet 1 plane-bytes (slot loop) (slot twice) (read loop) (read twice) loop-coordinates twice-coordinates 0 1 plane-counts .1 h 0 (omega arith)
+    ∙ ap first (plane-calls .coordinate-twice))
+  where
+    one≢zero : _≡_ {A = ℤ} (pos 1) (pos 0) → ⊥
+    one≢zero e = subst IsOne e tt
+      where
+        IsOne : ℤ → Type 0
+        IsOne (pos zero) = ⊥
+        IsOne (pos (suc n)) = Unit {0}
+        IsOne (negsuc n) = ⊥
+
+-- ---- too wide
+
+accepted : refusal 256 sheet ≡ 0
+accepted =
+    refusalBefore-zero 256 sheet 1 reportSlots (length (nines 242)) (length (nines 600)) .0
+    (reportNumbers 256 sheet 1 (nines 242) (nines 600) plane-bytes .is-done .0 (ap (λ (c : Called). answerNumber (c .answer)) (plane-calls .report-call)) .0)
+    .accepted
+
+same-cells : sectionsOf sheet ≡ cells
+unfolding sectionsOf cellsOf cellOf countField start tabulate
+same-cells = refl
+
+pub plane-goes-wide : GoesWide 1 release1 cells 2 × GoesWide 1 release1 cells 1
+plane-goes-wide =
+    (wide-iff complex release1 release1-is-rule 1 2 (omega arith) .0 (plane-too-wide .0), wide-iff complex release1 release1-is-rule 1 1 (omega arith) .0 (plane-too-wide .1))
+  where
+    complex : Complex top 256 cells
+    complex = subst (λ (K : Sections). Complex top 256 K) same-cells (accepted-complex 256 sheet plane-bytes accepted)
