@@ -16,6 +16,12 @@ abbrev pub answerNumber : Answer → ℕ
 answerNumber (done f t) = 0
 answerNumber (refused k) = k
 
+-- an answer done, with some counts
+pub record IsDone (x : Answer) : Type 0 where
+  pub free : ℕ
+  pub torsion : ℕ
+  pub is : x ≡ done free torsion
+
 -- n is answered exactly as document 01 says, where `before` is the first refusal that applies before the reduction, 0 for none
 pub record Answers (before : ℕ) (TooWide : Type 0) (n : ℕ) : Type 0 where
   pub earlier : (k : ℕ) → k ≢ 0 → k ≢ 13 → (n ≡ k) ↔ (before ≡ k)
@@ -39,8 +45,10 @@ pub record WorkLeft (n : ℕ) (work work′ : List ℤ) : Type 0 where
   pub after-wide : n ≡ 13 → work′ ≡ cleared work
   pub otherwise : n ≢ 0 → n ≢ 13 → work′ ≡ work
 
--- what a call of the library leaves in its output and its work slice, where `many f t` numbers are written after done with f and t
+-- The answer 0 is done, with counts. What a call of the library leaves in its output and its work slice, where `many f t` numbers are written
+-- after done with f and t.
 pub record Leaves (many : ℕ → ℕ → ℕ) (output work : List ℤ) (called : Called) : Type 0 where
+  pub counted : answerNumber (called .answer) ≡ 0 → IsDone (called .answer)
   pub after-refusal : answerNumber (called .answer) ≢ 0 → called .output ≡ output
   pub past : (f t : ℕ) → called .answer ≡ done f t → KeptPast (pos 0) (many f t) output (called .output)
   pub work-left : WorkLeft (answerNumber (called .answer)) work (called .work)

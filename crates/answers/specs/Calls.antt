@@ -18,6 +18,7 @@ use Rattle.reduction_steps.specs.State.{State, within}
 use Rattle.reduction_steps.specs.Pivot.{release1}
 use Rattle.reduction_steps.specs.PivotLaws.{release1-is-rule}
 use Rattle.reports.specs.Reductions.{Reductions, tooWide, reduced}
+use Rattle.reports.specs.Report.{freeRank, torsionCount}
 use Rattle.reports.specs.ReductionsLaws.{tooWide≢reduced}
 use Rattle.reports.specs.Call.{done, written, finished, refusalBefore, reductionsOf}
 use Rattle.limits.specs.Limits.{entryLimit}
@@ -25,7 +26,7 @@ use Rattle.reports.specs.CallLaws.{call, ReducedWith, call-done, call-output}
 use Rattle.reports.specs.WrittenLaws.{length-written, getD-written-past}
 use Rattle.reports.specs.RefusalLaws.{refusalBefore-zero}
 use Rattle.answers.specs.Wide.{GoesWide}
-use Rattle.answers.specs.Called.{answerNumber, Answers, KeptPast, WorkLeft}
+use Rattle.answers.specs.Called.{answerNumber, IsDone, Answers, KeptPast, WorkLeft}
 use Rattle.answers.specs.TwoReductions.{Right, reductions-right, reductions-within}
 use Rattle.answers.specs.WideLaws.{wide-iff}
 
@@ -74,6 +75,12 @@ module _ (numbers : ℕ → ℕ → State → List ℤ) (output work : List ℤ)
   call-number zero tooWide = refl
   call-number zero (reduced s r x) = refl
   call-number (suc k) R = refl
+
+  pub call-counted : (before : ℕ) (R : Reductions) → answerNumber (call before R numbers output work .answer) ≡ 0 → IsDone (call before R numbers output work .answer)
+  unfolding finished
+  call-counted zero tooWide e = absurd (omega arith)
+  call-counted zero (reduced s r x) e = record { free = freeRank s r; torsion = torsionCount r x; is = refl }
+  call-counted (suc k) R e = absurd (omega arith)
 
   pub output-left : (before : ℕ) (R : Reductions) → told before R ≢ 0 → call before R numbers output work .output ≡ output
   unfolding finished

@@ -24,11 +24,11 @@ use Rattle.reports.specs.CallLaws.{ReducedWith, call-output}
 use Rattle.answers.specs.Homology.{IsCycle}
 use Rattle.answers.specs.Right.{slot}
 use Rattle.answers.specs.Wide.{GoesWide}
-use Rattle.answers.specs.Called.{answerNumber, Answers, KeptPast, WorkLeft}
+use Rattle.answers.specs.Called.{answerNumber, IsDone, Answers, KeptPast, WorkLeft}
 use Rattle.answers.specs.ChainChecks.{chain-passes}
 use Rattle.answers.specs.Numbers.{coordinates-length}
 use Rattle.answers.specs.CoordinatesRight.{ReadsCoordinates}
-use Rattle.answers.specs.Calls.{told, told-answers, call-number, output-left, output-kept, work-left, passed-complex, reductionsOf-wide, Answered, answered}
+use Rattle.answers.specs.Calls.{told, told-answers, call-number, call-counted, output-left, output-kept, work-left, passed-complex, reductionsOf-wide, Answered, answered}
 
 module _ (limit : ℕ) (b : List ℕ) (p : ℕ) (z coordinates work : List ℤ) where
   -- the refusals 1 to 9 of the coordinate call, then 10 to 12
@@ -65,6 +65,10 @@ module _ (limit : ℕ) (b : List ℕ) (p : ℕ) (z coordinates work : List ℤ) 
   pub coordinates-answer : Bytes b → Answers coordinatesBefore (GoesWide entryLimit release1 (sectionsOf b) p) (answerNumber (coordinatesCalled .answer))
   coordinates-answer bytes =
       rw coordinates-number (told-answers coordinatesBefore (reductionsOf b p) coordinatesBefore-le (λ e. reductionsOf-wide b p (coordinates-complex bytes e)))
+
+  pub coordinates-counted : answerNumber (coordinatesCalled .answer) ≡ 0 → IsDone (coordinatesCalled .answer)
+  unfolding coordinateCall
+  coordinates-counted = call-counted coordinatesNumbers coordinates work coordinatesBefore (reductionsOf b p)
 
   pub coordinates-left : answerNumber (coordinatesCalled .answer) ≢ 0 → coordinatesCalled .output ≡ coordinates
   unfolding coordinateCall

@@ -7,17 +7,17 @@ use Rattle.complexes.specs.Complex.{count}
 use Rattle.sheet_format.specs.Layout.{top}
 use Rattle.sheet_format.specs.Check.{sectionsOf}
 use Rattle.reduction_steps.specs.Pivot.{release1}
-use Rattle.limits.specs.Limits.{entryLimit}
+use Rattle.limits.specs.Limits.{hostLimit, entryLimit}
+use Rattle.reports.specs.Call.{done, reportCall}
 use Rattle.reports.specs.Text.{refusalLine, reportText, programText}
-use Rattle.answers.specs.Right.{slot, IsRight}
 use Rattle.answers.specs.Wide.{GoesWide}
 
--- the text of dimension p: `R 13` where the reduction goes too wide, else the text of a report that is right
+-- the text of dimension p: `R 13` where the reduction goes too wide, else the text of the report that a report call at the same count limit leaves
 pub data DimensionPrinted (b : List ℕ) (p : ℕ) (text : List ℕ) : Type 0 where
   too-wide : GoesWide entryLimit release1 (sectionsOf b) p → text ≡ refusalLine 13 → DimensionPrinted b p text
   reports :
-      (GoesWide entryLimit release1 (sectionsOf b) p → ⊥) → (f t : ℕ) (report : List ℤ) → IsRight (sectionsOf b) p f t (slot report) →
-      text ≡ reportText p (count (sectionsOf b) p) t (t + f) report → DimensionPrinted b p text
+      (report work : List ℤ) (f t : ℕ) → reportCall hostLimit b p report work .answer ≡ done f t →
+      text ≡ reportText p (count (sectionsOf b) p) t (t + f) (reportCall hostLimit b p report work .output) → DimensionPrinted b p text
 
 -- the first n texts, one after another
 unfoldable pub inTurn : ℕ → (ℕ → List ℕ) → List ℕ

@@ -1,4 +1,4 @@
--- The program's text: for an accepted sheet a text for each dimension, each that of a report that is right or `R 13` (dimensions-printed); for any
+-- The program's text: for an accepted sheet a text for each dimension, each that of the report or `R 13` (dimensions-printed); for any
 -- other sheet, and for it alone, `R` and the number of its refusal (refused-iff).
 use mathlib.Core.Path.{_≡_, refl, sym, _∙_, ap, subst}
 use mathlib.Core.Logic.{_↔_, _≢_}
@@ -7,7 +7,7 @@ use Prim.Native.Nat.{ℕ, zero, suc, _+_, _≤_, _<_}
 use native.Mathlib.Nat.{add-zero, zero-add}
 use native.Mathlib.Omega.{arith}
 use borrow.Author.Tests.{lt-ltb}
-use lib.ListN.{length, getD, length-append}
+use lib.ListN.{length, getD, drop, replicate, length-append, length-replicate}
 use lib.IntN.{ℤ, pos}
 use Rattle.complexes.specs.Complex.{Sections, count, Complex}
 use Rattle.sheet_format.specs.Layout.{top}
@@ -15,22 +15,18 @@ use Rattle.sheet_format.specs.Check.{sectionsOf, refusal}
 use Rattle.sheet_format.specs.Sheet.{Bytes}
 use Rattle.sheet_format.specs.Accept.{accepted-complex}
 use Rattle.reduction_steps.specs.State.{State}
-use Rattle.reduction_steps.specs.Pivot.{release1}
 use Rattle.reports.specs.Reductions.{Reductions, tooWide, reduced}
-use Rattle.reports.specs.ReductionsLaws.{tooWide≢reduced}
 use Rattle.reports.specs.Report.{kind, reported, freeRank, torsionCount, reportList, coordinateList}
 use Rattle.reports.specs.ReportLaws.{length-coordinateList}
-use Rattle.reports.specs.RefusalLaws.{refusal-le}
-use Rattle.reports.specs.Call.{reductionsOf}
-use Rattle.limits.specs.Limits.{hostLimit, entryLimit}
+use Rattle.reports.specs.RefusalLaws.{refusal-le, refusalBefore-zero}
+use Rattle.reports.specs.CallLaws.{call-answer, call-output}
+use Rattle.reports.specs.Call.{done, written, reportSlots, workSlots, refusalBefore, reductionsOf, reportCall}
+use Rattle.limits.specs.Limits.{hostLimit}
 use Rattle.reports.specs.Text.{digits, decimal, spaced, line, refusalLine, generatorLines, reportText, dimensionText, dimensionsText, textFor, programText}
 use Rattle.reports.specs.TextLaws.{reportText-reportList}
-use Rattle.answers.specs.Right.{slot}
-use Rattle.answers.specs.Wide.{GoesWide}
 use Rattle.answers.specs.Printed.{DimensionPrinted, too-wide, reports, inTurn, DimensionsPrinted}
 use Rattle.answers.specs.TwoReductions.{Right}
 use Rattle.answers.specs.Numbers.{coordinates-length}
-use Rattle.answers.specs.ReportRight.{report-is-right}
 use Rattle.answers.specs.Calls.{reductionsOf-wide, reductionsOf-right}
 
 -- the text of dimension p
@@ -62,24 +58,49 @@ module _ (b : List ℕ) (bytes : Bytes b) (accepted : refusal hostLimit b ≡ 0)
     abbrev n : ℕ
     n = count (sectionsOf b) p
 
-    narrow : (s r : ℕ) (x : State) → reductionsOf b p ≡ reduced s r x → GoesWide entryLimit release1 (sectionsOf b) p → ⊥
-    narrow s r x e w = tooWide≢reduced (sym (reductionsOf-wide b p complex .1 w) ∙ e)
+    -- slices as long as check 9 wants
+    abbrev report : List ℤ
+    report = replicate (reportSlots (sectionsOf b) p) (pos 0)
 
-    -- the numbers of the report give the text
-    report-text : (s r : ℕ) (x : State) → Right (sectionsOf b) p s r x
-        → dimensionText p n (reduced s r x) ≡ reportText p n (torsionCount r x) (torsionCount r x + freeRank s r) (reportList n s r x)
-    report-text s r x right =
-        sym (reportText-reportList p n s r x [])
-        ∙ ap (λ (l : List ℤ). reportText p n (torsionCount r x) (length (reported (kind x) s)) l) (append-nil (reportList n s r x))
-        ∙ ap (λ (k : ℕ). reportText p n (torsionCount r x) k (reportList n s r x)) (sym (length-coordinateList n s x []) ∙ coordinates-length right [])
+    abbrev work : List ℤ
+    work = replicate (workSlots (sectionsOf b) p) (pos 0)
 
-    printed : (R : Reductions) → reductionsOf b p ≡ R → DimensionPrinted b p (dimensionText p n R)
+    passes : p ≤ top → refusalBefore hostLimit b p reportSlots (length report) (length work) ≡ 0
+    passes h =
+        refusalBefore-zero hostLimit b p reportSlots (length report) (length work) .1 (record {
+          accepted = accepted;
+          dimension = h;
+          output-slots = omega (arith, length-replicate (reportSlots (sectionsOf b) p) (pos 0));
+          work-slots = omega (arith, length-replicate (workSlots (sectionsOf b) p) (pos 0));
+        })
+
+    module _ (h : p ≤ top) (s r : ℕ) (x : State) (e : reductionsOf b p ≡ reduced s r x) where
+      abbrev numbers : ℕ → ℕ → State → List ℤ
+      numbers s r x = reportList n s r x
+
+      report-done : reportCall hostLimit b p report work .answer ≡ done (freeRank s r) (torsionCount r x)
+      unfolding reportCall
+      report-done = call-answer (refusalBefore hostLimit b p reportSlots (length report) (length work)) (reductionsOf b p) numbers report work (passes h) s r x e
+
+      report-left : reportCall hostLimit b p report work .output ≡ written (reportList n s r x) report
+      unfolding reportCall
+      report-left = call-output (refusalBefore hostLimit b p reportSlots (length report) (length work)) (reductionsOf b p) numbers report work (passes h) s r x e
+
+      -- the numbers of the report give the text
+      report-text : dimensionText p n (reduced s r x)
+          ≡ reportText p n (torsionCount r x) (torsionCount r x + freeRank s r) (reportCall hostLimit b p report work .output)
+      report-text =
+          sym (reportText-reportList p n s r x (drop (length (reportList n s r x)) report))
+          ∙ ap (λ (l : List ℤ). reportText p n (torsionCount r x) (length (reported (kind x) s)) l) (sym report-left)
+          ∙ ap (λ (k : ℕ). reportText p n (torsionCount r x) k (reportCall hostLimit b p report work .output)) (sym (length-coordinateList n s x []) ∙ coordinates-length right [])
+        where
+          right : Right (sectionsOf b) p s r x
+          right = reductionsOf-right b p complex s r x e
+
+    printed : p ≤ top → (R : Reductions) → reductionsOf b p ≡ R → DimensionPrinted b p (dimensionText p n R)
     unfolding dimensionText
-    printed tooWide e = too-wide (reductionsOf-wide b p complex .0 e) refl
-    printed (reduced s r x) e =
-        let right = reductionsOf-right b p complex s r x e in
-        reports (narrow s r x e) (freeRank s r) (torsionCount r x) (reportList n s r x)
-        (report-is-right right (record { slots = λ i l. refl })) (report-text s r x right)
+    printed h tooWide e = too-wide (reductionsOf-wide b p complex .0 e) refl
+    printed h (reduced s r x) e = reports report work (freeRank s r) (torsionCount r x) (report-done h s r x e) (report-text h s r x e)
 
   -- ---- all dimensions
 
@@ -88,7 +109,7 @@ module _ (b : List ℕ) (bytes : Bytes b) (accepted : refusal hostLimit b ≡ 0)
   dimensions-printed = record {
     texts = textOf b;
     in-turn = ap (λ (k : ℕ). textFor k b) accepted ∙ sym (turns-all b);
-    each = λ p l. printed p (reductionsOf b p) refl;
+    each = λ p l. printed p l (reductionsOf b p) refl;
   }
 
 -- ---- a refused sheet

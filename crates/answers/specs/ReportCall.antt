@@ -23,10 +23,10 @@ use Rattle.reports.specs.WrittenLaws.{getD-written}
 use Rattle.reports.specs.CallLaws.{ReducedWith, call-output}
 use Rattle.answers.specs.Right.{slot, reportLength}
 use Rattle.answers.specs.Wide.{GoesWide}
-use Rattle.answers.specs.Called.{answerNumber, Answers, KeptPast, WorkLeft}
+use Rattle.answers.specs.Called.{answerNumber, IsDone, Answers, KeptPast, WorkLeft}
 use Rattle.answers.specs.Numbers.{report-length}
 use Rattle.answers.specs.ReportRight.{Reads}
-use Rattle.answers.specs.Calls.{told, told-answers, call-number, output-left, output-kept, work-left, passed-complex, reductionsOf-wide, Answered, answered}
+use Rattle.answers.specs.Calls.{told, told-answers, call-number, call-counted, output-left, output-kept, work-left, passed-complex, reductionsOf-wide, Answered, answered}
 
 module _ (limit : ℕ) (b : List ℕ) (p : ℕ) (report work : List ℤ) where
   -- the refusals 1 to 9 of the report call
@@ -51,6 +51,10 @@ module _ (limit : ℕ) (b : List ℕ) (p : ℕ) (report work : List ℤ) where
 
   pub report-answers : Bytes b → Answers reportBefore (GoesWide entryLimit release1 (sectionsOf b) p) (answerNumber (reportCalled .answer))
   report-answers bytes = rw report-number (told-answers reportBefore (reductionsOf b p) reportBefore-le (λ e. reductionsOf-wide b p (report-complex bytes e)))
+
+  pub report-counted : answerNumber (reportCalled .answer) ≡ 0 → IsDone (reportCalled .answer)
+  unfolding reportCall
+  report-counted = call-counted reportNumbers report work reportBefore (reductionsOf b p)
 
   pub report-left : answerNumber (reportCalled .answer) ≢ 0 → reportCalled .output ≡ report
   unfolding reportCall

@@ -27,7 +27,7 @@ abbrev pub vertexBound : ℕ
 vertexBound = 65536
 
 -- K lists the cells of a complex of dimensions 0 to `top` with at most `limit` cells in each: cells of dimension p have p + 1 vertices, which
--- rise strictly, the cells of a section rise strictly, and every face of a cell is listed.
+-- are vertex numbers and rise strictly, the cells of a section rise strictly, and every face of a cell is listed.
 pub record Complex (top limit : ℕ) (K : Sections) : Type 0 where
   pub dimensions : length K ≡ suc top
   pub within : (p : ℕ) → count K p ≤ limit

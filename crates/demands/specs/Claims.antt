@@ -1,6 +1,9 @@
 -- The owner's demands, sentence by sentence, for every sheet b, dimension p, and every length and content of every slice. The contracts of the code
 -- say that the library's calls answer and leave what `reportCall` and `coordinateCall` say, the host calls what `hostReport` and `hostCoordinates`
--- say, and that the program prints `programText`; here is claimed what these are. `Proofs` proves each claim. A slice of bytes meets `Bytes`.
+-- say, and that `print_input`, which the program calls between reading and writing, puts `programText`; here is claimed what these are. `Proofs`
+-- proves each claim, and `Met` shows that hypotheses are met. "ends on all input .. nothing undefined happens" (demand 1) is settled by the
+-- proof of every function, "nothing is assumed beyond 01's rule on overlapping slices" (demand 3) by calls without a `requires`. A slice of bytes meets
+-- `Bytes`: the contract of `Sheet::read` says so.
 use mathlib.Core.Path.{_≡_}
 use mathlib.Core.Logic.{_↔_, _≢_}
 use mathlib.Core.List.{List}
@@ -30,29 +33,33 @@ TooWide b p = GoesWide entryLimit release1 (sectionsOf b) p
 
 -- ==== Demand 1
 
--- "each fault gets its number from document 01 in 01's order", and demand 3, "A call answers done whenever no numbered refusal applies to it";
--- demand 2, ""Too wide" is told exactly when no earlier refusal applies and the reduction in 01 makes an entry beyond 1,048,575"
+-- "each fault gets its number from document 01 in 01's order"; demand 2, ""Too wide" is told exactly when no earlier refusal applies and the
+-- reduction in 01 makes an entry beyond 1,048,575 either way from zero"; demand 3, "A call answers done whenever no numbered refusal applies to it".
+-- The report call:
 abbrev pub ReportNumbers : Type 0
 ReportNumbers =
     (limit : ℕ) (b : List ℕ) (p : ℕ) (report work : List ℤ) → Bytes b →
     Answers (refusalBefore limit b p reportSlots (length report) (length work)) (TooWide b p) (answerNumber (reportCall limit b p report work .answer))
 
+-- the coordinate call:
 abbrev pub CoordinateNumbers : Type 0
 CoordinateNumbers =
     (limit : ℕ) (b : List ℕ) (p : ℕ) (z coordinates work : List ℤ) → Bytes b →
     Answers (orElse (refusalBefore limit b p coordinateSlots (length coordinates) (length work)) (chainRefusal b p z)) (TooWide b p)
     (answerNumber (coordinateCall limit b p z coordinates work .answer))
 
--- refusal 12 of a chain is told exactly when 10 and 11 do not apply and the chain has a nonzero boundary
+-- 01, "12. The chain has a nonzero boundary": among 10 to 12 it is told exactly when 10 and 11 do not apply and the chain is no cycle
 abbrev pub NotACycle : Type 0
 NotACycle = (b : List ℕ) (p : ℕ) (z : List ℤ) → (chainRefusal b p z ≡ 12) ↔ NoCycle (sectionsOf b) p z
 
--- "a refusal leaves report and coordinate slices untouched"; past what a call writes they are untouched too
+-- "a refusal leaves report and coordinate slices untouched"; 01, "untouched past what the call writes", and the work slice "reads 0 throughout
+-- after a finished call, after refusal 13 ..; the other refusals leave it alone". The report call:
 abbrev pub ReportLeaves : Type 0
 ReportLeaves =
     (limit : ℕ) (b : List ℕ) (p : ℕ) (report work : List ℤ) → Bytes b →
     Leaves (reportLength (sectionsOf b) p) report work (reportCall limit b p report work)
 
+-- the coordinate call:
 abbrev pub CoordinatesLeave : Type 0
 CoordinatesLeave =
     (limit : ℕ) (b : List ℕ) (p : ℕ) (z coordinates work : List ℤ) → Bytes b →
@@ -64,13 +71,17 @@ CoordinatesLeave =
 abbrev pub Acceptance : Type 0
 Acceptance = (limit : ℕ) → limit ≤ libraryLimit → (b : List ℕ) → Bytes b → (refusal limit b ≡ 0) ↔ IsSheet limit b
 
+-- .. and the cells that all claims below speak of are those of the complex
+abbrev pub SheetCells : Type 0
+SheetCells = (limit : ℕ) → limit ≤ libraryLimit → (b : List ℕ) (sheet : IsSheet limit b) → sheet .cells ≡ sectionsOf b
+
 -- "the free rank, the torsion orders and the generators reported for each dimension are those of simplicial homology over the whole numbers"
 abbrev pub Reports : Type 0
 Reports =
     (limit : ℕ) (b : List ℕ) (p : ℕ) (report work : List ℤ) → Bytes b → (f t : ℕ) →
     reportCall limit b p report work .answer ≡ done f t → IsRight (sectionsOf b) p f t (slot (reportCall limit b p report work .output))
 
--- the counts that the coordinate call answers are those too
+-- 01, "done, with the report's counts": those that the coordinate call answers are the group's too
 abbrev pub CoordinateCounts : Type 0
 CoordinateCounts =
     (limit : ℕ) (b : List ℕ) (p : ℕ) (z coordinates work : List ℤ) → Bytes b → (f t : ℕ) →
@@ -82,7 +93,9 @@ SameCounts = (b : List ℕ) (p f t f′ t′ : ℕ) → HasCounts (sectionsOf b)
 
 -- ==== Demand 3
 
--- "the coordinates .. are answered with done": the cycle z has these, as a caller reads them, from the library at some count limit or from the host
+-- "Take any accepted sheet, any dimension and any two cycles of that dimension. Whenever the coordinates of both are answered with done ..", "whatever
+-- the slices lent for answers and work held before": z is a chain that was given, and the numbers are its coordinates as a caller reads them, from the
+-- library at some count limit or from the host
 pub data CoordinatesOf (b : List ℕ) (p : ℕ) : Chain → (ℕ → ℤ) → Type 0 where
   by-library :
       (limit : ℕ) (z coordinates work : List ℤ) (f t : ℕ) → coordinateCall limit b p z coordinates work .answer ≡ done f t →
@@ -91,14 +104,14 @@ pub data CoordinatesOf (b : List ℕ) (p : ℕ) : Chain → (ℕ → ℤ) → Ty
       (chain coordinates : List ℕ) → hostCoordinates b p chain coordinates .number ≡ 0 →
       CoordinatesOf b p (coefficientIn chain) (numberAt (hostCoordinates b p chain coordinates .output))
 
--- "the report on that sheet and dimension is done": its numbers, as a caller reads them
+-- "Whenever the report on that sheet and dimension is done as well ..": its numbers, as a caller reads them
 pub data ReportOf (b : List ℕ) (p : ℕ) : (ℕ → ℤ) → Type 0 where
   by-library :
       (limit : ℕ) (report work : List ℤ) (f t : ℕ) → reportCall limit b p report work .answer ≡ done f t →
       ReportOf b p (slot (reportCall limit b p report work .output))
   by-host : (report : List ℕ) → hostReport b p report .number ≡ 0 → ReportOf b p (numberAt (hostReport b p report .output))
 
--- "the two lists are equal exactly when the difference of the two cycles is the boundary of some chain with whole coefficients, however large"
+-- "the two lists are equal exactly when the difference of the two cycles is the boundary of some chain with whole coefficients, however large these are"
 abbrev pub CoordinatesDecide : Type 0
 CoordinatesDecide =
     (b : List ℕ) (p : ℕ) → Bytes b → (y z : Chain) (c d : ℕ → ℤ) → CoordinatesOf b p y c → CoordinatesOf b p z d →
@@ -120,12 +133,13 @@ CoordinatesReduced =
 
 -- ==== The host calls
 
--- as for the library: the numbers in 01's order, too wide exactly, done whenever no refusal applies
+-- demands 1 to 3 as for the library: each fault its number in 01's order, too wide exactly, done whenever no refusal applies. fildwuk_report:
 abbrev pub HostReportNumbers : Type 0
 HostReportNumbers =
     (b : List ℕ) (p : ℕ) (report : List ℕ) → Bytes b →
     Answers (refusalBefore hostLimit b p reportSlots (slotsIn report) (workSlots (sectionsOf b) p)) (TooWide b p) (hostReport b p report .number)
 
+-- fildwuk_coordinates:
 abbrev pub HostCoordinateNumbers : Type 0
 HostCoordinateNumbers =
     (b : List ℕ) (p : ℕ) (chain coordinates : List ℕ) → Bytes b →
@@ -134,7 +148,7 @@ HostCoordinateNumbers =
     (chainRefusal b p (chainFrom (count (sectionsOf b) p) chain)))
     (TooWide b p) (hostCoordinates b p chain coordinates .number)
 
--- a refusal leaves the output untouched
+-- demand 1, "a refusal leaves report and coordinate slices untouched"
 abbrev pub HostReportLeft : Type 0
 HostReportLeft = (b : List ℕ) (p : ℕ) (report : List ℕ) → Bytes b → hostReport b p report .number ≢ 0 → hostReport b p report .output ≡ report
 
@@ -143,7 +157,8 @@ HostCoordinatesLeft =
     (b : List ℕ) (p : ℕ) (chain coordinates : List ℕ) → Bytes b →
     hostCoordinates b p chain coordinates .number ≢ 0 → hostCoordinates b p chain coordinates .output ≡ coordinates
 
--- a report that is done is right, read from the bytes, and leaves what is past its numbers
+-- demand 2, "the free rank, the torsion orders and the generators reported": a report that is done is right, read from the bytes, and what is past its
+-- numbers stays
 pub record HostReportDone (b : List ℕ) (p : ℕ) (report : List ℕ) : Type 0 where
   pub free : ℕ
   pub torsion : ℕ
@@ -153,7 +168,7 @@ pub record HostReportDone (b : List ℕ) (p : ℕ) (report : List ℕ) : Type 0 
 abbrev pub HostReports : Type 0
 HostReports = (b : List ℕ) (p : ℕ) (report : List ℕ) → Bytes b → hostReport b p report .number ≡ 0 → HostReportDone b p report
 
--- coordinates that are done have t + f numbers, where f and t are the group's, and leave what is past them
+-- coordinates that are done have t + f numbers, where f and t are the group's, and what is past them stays
 pub record HostCoordinatesDone (b : List ℕ) (p : ℕ) (chain coordinates : List ℕ) : Type 0 where
   pub free : ℕ
   pub torsion : ℕ
@@ -167,14 +182,15 @@ HostCoordinateCounts =
 
 -- ==== The program
 
--- a sheet refused by 1 to 7, and no other, gives the single line `R` and the number
+-- 01, "A sheet refused by 1 to 7 gives the single line `R` and the number", and no other sheet does
 abbrev pub ProgramRefuses : Type 0
 ProgramRefuses = (b : List ℕ) (k : ℕ) → k ≢ 0 → k ≤ 7 → (programText b ≡ refusalLine k) ↔ (refusal hostLimit b ≡ k)
 
--- otherwise each dimension gives `R 13` exactly when the reduction goes too wide, or the text of a report that is right
+-- 01, "Otherwise each dimension gives .."; "a dimension that goes too wide gives `R 13` instead": else the text of the report that a report call leaves,
+-- which is right by `Reports`
 abbrev pub ProgramPrints : Type 0
 ProgramPrints = (b : List ℕ) → Bytes b → refusal hostLimit b ≡ 0 → DimensionsPrinted b
 
--- input longer than any sheet that is accepted is settled by its first bytes
+-- 01, "It reads one sheet from standard input": input longer than any sheet that is accepted is settled by its first bytes
 abbrev pub ProgramInput : Type 0
 ProgramInput = (b : List ℕ) (n : ℕ) → longest hostLimit < n → programText (take n b) ≡ programText b

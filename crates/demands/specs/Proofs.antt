@@ -9,7 +9,7 @@ use lib.Signed.{_<ℤ_}
 use Rattle.complexes.specs.Complex.{count}
 use Rattle.sheet_format.specs.Check.{sectionsOf}
 use Rattle.sheet_format.specs.Sheet.{Bytes}
-use Rattle.sheet_format.specs.Accept.{accepted-iff}
+use Rattle.sheet_format.specs.Accept.{accepted-iff, sections-layout}
 use Rattle.homology_groups.specs.Chain.{Chain, combination}
 use Rattle.homology_groups.specs.ChainLaws.{boundary-same}
 use Rattle.reduction_steps.specs.State.{State}
@@ -24,12 +24,12 @@ use Rattle.answers.specs.TwoReductions.{Right}
 use Rattle.answers.specs.ChainChecks.{not-a-cycle-iff}
 use Rattle.answers.specs.ReportRight.{Reads, report-is-right, has-counts, counts-unique}
 use Rattle.answers.specs.CoordinatesRight.{ReadsCoordinates, coordinates-decide, coordinates-combine, coordinates-reduced}
-use Rattle.answers.specs.ReportCall.{report-answers, report-left, report-work, report-kept, report-answered, report-reads}
-use Rattle.answers.specs.CoordinateCall.{coordinates-answer, coordinates-left, coordinates-work, coordinates-kept, coordinates-answered, coordinates-read, chain-cycle}
+use Rattle.answers.specs.ReportCall.{report-answers, report-counted, report-left, report-work, report-kept, report-answered, report-reads}
+use Rattle.answers.specs.CoordinateCall.{coordinates-answer, coordinates-counted, coordinates-left, coordinates-work, coordinates-kept, coordinates-answered, coordinates-read, chain-cycle}
 use Rattle.answers.specs.HostReport.{host-report-answers, host-report-left, host-reported}
 use Rattle.answers.specs.HostCoordinates.{host-coordinates-answer, host-coordinates-left, host-coordinated, given-coefficient}
 use Rattle.answers.specs.ProgramText.{refused-iff, dimensions-printed}
-use Rattle.demands.specs.Claims.{ReportNumbers, CoordinateNumbers, NotACycle, ReportLeaves, CoordinatesLeave, Acceptance, Reports, CoordinateCounts, SameCounts}
+use Rattle.demands.specs.Claims.{ReportNumbers, CoordinateNumbers, NotACycle, ReportLeaves, CoordinatesLeave, Acceptance, SheetCells, Reports, CoordinateCounts, SameCounts}
 use Rattle.demands.specs.Claims.{CoordinatesOf, ReportOf, CoordinatesDecide, CoordinatesCombine, CoordinatesReduced}
 use Rattle.demands.specs.Claims.{HostReportNumbers, HostCoordinateNumbers, HostReportLeft, HostCoordinatesLeft, HostReports, HostCoordinateCounts}
 use Rattle.demands.specs.Claims.{ProgramRefuses, ProgramPrints, ProgramInput}
@@ -48,6 +48,7 @@ notACycle = not-a-cycle-iff
 
 pub reportLeaves : ReportLeaves
 reportLeaves limit b p report work bytes = record {
+  counted = report-counted limit b p report work;
   after-refusal = report-left limit b p report work;
   past = λ f t e. report-kept limit b p report work bytes e;
   work-left = report-work limit b p report work;
@@ -55,6 +56,7 @@ reportLeaves limit b p report work bytes = record {
 
 pub coordinatesLeave : CoordinatesLeave
 coordinatesLeave limit b p z coordinates work bytes = record {
+  counted = coordinates-counted limit b p z coordinates work;
   after-refusal = coordinates-left limit b p z coordinates work;
   past = λ f t e. coordinates-kept limit b p z coordinates work bytes e;
   work-left = coordinates-work limit b p z coordinates work;
@@ -68,6 +70,9 @@ acceptance = accepted-iff
 -- what holds of the counts behind an answer holds of those that it says
 as-counted : (P : ℕ → ℕ → Type 0) {f t f′ t′ : ℕ} → f ≡ f′ → t ≡ t′ → P f′ t′ → P f t
 as-counted P e d h = rw (e, d) h
+
+pub sheetCells : SheetCells
+sheetCells limit small b s = sym (sections-layout (s .complex) small) ∙ ap sectionsOf (s .bytes)
 
 pub reports : Reports
 reports limit b p report work bytes f t e =

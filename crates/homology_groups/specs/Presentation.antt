@@ -22,7 +22,7 @@ pub record Presentation (m n l : ℕ) (A B : Matrix) (k : ℕ) (g : ℕ → Chai
   pub relations : (c : ℕ → ℤ) → Boundary n l B (combination k c g) ↔ ((j : ℕ) → j < k → o j ∣ℤ c j)
   pub nonneg : (j : ℕ) → j < k → pos 0 ≤ℤ o j
   pub proper : (j : ℕ) → j < k → o j ≢ pos 1
-  pub chain : (j : ℕ) → suc j < k → o j ∣ℤ o (suc j)
+  pub divides-next : (j : ℕ) → suc j < k → o j ∣ℤ o (suc j)
 
 -- two lists of orders of k and k′ generators that say the same
 pub record SameOrders (k : ℕ) (o : ℕ → ℤ) (k′ : ℕ) (o′ : ℕ → ℤ) : Type 0 where

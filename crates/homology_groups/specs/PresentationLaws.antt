@@ -29,7 +29,7 @@ presentation-ext {n} {k} {g} {g′} same equal P = record {
   );
   nonneg = λ j h. rw (← equal j h) (P .nonneg j h);
   proper = λ j h. rw (← equal j h) (P .proper j h);
-  chain = λ j h. rw (← equal j (omega arith), ← equal (suc j) h) (P .chain j h);
+  divides-next = λ j h. rw (← equal j (omega arith), ← equal (suc j) h) (P .divides-next j h);
 }
   where
     combined : (c : ℕ → ℤ) → Same n (combination k c g) (combination k c g′)

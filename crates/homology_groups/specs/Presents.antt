@@ -97,5 +97,5 @@ module _ {m n l : ℕ} {A B : Matrix} {s : ℕ} {e : ℕ → ℤ} {G Q : Matrix}
         relations = relations;
         nonneg = λ j h. R .second .nonneg (u + j);
         proper = λ j h. ones .others (u + j) (omega arith) (omega arith);
-        chain = λ j h. rw (add-suc u j) (R .second .divides (u + j));
+        divides-next = λ j h. rw (add-suc u j) (R .second .divides (u + j));
       }

@@ -109,7 +109,7 @@ module _ {m n l k k′ : ℕ} {A B : Matrix} {g g′ : ℕ → Chain} {o o′ : 
       (λ j i a lb li. dvd-trans (later i lb li) (multiple c j i (omega arith) li (h j a)))
     where
       later : (j : ℕ) → b ≤ j → j < k → o b ∣ℤ o j
-      later j a lj = dvd-chain k o (P .chain) b j a lj
+      later j a lj = dvd-chain k o (P .divides-next) b j a lj
 
   -- with fewer generators in the second, the first order would divide 1
   count-le : k ≤ k′
@@ -124,7 +124,7 @@ module _ {m n l k k′ : ℕ} {A B : Matrix} {g g′ : ℕ → Chain} {o o′ : 
 
   order-divides : (j : ℕ) → j < k → k ≡ k′ → o j ∣ℤ o′ j
   order-divides j a e =
-      orders-divide j (suc j) (o′ j) (omega arith) (omega arith) (λ i b. dvd-chain k′ o′ (P′ .chain) i j (omega arith) (omega arith))
+      orders-divide j (suc j) (o′ j) (omega arith) (omega arith) (λ i b. dvd-chain k′ o′ (P′ .divides-next) i j (omega arith) (omega arith))
 
 pub presentation-unique : {m n l k k′ : ℕ} {A B : Matrix} {g g′ : ℕ → Chain} {o o′ : ℕ → ℤ} → Presentation m n l A B k g o → Presentation m n l A B k′ g′ o′ → SameOrders k o k′ o′
 presentation-unique {k} {k′} {o} {o′} P P′ = record { count = count; orders = orders }

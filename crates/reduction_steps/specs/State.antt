@@ -13,8 +13,9 @@ pub record Sizes : Type 0 where
   pub columnFollower : ℕ
   pub columnInverse : ℕ
 
--- The matrix, by rows. Its companions: one that undergoes the row operations, by rows; one whose columns undergo their inverses, by columns;
--- one that undergoes the column operations, by columns; one whose rows undergo their inverses, by rows.
+-- The matrix, by rows. Its companions: one that undergoes the row operations, by rows (Q in document 01); one whose columns undergo their inverses, by
+-- columns (G); one that undergoes the column operations, by columns (V); one whose rows undergo their inverses, by rows (the inverse of V). In a
+-- companion by columns, line i is column i.
 pub record State : Type 0 where
   pub matrix : Table
   pub rowFollower : Table
@@ -60,7 +61,7 @@ pub data Outcome : Type 0 where
   tooWide : Outcome
   made : State → Outcome
 
--- after each operation every entry lies within the limit
+-- what an operation has made, if every entry lies within the limit
 unfoldable pub checked : ℕ → State → Outcome
 checked limit s = cond (within limit s) (made s) tooWide
 
@@ -69,7 +70,7 @@ unfoldable pub andThen : Outcome → (State → Outcome) → Outcome
 andThen tooWide next = tooWide
 andThen (made s) next = next s
 
--- the state that is read, then one operation
+-- one operation on the rows, then the check of the limit; the same on the columns
 unfoldable pub onRow : ℕ → Sizes → Operation → State → Outcome
 onRow limit z op s = checked limit (rowOperation z op s)
 

@@ -37,11 +37,12 @@ unfoldable pub rowIndivisible : Matrix → ℤ → ℕ → ℕ → ℕ → Bool
 rowIndivisible A pivot i zero j = false
 rowIndivisible A pivot i (suc more) j = not (divides pivot (A i j)) || rowIndivisible A pivot i more (suc j)
 
--- the first row from i on, of `more` rows, with such an entry among `across` columns from j on
+-- a row, or none
 pub data Row : Type 0 where
   noRow : Row
   row : ℕ → Row
 
+-- the first row from i on, of `more` rows, with such an entry among `across` columns from j on
 unfoldable pub firstIndivisible : Matrix → ℤ → ℕ → ℕ → ℕ → ℕ → Row
 firstIndivisible A pivot j across zero i = noRow
 firstIndivisible A pivot j across (suc more) i =
@@ -81,6 +82,9 @@ module _ (limit : ℕ) (z : Sizes) where
   next tooWide to = wide
   next (made s) to = to s
 
+  -- One letter. a (with b): the pivot among rows and columns from k on is brought to (k, k); if there is none, the rank is k. c: the row pass; if column
+  -- k keeps a nonzero below, back to a. d: the column pass; if row k keeps a nonzero to the right, back to a. e: the row of the first entry that the
+  -- pivot does not divide is added to row k, and back to d; if there is none, k rises by one.
   unfoldable pub step : Rule → Machine → Machine
   step rule (at a k s) =
       elim (rule (z .rows) (z .columns) k (entry (s .matrix))) [

@@ -22,7 +22,7 @@ unfoldable pub lowBytes : ℕ → ℕ → List ℕ
 lowBytes zero n = []
 lowBytes (suc size) n = (n % 256) ∷ lowBytes size (n / 256)
 
--- a signed 64-bit number: a negative one less 2 ^ 64
+-- a signed 64-bit number: of a negative one the bytes of its sum with 2 ^ 64
 unfoldable pub numberBytes : ℤ → List ℕ
 numberBytes (pos n) = lowBytes 8 n
 numberBytes (negsuc n) = lowBytes 8 (2 ^ 64 - suc n)
@@ -57,11 +57,12 @@ coefficientAt b i = signed (getD b i 0 + 256 * (getD b (i + 1) 0 + 256 * (getD b
 abbrev pub coefficientIn : List ℕ → ℕ → ℤ
 coefficientIn chain i = coefficientAt chain (4 * i)
 
--- A chain of 4 × n bytes; a chain of other than 4 × n bytes stands for one of another length than n.
+-- a chain of another length than n
 unfoldable pub otherLength : ℕ → List ℤ
 otherLength zero = pos 0 ∷ []
 otherLength (suc n) = []
 
+-- the chain of 4 × n bytes; other than 4 × n bytes stand for a chain of another length than n
 unfoldable pub chainFrom : ℕ → List ℕ → List ℤ
 chainFrom n chain = cond (eqb (length chain) (4 * n)) (tabulate n (λ i. coefficientIn chain i)) (otherLength n)
 

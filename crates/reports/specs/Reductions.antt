@@ -70,7 +70,7 @@ pub data Reductions : Type 0 where
   tooWide : Reductions
   reduced : ℕ → ℕ → State → Reductions
 
--- after the second reduction of s rows
+-- after the second reduction of s rows; it has ended (`reduce-ends`), so that the first case does not occur
 unfoldable pub afterSecond : ℕ → Machine → Reductions
 afterSecond s (at l k x) = tooWide
 afterSecond s (done r x) = reduced s r x
@@ -85,7 +85,7 @@ module _ (rule : Rule) (limit : ℕ) (K : Sections) (p : ℕ) where
         | false ↦ tooWide
       ]
 
-  -- after the first reduction
+  -- after the first reduction; it has ended (`reduce-ends`), so that the first case does not occur
   unfoldable pub afterFirst : Machine → Reductions
   afterFirst (at l k x) = tooWide
   afterFirst (done r x) = second r x

@@ -25,7 +25,8 @@ unfoldable pub columnsOf : Table → ℕ → List ℕ → List ℤ
 columnsOf G n [] = []
 columnsOf G n (i ∷ l) = tabulate n (λ j. entry G i j) ++ columnsOf G n l
 
--- Below, n is the number of cells, s the number of rows of Q, r the rank of the second reduction and x the state that it leaves.
+-- Below, n is the number of cells, s the number of rows of Q, r the rank of the second reduction and x the state that it leaves: Q by rows in its
+-- `rowFollower`, G by columns in its `rowInverse`.
 
 -- the free rank b: the rows of Q without a pivot
 abbrev pub freeRank : ℕ → ℕ → ℕ

@@ -46,10 +46,10 @@ unfoldable pub layout : Sections → List ℕ
 layout K = headerBytes (count K) 0 (suc top) ++ sectionsBytes K
 
 -- the vertex numbers in one cell of each dimension below p: 1 + .. + p
-abbrev pub triangle : ℕ → ℕ
-triangle zero = zero
-triangle (suc p) = triangle p + suc p
+abbrev pub vertexNumbers : ℕ → ℕ
+vertexNumbers zero = zero
+vertexNumbers (suc p) = vertexNumbers p + suc p
 
 -- the bytes of the longest sheet with at most `limit` cells in each dimension
 abbrev pub longest : ℕ → ℕ
-longest limit = headerLength + 2 * (limit * triangle (suc top))
+longest limit = headerLength + 2 * (limit * vertexNumbers (suc top))

@@ -12,7 +12,7 @@ use lib.ListN.{length, getD, List·getD-eq-default}
 use borrow.Author.Tests.{le-leb, lt-leb}
 use Rattle.complexes.specs.Cell.{Cell}
 use Rattle.complexes.specs.Complex.{Sections, section, count, cell}
-use Rattle.sheet_format.specs.Layout.{top, headerLength, start, triangle}
+use Rattle.sheet_format.specs.Layout.{top, headerLength, start, vertexNumbers}
 use Rattle.sheet_format.specs.Check.{fieldAt, countField, startAt, cellOf, cellsOf, sectionsOf}
 use Rattle.sheet_format.specs.Sheet.{Bytes}
 use Rattle.lists.specs.TabulateLaws.{length-tabulate, getD-tabulate}
@@ -96,7 +96,7 @@ start-add n p (suc k) = rw (add-suc p k) (le-trans (start-add n p k) (le-add-rig
 pub start-mono : (n : ℕ → ℕ) (p q : ℕ) → p ≤ q → start n p ≤ start n q
 start-mono n p q h = subst (λ (r : ℕ). start n p ≤ start n r) (add-sub-of-le h) (start-add n p (q - p))
 
-pub start-le : (n : ℕ → ℕ) (limit p : ℕ) → ((q : ℕ) → q < p → n q ≤ limit) → start n p ≤ headerLength + 2 * (limit * triangle p)
+pub start-le : (n : ℕ → ℕ) (limit p : ℕ) → ((q : ℕ) → q < p → n q ≤ limit) → start n p ≤ headerLength + 2 * (limit * vertexNumbers p)
 unfolding start
 start-le n limit zero h = omega arith
 start-le n limit (suc p) h =
@@ -114,5 +114,5 @@ countField-lt b h p = pick (decLe p top)
     pick (yes k) = omega (arith, countField-in b p k, fieldAt-lt b h (4 * p))
     pick (no k) = omega (arith, countField-out b p (omega arith))
 
-pub startAt-le : (b : List ℕ) → Bytes b → (p : ℕ) → startAt b p ≤ headerLength + 2 * (65535 * triangle p)
+pub startAt-le : (b : List ℕ) → Bytes b → (p : ℕ) → startAt b p ≤ headerLength + 2 * (65535 * vertexNumbers p)
 startAt-le b h p = start-le (countField b) 65535 p (λ q k. omega (arith, countField-lt b h q))
