@@ -16,7 +16,7 @@ CALLS = {"reportCall", "coordinateCall", "hostReport", "hostCoordinates", "progr
 RIGHT = ["Reports", "CoordinateCounts", "SameCounts", "CoordinatesOf", "ReportOf", "CoordinatesDecide", "CoordinatesCombine", "CoordinatesReduced",
          "HostReports", "HostCoordinateCounts"]
 PARTS = [
-    ("the sheet", ["Acceptance"], CALLS),
+    ("the sheet", ["Acceptance", "SheetCells"], CALLS),
     ("the answers are right", RIGHT, CALLS),
     ("refusals, too wide and what is left", [], CALLS),
     ("which numbers, bytes and text, by the pivot rule", sorted(CALLS), set()),
@@ -43,7 +43,7 @@ class Module:
                     self.imports[item.strip()] = target
             elif target and use[3]:
                 self.aliases[use[3]] = target
-        self.blocks, self.home = [], {}
+        self.blocks, self.home, self.label = [], {}, []
         for paragraph in re.split(r"\n\s*\n", USE.sub("", text)):
             self.add([line for line in paragraph.split("\n") if line.strip() and not line.strip().startswith("--")])
 
@@ -52,11 +52,17 @@ class Module:
             return
         index = len(self.blocks)
         self.blocks.append(lines)
+        self.label.append("")
+        record = False
         for line in lines:
-            named = re.match(r"\s*(?:unfoldable |abbrev )?(?:pub )?(?:record |data )([^\s]+)", line)
+            named = re.match(r"\s*(?:unfoldable |abbrev )?(?:pub )?(record|data) ([^\s]+)", line)
             typed = re.match(r"\s*(?:unfoldable |abbrev )?(?:pub )?((?:[^\s(){}:=→]+ )+):(?: |$)", line)
-            for name in [named[1]] if named else typed[1].split() if typed else []:
+            found = [named[2]] if named else typed[1].split() if typed else []
+            self.label[index] = self.label[index] or " ".join(found)
+            # A field is reached through its record; a constructor names its type.
+            for name in [] if record and not named else found:
                 self.home.setdefault(name, index)
+            record = record or bool(named and named[1] == "record")
 
 
 MODULES = {}
@@ -82,7 +88,7 @@ def closure(starts, opaque, done):
         block = (key, here.home[name])
         if block in reached or block in done:
             continue
-        reached[block] = name
+        reached[block] = here.label[block[1]]
         for token in TOKEN.findall("\n".join(here.blocks[block[1]])):
             for part in {token, token.strip("."), token.split(".")[-1]}:
                 operator = "_" + part + "_"
@@ -122,4 +128,7 @@ def main():
     print(f"in all: {total} lines")
 
 
-main()
+try:
+    main()
+except BrokenPipeError:
+    sys.stderr.close()

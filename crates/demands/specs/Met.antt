@@ -1,36 +1,45 @@
 -- The hypotheses of the claims are met, shown on the projective plane of crate `projective_plane` in dimension 1, whose one loop has order 2:
 --     plane-report, loop-coordinates, ..   a report and coordinates that are done
 --     twice-bounds, loop-differs           what demand 3 then says: the loop and its opposite differ by a boundary, the loop and twice it do not
---     plane-goes-wide                      the two reductions go too wide, at the entry limit 1
+--     plane-host-report, ..                the same through the host calls, and an accepted sheet for the program
+--     triangle-no-cycle                    a chain that is no cycle, on the hollow triangle
+--     plane-goes-wide                      the two reductions go too wide, at the entry limit 1; at 1,048,575 no sheet that computes here does
 use mathlib.Core.Path.{_≡_, refl, sym, _∙_, ap, subst}
 use mathlib.Core.Bool.{Bool, true, false, _&&_}
 use mathlib.Core.List.{List, [], _∷_}
 use Prim.Native.Nat.{ℕ, zero, suc, _+_, _<_}
 use native.Mathlib.Omega.{arith}
 use lib.Dec.{T, ltb, ltb→lt}
-use lib.ListN.{length, getD}
+use lib.ListN.{length, getD, replicate}
 use lib.IntN.{ℤ, pos, negsuc, _-ℤ_}
 use Rattle.lists.specs.Same.{every, both}
 use Rattle.lists.specs.Tabulate.{tabulate}
-use Rattle.complexes.specs.Complex.{Sections, Complex}
+use Rattle.matrices.specs.Sum.{sum}
+use Rattle.matrices.specs.Vector.{apply}
+use Rattle.complexes.specs.Cell.{without, same, rises, precedes, listed}
+use Rattle.complexes.specs.Complex.{Sections, count, Complex}
+use Rattle.complexes.specs.Boundary.{sign, coefficient, countBelow, boundary}
 use Rattle.sheet_format.specs.Layout.{top, start}
-use Rattle.sheet_format.specs.Check.{countField, cellOf, cellsOf, sectionsOf, refusal}
+use Rattle.sheet_format.specs.Check.{countField, offsetField, cellOf, cellsOf, sectionsOf, some, verticesDoNotRise, cellsDoNotRise, faceMissing, refusal}
 use Rattle.sheet_format.specs.Sheet.{Bytes}
+use Rattle.sheet_format.specs.Starred.{hollowTriangle}
 use Rattle.sheet_format.specs.Accept.{accepted-complex}
 use Rattle.reduction_steps.specs.Pivot.{release1}
 use Rattle.reduction_steps.specs.PivotLaws.{release1-is-rule}
-use Rattle.reports.specs.Call.{Called, reportSlots, reportCall, coordinateCall}
+use Rattle.limits.specs.Limits.{hostLimit}
+use Rattle.reports.specs.Call.{Called, orElse, refusalBefore, chainRefusal, coefficientExceeds, boundaryNotZero, reportSlots, coordinateSlots, workSlots, reportCall, coordinateCall}
+use Rattle.reports.specs.Host.{coefficientAt, coefficientIn, chainFrom, slotsIn, numberAt, hostReport, hostCoordinates}
 use Rattle.reports.specs.RefusalLaws.{refusalBefore-zero}
 use Rattle.answers.specs.Homology.{IsBoundary}
 use Rattle.answers.specs.Right.{slot, HasCounts}
 use Rattle.answers.specs.Wide.{GoesWide}
-use Rattle.answers.specs.Called.{answerNumber}
+use Rattle.answers.specs.Called.{answerNumber, NoCycle}
 use Rattle.answers.specs.WideLaws.{wide-iff}
 use Rattle.projective_plane.specs.Plane.{cells, sheet, loop, twice, backwards}
 use Rattle.projective_plane.specs.Examples.{nines, plane-calls, plane-too-wide}
-use Rattle.demands.specs.Claims.{CoordinatesOf, ReportOf}
+use Rattle.demands.specs.Claims.{TooWide, CoordinatesOf, ReportOf}
 use Rattle.demands.specs.Claims as claims
-use Rattle.demands.specs.Proofs.{reportNumbers, coordinateCounts, coordinatesDecide}
+use Rattle.demands.specs.Proofs.{reportNumbers, notACycle, coordinateCounts, coordinatesDecide, hostReportNumbers, hostCoordinateNumbers}
 
 -- ---- a sheet of bytes
 
@@ -114,3 +123,41 @@ plane-goes-wide =
   where
     complex : Complex top 256 cells
     complex = subst (λ (K : Sections). Complex top 256 K) same-cells (accepted-complex 256 sheet plane-bytes accepted)
+
+-- ---- the host calls and the program
+
+narrow : TooWide sheet 1 → ⊥
+narrow = reportNumbers 256 sheet 1 (nines 242) (nines 600) plane-bytes .is-done .0 (ap (λ (c : Called). answerNumber (c .answer)) (plane-calls .report-call)) .1
+
+report-admitted : refusalBefore hostLimit sheet 1 reportSlots (slotsIn (replicate 1936 9)) (workSlots (sectionsOf sheet) 1) ≡ 0
+unfolding refusalBefore refusal countField offsetField cellOf cellsOf sectionsOf some verticesDoNotRise cellsDoNotRise faceMissing without same rises precedes listed start countBelow tabulate
+report-admitted = refl
+
+pub plane-host-report : ReportOf sheet 1 (numberAt (hostReport sheet 1 (replicate 1936 9) .output))
+plane-host-report = claims.ReportOf.by-host (replicate 1936 9) (hostReportNumbers sheet 1 (replicate 1936 9) plane-bytes .is-done .1 (report-admitted, narrow))
+
+-- the chain of zeros, in 60 bytes for the 15 edges
+coordinates-admitted :
+    orElse (refusalBefore hostLimit sheet 1 coordinateSlots (slotsIn (replicate 120 9)) (workSlots (sectionsOf sheet) 1))
+    (chainRefusal sheet 1 (chainFrom (count (sectionsOf sheet) 1) (replicate 60 0)))
+    ≡ 0
+unfolding refusalBefore refusal countField offsetField cellOf cellsOf sectionsOf some verticesDoNotRise cellsDoNotRise faceMissing without same rises precedes listed start countBelow tabulate
+    chainRefusal chainFrom coefficientAt coefficientExceeds boundaryNotZero boundary coefficient sign apply sum
+coordinates-admitted = refl
+
+pub plane-host-coordinates : CoordinatesOf sheet 1 (coefficientIn (replicate 60 0)) (numberAt (hostCoordinates sheet 1 (replicate 60 0) (replicate 120 9) .output))
+plane-host-coordinates =
+    claims.CoordinatesOf.by-host (replicate 60 0) (replicate 120 9)
+    (hostCoordinateNumbers sheet 1 (replicate 60 0) (replicate 120 9) plane-bytes .is-done .1 (coordinates-admitted, narrow))
+
+pub plane-accepted : refusal hostLimit sheet ≡ 0
+plane-accepted = refusalBefore-zero hostLimit sheet 1 reportSlots (slotsIn (replicate 1936 9)) (workSlots (sectionsOf sheet) 1) .0 report-admitted .accepted
+
+-- ---- no cycle
+
+pub triangle-no-cycle : NoCycle (sectionsOf hollowTriangle) 1 (pos 1 ∷ pos 0 ∷ pos 0 ∷ [])
+unfolding countField cellOf cellsOf sectionsOf some without same start countBelow tabulate chainRefusal coefficientExceeds boundaryNotZero boundary coefficient sign apply sum
+triangle-no-cycle = notACycle hollowTriangle 1 (pos 1 ∷ pos 0 ∷ pos 0 ∷ []) .0 told
+  where
+    told : chainRefusal hollowTriangle 1 (pos 1 ∷ pos 0 ∷ pos 0 ∷ []) ≡ 12
+    told = refl
