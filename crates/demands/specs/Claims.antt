@@ -3,17 +3,17 @@
 -- say, and that the program prints `programText`; here is claimed what these are. `Proofs` proves each claim. A slice of bytes meets `Bytes`.
 use mathlib.Core.Path.{_≡_}
 use mathlib.Core.Logic.{_↔_, _≢_}
-use mathlib.Core.List.{List}
+use mathlib.Core.List.{List, _++_}
 use Prim.Native.Nat.{ℕ, _+_, _*_, _≤_, _<_}
 use lib.ListN.{length, take}
 use lib.IntN.{ℤ, _-ℤ_}
 use Rattle.complexes.specs.Complex.{count}
 use Rattle.sheet_format.specs.Layout.{longest}
-use Rattle.sheet_format.specs.Check.{refusal, sectionsOf}
+use Rattle.sheet_format.specs.Check.{first, refusal, sectionsOf}
 use Rattle.sheet_format.specs.Sheet.{Bytes, IsSheet}
 use Rattle.homology_groups.specs.Chain.{Chain, combination}
 use Rattle.reduction_steps.specs.Pivot.{release1}
-use Rattle.reports.specs.Call.{done, orElse, refusalBefore, chainRefusal, reportSlots, coordinateSlots, workSlots, reportCall, coordinateCall}
+use Rattle.reports.specs.Call.{done, callChecks, chainChecks, reportSlots, coordinateSlots, workSlots, reportCall, coordinateCall}
 use Rattle.limits.specs.Limits.{libraryLimit, hostLimit, entryLimit}
 use Rattle.reports.specs.Host.{chainFrom, coefficientIn, slotsIn, hostReport, hostCoordinates, numberAt}
 use Rattle.reports.specs.Text.{refusalLine, programText}
@@ -34,17 +34,17 @@ TooWide b p = GoesWide entryLimit release1 (sectionsOf b) p
 abbrev pub ReportNumbers : Type 0
 ReportNumbers =
     (limit : ℕ) (b : List ℕ) (p : ℕ) (report work : List ℤ) → Bytes b →
-    Answers (refusalBefore limit b p reportSlots (length report) (length work)) (TooWide b p) (answerNumber (reportCall limit b p report work .answer))
+    Answers (first (callChecks limit b p reportSlots (length report) (length work))) (TooWide b p) (answerNumber (reportCall limit b p report work .answer))
 
 abbrev pub CoordinateNumbers : Type 0
 CoordinateNumbers =
     (limit : ℕ) (b : List ℕ) (p : ℕ) (z coordinates work : List ℤ) → Bytes b →
-    Answers (orElse (refusalBefore limit b p coordinateSlots (length coordinates) (length work)) (chainRefusal b p z)) (TooWide b p)
+    Answers (first (callChecks limit b p coordinateSlots (length coordinates) (length work) ++ chainChecks b p z)) (TooWide b p)
     (answerNumber (coordinateCall limit b p z coordinates work .answer))
 
 -- refusal 12 of a chain is told exactly when 10 and 11 do not apply and the chain has a nonzero boundary
 abbrev pub NotACycle : Type 0
-NotACycle = (b : List ℕ) (p : ℕ) (z : List ℤ) → (chainRefusal b p z ≡ 12) ↔ NoCycle (sectionsOf b) p z
+NotACycle = (b : List ℕ) (p : ℕ) (z : List ℤ) → (first (chainChecks b p z) ≡ 12) ↔ NoCycle (sectionsOf b) p z
 
 -- "a refusal leaves report and coordinate slices untouched"; past what a call writes they are untouched too
 abbrev pub ReportLeaves : Type 0
@@ -117,14 +117,14 @@ CoordinatesCombine =
 abbrev pub HostReportNumbers : Type 0
 HostReportNumbers =
     (b : List ℕ) (p : ℕ) (report : List ℕ) → Bytes b →
-    Answers (refusalBefore hostLimit b p reportSlots (slotsIn report) (workSlots (sectionsOf b) p)) (TooWide b p) (hostReport b p report .number)
+    Answers (first (callChecks hostLimit b p reportSlots (slotsIn report) (workSlots (sectionsOf b) p))) (TooWide b p) (hostReport b p report .number)
 
 abbrev pub HostCoordinateNumbers : Type 0
 HostCoordinateNumbers =
     (b : List ℕ) (p : ℕ) (chain coordinates : List ℕ) → Bytes b →
     Answers
-    (orElse (refusalBefore hostLimit b p coordinateSlots (slotsIn coordinates) (workSlots (sectionsOf b) p))
-    (chainRefusal b p (chainFrom (count (sectionsOf b) p) chain)))
+    (first (callChecks hostLimit b p coordinateSlots (slotsIn coordinates) (workSlots (sectionsOf b) p)
+    ++ chainChecks b p (chainFrom (count (sectionsOf b) p) chain)))
     (TooWide b p) (hostCoordinates b p chain coordinates .number)
 
 -- a refusal leaves the output untouched
@@ -162,7 +162,7 @@ HostCoordinateCounts =
 
 -- a sheet refused by 1 to 7, and no other, gives the single line `R` and the number
 abbrev pub ProgramRefuses : Type 0
-ProgramRefuses = (b : List ℕ) (k : ℕ) → k ≢ 0 → k ≤ 7 → (programText b ≡ refusalLine k) ↔ (refusal hostLimit b ≡ k)
+ProgramRefuses = (b : List ℕ) (k : ℕ) → k ≢ 0 → (programText b ≡ refusalLine k) ↔ (refusal hostLimit b ≡ k)
 
 -- otherwise each dimension gives `R 13` exactly when the reduction goes too wide, or the text of a report that is right
 abbrev pub ProgramPrints : Type 0
