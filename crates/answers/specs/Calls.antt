@@ -11,7 +11,7 @@ use lib.ListN.{length, getD}
 use lib.IntN.{ℤ, pos}
 use Rattle.complexes.specs.Complex.{Sections, Complex}
 use Rattle.sheet_format.specs.Layout.{top}
-use Rattle.sheet_format.specs.Check.{sectionsOf}
+use Rattle.sheet_format.specs.Check.{sectionsOf, first}
 use Rattle.sheet_format.specs.Sheet.{Bytes}
 use Rattle.sheet_format.specs.Accept.{accepted-complex}
 use Rattle.reduction_steps.specs.State.{State, within}
@@ -20,11 +20,11 @@ use Rattle.reduction_steps.specs.PivotLaws.{release1-is-rule}
 use Rattle.reports.specs.Reductions.{Reductions, tooWide, reduced}
 use Rattle.reports.specs.Report.{freeRank, torsionCount}
 use Rattle.reports.specs.ReductionsLaws.{tooWide≢reduced}
-use Rattle.reports.specs.Call.{done, written, finished, refusalBefore, reductionsOf}
+use Rattle.reports.specs.Call.{done, written, finished, callChecks, reductionsOf}
 use Rattle.limits.specs.Limits.{entryLimit}
 use Rattle.reports.specs.CallLaws.{call, ReducedWith, call-done, call-output}
 use Rattle.reports.specs.WrittenLaws.{length-written, getD-written-past}
-use Rattle.reports.specs.RefusalLaws.{refusalBefore-zero}
+use Rattle.reports.specs.RefusalLaws.{callChecks-zero}
 use Rattle.answers.specs.Wide.{GoesWide}
 use Rattle.answers.specs.Called.{answerNumber, IsDone, Answers, KeptPast, WorkLeft}
 use Rattle.answers.specs.TwoReductions.{Right, reductions-right, reductions-within}
@@ -37,7 +37,7 @@ told zero tooWide = 13
 told zero (reduced s r x) = 0
 told (suc k) R = suc k
 
-pub told-answers : {W : Type 0} (before : ℕ) (R : Reductions) → before ≤ 12 → (before ≡ 0 → (R ≡ tooWide) ↔ W) → Answers before W (told before R)
+pub told-answers : {W : Type 0} (before : ℕ) (R : Reductions) → before ≢ 13 → (before ≡ 0 → (R ≡ tooWide) ↔ W) → Answers before W (told before R)
 told-answers zero tooWide h iff = record {
   earlier = λ k d e. (λ q. absurd (e (sym q)), λ q. absurd (d (sym q)));
   too-wide = (λ q. (refl, iff refl .0 refl), λ q. refl);
@@ -50,7 +50,7 @@ told-answers zero (reduced s r x) h iff = record {
 }
 told-answers (suc b) R h iff = record {
   earlier = λ k d e. (λ q. q, λ q. q);
-  too-wide = (λ q. absurd (omega arith), λ q. absurd (omega (arith, q .0)));
+  too-wide = (λ q. absurd (h q), λ q. absurd (omega (arith, q .0)));
   is-done = (λ q. absurd (omega arith), λ q. absurd (omega (arith, q .0)));
 }
 
@@ -88,11 +88,11 @@ module _ (numbers : ℕ → ℕ → State → List ℤ) (output work : List ℤ)
   output-left zero (reduced s r x) d = absurd (d refl)
   output-left (suc k) R d = refl
 
-  pub work-left : (before : ℕ) (R : Reductions) → before ≤ 12 → WorkLeft (told before R) work (call before R numbers output work .work)
+  pub work-left : (before : ℕ) (R : Reductions) → before ≢ 13 → WorkLeft (told before R) work (call before R numbers output work .work)
   unfolding finished
   work-left zero tooWide h = record { after-done = λ e. absurd (omega arith); after-wide = λ e. refl; otherwise = λ d e. absurd (e refl) }
   work-left zero (reduced s r x) h = record { after-done = λ e. refl; after-wide = λ e. absurd (omega arith); otherwise = λ d e. absurd (d refl) }
-  work-left (suc k) R h = record { after-done = λ e. absurd (omega arith); after-wide = λ e. absurd (omega arith); otherwise = λ d e. refl }
+  work-left (suc k) R h = record { after-done = λ e. absurd (omega arith); after-wide = λ e. absurd (h e); otherwise = λ d e. refl }
 
   pub output-kept : (before : ℕ) (R : Reductions) → before ≡ 0 → {f t : ℕ} (c : ReducedWith R f t) (many : ℕ)
       → length (numbers (c .rows) (c .rank) (c .state)) ≡ many → many ≤ length output → KeptPast (pos 0) many output (call before R numbers output work .output)
@@ -110,8 +110,8 @@ module _ (numbers : ℕ → ℕ → State → List ℤ) (output work : List ℤ)
 -- ---- an accepted sheet
 
 -- a call that passes the checks 1 to 9 has a complex
-pub passed-complex : (limit : ℕ) (b : List ℕ) (p : ℕ) (slots : Sections → ℕ → ℕ) (output work : ℕ) → Bytes b → refusalBefore limit b p slots output work ≡ 0 → Complex top limit (sectionsOf b)
-passed-complex limit b p slots output work bytes e = accepted-complex limit b bytes (refusalBefore-zero limit b p slots output work .0 e .accepted)
+pub passed-complex : (limit : ℕ) (b : List ℕ) (p : ℕ) (slots : Sections → ℕ → ℕ) (output work : ℕ) → Bytes b → first (callChecks limit b p slots output work) ≡ 0 → Complex top limit (sectionsOf b)
+passed-complex limit b p slots output work bytes e = accepted-complex limit b bytes (callChecks-zero limit b p slots output work .0 e .accepted)
 
 module _ {limit : ℕ} (b : List ℕ) (p : ℕ) (complex : Complex top limit (sectionsOf b)) where
   pub reductionsOf-wide : (reductionsOf b p ≡ tooWide) ↔ GoesWide entryLimit release1 (sectionsOf b) p

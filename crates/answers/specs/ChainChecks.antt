@@ -1,9 +1,9 @@
 -- The checks 10 to 12 of a chain. `chain-passes`: a chain that passes them has n_p coefficients and is a cycle. `not-a-cycle-iff`: 12 is told
 -- exactly when 10 and 11 pass and the chain is no cycle.
 use mathlib.Core.Path.{_≡_, refl, sym, _∙_, ap}
-use mathlib.Core.Logic.{_↔_, _≢_}
+use mathlib.Core.Logic.{_↔_}
 use mathlib.Core.Bool.{Bool, true, false, not}
-use mathlib.Core.List.{List}
+use mathlib.Core.List.{List, [], _∷_}
 use Prim.Native.Nat.{ℕ, _≤_, _<_, zero-le}
 use native.Mathlib.Omega.{arith}
 use native.Mathlib.Decide.{decLt}
@@ -14,10 +14,11 @@ use lib.IntN.{ℤ, pos, natAbs}
 use Rattle.integers.specs.Order.{natAbs-zero}
 use Rattle.matrices.specs.Vector.{apply}
 use Rattle.complexes.specs.Boundary.{countBelow, boundary}
-use Rattle.sheet_format.specs.Check.{sectionsOf, some, refuse}
+use Rattle.sheet_format.specs.Check.{sectionsOf, some, first}
+use Rattle.sheet_format.specs.FirstLaws.{first-zero, first-append-absent}
 use Rattle.sheet_format.specs.CheckLaws.{some-false}
 use Rattle.complexes.specs.Complex.{count}
-use Rattle.reports.specs.Call.{chainRefusal, chainLengthDiffers, coefficientExceeds, boundaryNotZero}
+use Rattle.reports.specs.Call.{chainChecks, chainLengthDiffers, coefficientExceeds, boundaryNotZero}
 use Rattle.limits.specs.Limits.{coefficientLimit}
 use Rattle.answers.specs.Homology.{IsCycle}
 use Rattle.answers.specs.Right.{slot}
@@ -78,34 +79,31 @@ size-iff b p z = (
   λ e. ap not (eq-eqb (length z) (count (sectionsOf b) p) e),
 )
 
--- a refusal of another number than the check's: the check passes
-refuse-other : (number : ℕ) (fault : Bool) (later k : ℕ) → number ≢ k → refuse number fault later ≡ k → (fault ≡ false) × (later ≡ k)
-refuse-other number true later k d e = absurd (d e)
-refuse-other number false later k d e = (refl, e)
-
-pub chain-passes : (b : List ℕ) (p : ℕ) (z : List ℤ) → chainRefusal b p z ≡ 0 → ChainPasses b p z
-unfolding chainRefusal
+pub chain-passes : (b : List ℕ) (p : ℕ) (z : List ℤ) → first (chainChecks b p z) ≡ 0 → ChainPasses b p z
+unfolding chainChecks
 chain-passes b p z e =
-    let k = refuse-other 10 (chainLengthDiffers (sectionsOf b) p z) _ 0 (λ h. omega arith) e in
-    let l = refuse-other 11 (coefficientExceeds z) _ 0 (λ h. omega arith) (k .1) in
-    let m = refuse-other 12 (boundaryNotZero (sectionsOf b) p z) 0 0 (λ h. omega arith) (l .1) in
-    record { size = size-iff b p z .0 (k .0); small = coefficients-iff z .0 (l .0); cycle = cycle-iff b p z .0 (m .0) }
+    let (size, (small, (cycle, _))) = first-zero (chainChecks b p z) refl .0 e in
+    record { size = size-iff b p z .0 size; small = coefficients-iff z .0 small; cycle = cycle-iff b p z .0 cycle }
 
-pub not-a-cycle-iff : (b : List ℕ) (p : ℕ) (z : List ℤ) → (chainRefusal b p z ≡ 12) ↔ NoCycle (sectionsOf b) p z
-unfolding chainRefusal
+pub not-a-cycle-iff : (b : List ℕ) (p : ℕ) (z : List ℤ) → (first (chainChecks b p z) ≡ 12) ↔ NoCycle (sectionsOf b) p z
+unfolding chainChecks
 not-a-cycle-iff b p z = (forward, backward)
   where
-    twelve : Bool → ℕ
-    twelve t = refuse 12 t 0
+    -- the checks before 12
+    earlier : List (ℕ × Bool)
+    earlier = (10, chainLengthDiffers (sectionsOf b) p z) ∷ (11, coefficientExceeds z) ∷ []
 
-    forward : chainRefusal b p z ≡ 12 → NoCycle (sectionsOf b) p z
+    last : Bool → List (ℕ × Bool)
+    last t = (12, t) ∷ []
+
+    forward : first (chainChecks b p z) ≡ 12 → NoCycle (sectionsOf b) p z
     forward e =
-        let k = refuse-other 10 (chainLengthDiffers (sectionsOf b) p z) _ 12 (λ h. omega arith) e in
-        let l = refuse-other 11 (coefficientExceeds z) _ 12 (λ h. omega arith) (k .1) in
+        let k = first-append-absent earlier (last (boundaryNotZero (sectionsOf b) p z)) refl 12 refl e in
+        let (size, (small, _)) = first-zero earlier refl .0 (k .0) in
         record {
-          size = size-iff b p z .0 (k .0);
-          small = coefficients-iff z .0 (l .0);
-          no-cycle = λ c. zero≢twelve (sym (ap twelve (cycle-iff b p z .1 c)) ∙ l .1);
+          size = size-iff b p z .0 size;
+          small = coefficients-iff z .0 small;
+          no-cycle = λ c. zero≢twelve (sym (ap (λ (t : Bool). first (last t)) (cycle-iff b p z .1 c)) ∙ k .1);
         }
       where
         zero≢twelve : _≡_ {A = ℕ} 0 12 → ⊥
@@ -115,7 +113,7 @@ not-a-cycle-iff b p z = (forward, backward)
     told h true e = refl
     told h false e = absurd (h .no-cycle (cycle-iff b p z .0 e))
 
-    backward : NoCycle (sectionsOf b) p z → chainRefusal b p z ≡ 12
+    backward : NoCycle (sectionsOf b) p z → first (chainChecks b p z) ≡ 12
     backward h =
         rw (
           size-iff b p z .1 (h .size),

@@ -2,7 +2,7 @@
 -- coordinates-work, coordinates-kept), and the numbers that stand in its output (coordinates-read).
 use mathlib.Core.Path.{_≡_, _∙_, ap}
 use mathlib.Core.Logic.{_↔_, _≢_}
-use mathlib.Core.List.{List}
+use mathlib.Core.List.{List, _++_}
 use Prim.Native.Nat.{ℕ, _+_, _≤_}
 use native.Mathlib.Nat.{le-trans}
 use native.Mathlib.Omega.{arith}
@@ -10,15 +10,15 @@ use lib.ListN.{length, getD}
 use lib.IntN.{ℤ, pos}
 use Rattle.complexes.specs.Complex.{count, Complex}
 use Rattle.sheet_format.specs.Layout.{top}
-use Rattle.sheet_format.specs.Check.{sectionsOf}
+use Rattle.sheet_format.specs.Check.{sectionsOf, first}
 use Rattle.sheet_format.specs.Sheet.{Bytes}
 use Rattle.reduction_steps.specs.State.{State}
 use Rattle.reduction_steps.specs.Pivot.{release1}
 use Rattle.reports.specs.Report.{coordinateList}
 use Rattle.reports.specs.ReportLaws.{coordinates-fit}
-use Rattle.reports.specs.Call.{Called, done, written, orElse, refusalBefore, chainRefusal, coordinateSlots, reductionsOf, coordinateCall}
+use Rattle.reports.specs.Call.{Called, done, written, callChecks, chainChecks, coordinateSlots, reductionsOf, coordinateCall}
 use Rattle.limits.specs.Limits.{entryLimit}
-use Rattle.reports.specs.RefusalLaws.{orElse-zero, orElse-le, refusalBefore-le, chainRefusal-le, refusalBefore-zero}
+use Rattle.reports.specs.RefusalLaws.{callChecks-zero, call-chain-zero, call-chain-narrow}
 use Rattle.reports.specs.WrittenLaws.{getD-written}
 use Rattle.reports.specs.CallLaws.{ReducedWith, call-output}
 use Rattle.answers.specs.Homology.{IsCycle}
@@ -31,12 +31,12 @@ use Rattle.answers.specs.CoordinatesRight.{ReadsCoordinates}
 use Rattle.answers.specs.Calls.{told, told-answers, call-number, call-counted, output-left, output-kept, work-left, passed-complex, reductionsOf-wide, Answered, answered}
 
 module _ (limit : ℕ) (b : List ℕ) (p : ℕ) (z coordinates work : List ℤ) where
-  -- the refusals 1 to 9 of the coordinate call, then 10 to 12
+  -- the refusals 1 to 9 of the coordinate call; and those with 10 to 12 after them
   abbrev pub sheetBefore : ℕ
-  sheetBefore = refusalBefore limit b p coordinateSlots (length coordinates) (length work)
+  sheetBefore = first (callChecks limit b p coordinateSlots (length coordinates) (length work))
 
   abbrev pub coordinatesBefore : ℕ
-  coordinatesBefore = orElse sheetBefore (chainRefusal b p z)
+  coordinatesBefore = first (callChecks limit b p coordinateSlots (length coordinates) (length work) ++ chainChecks b p z)
 
   abbrev pub coordinatesNumbers : ℕ → ℕ → State → List ℤ
   coordinatesNumbers s r x = coordinateList (count (sectionsOf b) p) s x z
@@ -44,13 +44,11 @@ module _ (limit : ℕ) (b : List ℕ) (p : ℕ) (z coordinates work : List ℤ) 
   abbrev pub coordinatesCalled : Called
   coordinatesCalled = coordinateCall limit b p z coordinates work
 
-  coordinatesBefore-le : coordinatesBefore ≤ 12
-  coordinatesBefore-le =
-      orElse-le sheetBefore (chainRefusal b p z)
-      (le-trans (refusalBefore-le limit b p coordinateSlots (length coordinates) (length work)) (omega arith)) (chainRefusal-le b p z)
+  coordinates-narrow : coordinatesBefore ≢ 13
+  coordinates-narrow = call-chain-narrow limit b p coordinateSlots (length coordinates) (length work) z
 
-  pub coordinates-passed : (coordinatesBefore ≡ 0) ↔ ((sheetBefore ≡ 0) × (chainRefusal b p z ≡ 0))
-  coordinates-passed = orElse-zero sheetBefore (chainRefusal b p z)
+  pub coordinates-passed : (coordinatesBefore ≡ 0) ↔ ((sheetBefore ≡ 0) × (first (chainChecks b p z) ≡ 0))
+  coordinates-passed = call-chain-zero limit b p coordinateSlots (length coordinates) (length work) z
 
   coordinates-complex : Bytes b → coordinatesBefore ≡ 0 → Complex top limit (sectionsOf b)
   coordinates-complex bytes e = passed-complex limit b p coordinateSlots (length coordinates) (length work) bytes (coordinates-passed .0 e .0)
@@ -64,7 +62,7 @@ module _ (limit : ℕ) (b : List ℕ) (p : ℕ) (z coordinates work : List ℤ) 
 
   pub coordinates-answer : Bytes b → Answers coordinatesBefore (GoesWide entryLimit release1 (sectionsOf b) p) (answerNumber (coordinatesCalled .answer))
   coordinates-answer bytes =
-      rw coordinates-number (told-answers coordinatesBefore (reductionsOf b p) coordinatesBefore-le (λ e. reductionsOf-wide b p (coordinates-complex bytes e)))
+      rw coordinates-number (told-answers coordinatesBefore (reductionsOf b p) coordinates-narrow (λ e. reductionsOf-wide b p (coordinates-complex bytes e)))
 
   pub coordinates-counted : answerNumber (coordinatesCalled .answer) ≡ 0 → IsDone (coordinatesCalled .answer)
   unfolding coordinateCall
@@ -76,7 +74,7 @@ module _ (limit : ℕ) (b : List ℕ) (p : ℕ) (z coordinates work : List ℤ) 
 
   pub coordinates-work : WorkLeft (answerNumber (coordinatesCalled .answer)) work (coordinatesCalled .work)
   unfolding coordinateCall
-  coordinates-work = rw coordinates-number (work-left coordinatesNumbers coordinates work coordinatesBefore (reductionsOf b p) coordinatesBefore-le)
+  coordinates-work = rw coordinates-number (work-left coordinatesNumbers coordinates work coordinatesBefore (reductionsOf b p) coordinates-narrow)
 
   module _ (bytes : Bytes b) {f t : ℕ} (e : coordinatesCalled .answer ≡ done f t) where
     pub coordinates-answered : Answered b p coordinatesBefore f t
@@ -109,4 +107,4 @@ module _ (limit : ℕ) (b : List ℕ) (p : ℕ) (z coordinates work : List ℤ) 
         fits = rw size at (coordinates-fit (count (sectionsOf b) p) (c .rows) (c .state) z (coordinates-answered .right .rows-bound))
 
         slots : coordinateSlots (sectionsOf b) p ≤ length coordinates
-        slots = refusalBefore-zero limit b p coordinateSlots (length coordinates) (length work) .0 (coordinates-passed .0 (coordinates-answered .passes) .0) .output-slots
+        slots = callChecks-zero limit b p coordinateSlots (length coordinates) (length work) .0 (coordinates-passed .0 (coordinates-answered .passes) .0) .output-slots

@@ -3,9 +3,8 @@
 use mathlib.Core.Path.{_≡_, sym, _∙_}
 use mathlib.Core.Logic.{_↔_, _≢_}
 use mathlib.Core.Bool.{Bool, true, false, cond}
-use mathlib.Core.List.{List}
+use mathlib.Core.List.{List, _++_}
 use Prim.Native.Nat.{ℕ, zero, suc, _+_, _*_, _≤_, _<_}
-use native.Mathlib.Nat.{le-trans}
 use native.Mathlib.Omega.{arith}
 use lib.Dec.{eqb}
 use lib.ListN.{length}
@@ -14,16 +13,16 @@ use Rattle.lists.specs.Tabulate.{tabulate}
 use Rattle.lists.specs.TabulateLaws.{getD-tabulate}
 use Rattle.complexes.specs.Complex.{count, Complex}
 use Rattle.sheet_format.specs.Layout.{top}
-use Rattle.sheet_format.specs.Check.{sectionsOf}
+use Rattle.sheet_format.specs.Check.{sectionsOf, first}
 use Rattle.sheet_format.specs.Sheet.{Bytes}
 use Rattle.reduction_steps.specs.State.{State, within}
 use Rattle.reduction_steps.specs.Pivot.{release1}
 use Rattle.reports.specs.Reductions.{reduced}
 use Rattle.reports.specs.Report.{freeRank, torsionCount, coordinateList}
 use Rattle.reports.specs.ReportLaws.{coordinates-fit}
-use Rattle.reports.specs.Call.{orElse, refusalBefore, chainRefusal, coordinateSlots, workSlots, reductionsOf}
+use Rattle.reports.specs.Call.{callChecks, chainChecks, coordinateSlots, workSlots, reductionsOf}
 use Rattle.limits.specs.Limits.{libraryLimit, hostLimit, entryLimit}
-use Rattle.reports.specs.RefusalLaws.{orElse-zero, orElse-le, refusalBefore-le, chainRefusal-le, refusalBefore-zero}
+use Rattle.reports.specs.RefusalLaws.{callChecks-zero, call-chain-zero, call-chain-narrow}
 use Rattle.reports.specs.Host.{coefficientIn, otherLength, chainFrom, slotsIn, hostCoordinates, numberAt}
 use Rattle.answers.specs.Right.{slot}
 use Rattle.answers.specs.Wide.{GoesWide}
@@ -57,18 +56,19 @@ module _ (b : List ℕ) (bytes : Bytes b) (p : ℕ) (chain output : List ℕ) wh
   abbrev pub given : List ℤ
   given = chainFrom (count (sectionsOf b) p) chain
 
-  -- the refusals 1 to 9 of fildwuk_coordinates, which has work slots enough, then 10 to 12
+  -- the refusals 1 to 9 of fildwuk_coordinates, which has work slots enough; and those with 10 to 12 after them
   abbrev pub hostSheetBefore : ℕ
-  hostSheetBefore = refusalBefore hostLimit b p coordinateSlots (slotsIn output) (workSlots (sectionsOf b) p)
+  hostSheetBefore = first (callChecks hostLimit b p coordinateSlots (slotsIn output) (workSlots (sectionsOf b) p))
 
   abbrev pub hostCoordinatesBefore : ℕ
-  hostCoordinatesBefore = orElse hostSheetBefore (chainRefusal b p given)
+  hostCoordinatesBefore =
+      first (callChecks hostLimit b p coordinateSlots (slotsIn output) (workSlots (sectionsOf b) p) ++ chainChecks b p given)
 
   abbrev numbers : ℕ → ℕ → State → List ℤ
   numbers s r x = coordinateList (count (sectionsOf b) p) s x given
 
-  passed : (hostCoordinatesBefore ≡ 0) ↔ ((hostSheetBefore ≡ 0) × (chainRefusal b p given ≡ 0))
-  passed = orElse-zero hostSheetBefore (chainRefusal b p given)
+  passed : (hostCoordinatesBefore ≡ 0) ↔ ((hostSheetBefore ≡ 0) × (first (chainChecks b p given) ≡ 0))
+  passed = call-chain-zero hostLimit b p coordinateSlots (slotsIn output) (workSlots (sectionsOf b) p) given
 
   complex : hostCoordinatesBefore ≡ 0 → Complex top hostLimit (sectionsOf b)
   complex e = passed-complex hostLimit b p coordinateSlots (slotsIn output) (workSlots (sectionsOf b) p) bytes (passed .0 e .0)
@@ -81,8 +81,7 @@ module _ (b : List ℕ) (bytes : Bytes b) (p : ℕ) (chain output : List ℕ) wh
   host-coordinates-answer =
       rw number
       (told-answers hostCoordinatesBefore (reductionsOf b p)
-      (orElse-le hostSheetBefore (chainRefusal b p given)
-      (le-trans (refusalBefore-le hostLimit b p coordinateSlots (slotsIn output) (workSlots (sectionsOf b) p)) (omega arith)) (chainRefusal-le b p given))
+      (call-chain-narrow hostLimit b p coordinateSlots (slotsIn output) (workSlots (sectionsOf b) p) given)
       (λ e. reductionsOf-wide b p (complex e)))
 
   pub host-coordinates-left : hostCoordinates b p chain output .number ≢ 0 → hostCoordinates b p chain output .output ≡ output
@@ -137,5 +136,5 @@ module _ (b : List ℕ) (bytes : Bytes b) (p : ℕ) (chain output : List ℕ) wh
           omega (
             arith,
             coordinates-fit (count (sectionsOf b) p) (d .rows) (d .state) given (right .rows-bound),
-            refusalBefore-zero hostLimit b p coordinateSlots (slotsIn output) (workSlots (sectionsOf b) p) .0 (passed .0 (d .passes) .0) .output-slots,
+            callChecks-zero hostLimit b p coordinateSlots (slotsIn output) (workSlots (sectionsOf b) p) .0 (passed .0 (d .passes) .0) .output-slots,
           )

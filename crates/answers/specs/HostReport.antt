@@ -5,22 +5,21 @@ use mathlib.Core.Logic.{_≢_}
 use mathlib.Core.Bool.{true}
 use mathlib.Core.List.{List}
 use Prim.Native.Nat.{ℕ, _*_, _≤_}
-use native.Mathlib.Nat.{le-trans}
 use native.Mathlib.Omega.{arith}
 use lib.ListN.{length}
 use lib.IntN.{ℤ}
 use Rattle.complexes.specs.Complex.{count, Complex}
 use Rattle.sheet_format.specs.Layout.{top}
-use Rattle.sheet_format.specs.Check.{sectionsOf}
+use Rattle.sheet_format.specs.Check.{sectionsOf, first}
 use Rattle.sheet_format.specs.Sheet.{Bytes}
 use Rattle.reduction_steps.specs.State.{State, within}
 use Rattle.reduction_steps.specs.Pivot.{release1}
 use Rattle.reports.specs.Reductions.{reduced}
 use Rattle.reports.specs.Report.{freeRank, torsionCount, reportList}
 use Rattle.reports.specs.ReportLaws.{report-fits}
-use Rattle.reports.specs.Call.{refusalBefore, reportSlots, workSlots, reductionsOf}
+use Rattle.reports.specs.Call.{callChecks, reportSlots, workSlots, reductionsOf}
 use Rattle.limits.specs.Limits.{libraryLimit, hostLimit, entryLimit}
-use Rattle.reports.specs.RefusalLaws.{refusalBefore-le, refusalBefore-zero}
+use Rattle.reports.specs.RefusalLaws.{callChecks-narrow, callChecks-zero}
 use Rattle.reports.specs.Host.{slotsIn, hostReport, numberAt}
 use Rattle.answers.specs.Right.{reportLength}
 use Rattle.answers.specs.Wide.{GoesWide}
@@ -35,7 +34,7 @@ use Rattle.answers.specs.HostCalls.{host-number, host-left, host-reads, 
 module _ (b : List ℕ) (bytes : Bytes b) (p : ℕ) (output : List ℕ) where
   -- the refusals 1 to 9 of fildwuk_report, which has work slots enough
   abbrev pub hostReportBefore : ℕ
-  hostReportBefore = refusalBefore hostLimit b p reportSlots (slotsIn output) (workSlots (sectionsOf b) p)
+  hostReportBefore = first (callChecks hostLimit b p reportSlots (slotsIn output) (workSlots (sectionsOf b) p))
 
   abbrev numbers : ℕ → ℕ → State → List ℤ
   numbers s r x = reportList (count (sectionsOf b) p) s r x
@@ -51,7 +50,7 @@ module _ (b : List ℕ) (bytes : Bytes b) (p : ℕ) (output : List ℕ) where
   host-report-answers =
       rw number
       (told-answers hostReportBefore (reductionsOf b p)
-      (le-trans (refusalBefore-le hostLimit b p reportSlots (slotsIn output) (workSlots (sectionsOf b) p)) (omega arith))
+      (callChecks-narrow hostLimit b p reportSlots (slotsIn output) (workSlots (sectionsOf b) p))
       (λ e. reductionsOf-wide b p (complex e)))
 
   pub host-report-left : hostReport b p output .number ≢ 0 → hostReport b p output .output ≡ output
@@ -99,5 +98,5 @@ module _ (b : List ℕ) (bytes : Bytes b) (p : ℕ) (output : List ℕ) where
           omega (
             arith,
             report-fits (count (sectionsOf b) p) (d .rows) (d .rank) (d .state) (right .rank-bound) (right .rows-bound),
-            refusalBefore-zero hostLimit b p reportSlots (slotsIn output) (workSlots (sectionsOf b) p) .0 (d .passes) .output-slots,
+            callChecks-zero hostLimit b p reportSlots (slotsIn output) (workSlots (sectionsOf b) p) .0 (d .passes) .output-slots,
           )

@@ -10,14 +10,14 @@ use lib.IntN.{ℤ}
 use Rattle.complexes.specs.Complex.{count}
 use Rattle.complexes.specs.Boundary.{countBelow}
 use Rattle.sheet_format.specs.Layout.{top}
-use Rattle.sheet_format.specs.Check.{sectionsOf, refusal}
+use Rattle.sheet_format.specs.Check.{sectionsOf, first, refusal}
 use Rattle.sheet_format.specs.Sheet.{Bytes}
 use Rattle.reports.specs.Report.{kind, torsionCount, reportList, coordinateList}
 use Rattle.reports.specs.ReportLaws.{length-reported-le}
 use Rattle.reports.specs.Reductions.{tooWide}
-use Rattle.reports.specs.Call.{done, refused, reportSlots, coordinateSlots, workSlots, refusalBefore, reductionsOf, reportCall, coordinateCall}
+use Rattle.reports.specs.Call.{done, refused, reportSlots, coordinateSlots, workSlots, callChecks, reductionsOf, reportCall, coordinateCall}
 use Rattle.limits.specs.Limits.{hostLimit}
-use Rattle.reports.specs.RefusalLaws.{Passed, refusalBefore-zero}
+use Rattle.reports.specs.RefusalLaws.{Passed, callChecks-zero}
 use Rattle.reports.specs.CallLaws.{ReducedWith, CallRefused, earlier, wide, call-refused}
 use Rattle.reports.specs.HostCallLaws.{reportRoom, workRoom, counts-within}
 use Rattle.answers.specs.Numbers.{report-length, coordinates-length}
@@ -70,7 +70,7 @@ module _ (b : List ℕ) (bytes : Bytes b) (p : ℕ) where
       d = report-answered hostLimit b p report work bytes e
 
       h : Passed hostLimit b p reportSlots (length report) (length work)
-      h = refusalBefore-zero hostLimit b p reportSlots (length report) (length work) .0 (d .passes)
+      h = callChecks-zero hostLimit b p reportSlots (length report) (length work) .0 (d .passes)
 
       s : Sized b p f t
       s = sized b p (reportBefore hostLimit b p report work) f t (h .accepted) d
@@ -82,7 +82,7 @@ module _ (b : List ℕ) (bytes : Bytes b) (p : ℕ) where
       d = coordinates-answered hostLimit b p z coordinates work bytes e
 
       h : Passed hostLimit b p coordinateSlots (length coordinates) (length work)
-      h = refusalBefore-zero hostLimit b p coordinateSlots (length coordinates) (length work) .0 (coordinates-passed hostLimit b p z coordinates work .0 (d .passes) .0)
+      h = callChecks-zero hostLimit b p coordinateSlots (length coordinates) (length work) .0 (coordinates-passed hostLimit b p z coordinates work .0 (d .passes) .0)
 
       s : Sized b p f t
       s = sized b p (coordinatesBefore hostLimit b p z coordinates work) f t (h .accepted) d
@@ -107,9 +107,9 @@ module _ (b : List ℕ) (accepted : refusal hostLimit b ≡ 0) where
       beside = omega (arith, counts-within b accepted p, max-le (rows-within p) (counts-within b accepted (suc p)))
 
   module _ (p : ℕ) (dimension : p ≤ top) (report work : List ℤ) (size : length report ≡ reportRoom) (space : length work ≡ workRoom) where
-    pub accepted-passes : refusalBefore hostLimit b p reportSlots (length report) (length work) ≡ 0
+    pub accepted-passes : first (callChecks hostLimit b p reportSlots (length report) (length work)) ≡ 0
     accepted-passes =
-        refusalBefore-zero hostLimit b p reportSlots (length report) (length work) .1 (record {
+        callChecks-zero hostLimit b p reportSlots (length report) (length work) .1 (record {
           accepted = accepted;
           dimension = dimension;
           output-slots = omega (arith, size, counts-within b accepted p, mul-le-mul (counts-within b accepted p) (counts-within b accepted p));

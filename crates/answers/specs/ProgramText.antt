@@ -6,24 +6,24 @@ use mathlib.Core.List.{List, [], _∷_, _++_, map, append-assoc, append-nil}
 use Prim.Native.Nat.{ℕ, zero, suc, _+_, _≤_, _<_}
 use native.Mathlib.Nat.{add-zero, zero-add}
 use native.Mathlib.Omega.{arith}
-use borrow.Author.Tests.{lt-ltb}
 use lib.ListN.{length, getD, drop, replicate, length-append, length-replicate}
 use lib.IntN.{ℤ, pos}
 use Rattle.complexes.specs.Complex.{Sections, count, Complex}
 use Rattle.sheet_format.specs.Layout.{top}
-use Rattle.sheet_format.specs.Check.{sectionsOf, refusal}
+use Rattle.sheet_format.specs.Check.{first, sectionsOf, refusal}
 use Rattle.sheet_format.specs.Sheet.{Bytes}
 use Rattle.sheet_format.specs.Accept.{accepted-complex}
 use Rattle.reduction_steps.specs.State.{State}
 use Rattle.reports.specs.Reductions.{Reductions, tooWide, reduced}
 use Rattle.reports.specs.Report.{kind, reported, freeRank, torsionCount, reportList, coordinateList}
 use Rattle.reports.specs.ReportLaws.{length-coordinateList}
-use Rattle.reports.specs.RefusalLaws.{refusal-le, refusalBefore-zero}
+use Rattle.reports.specs.RefusalLaws.{callChecks-zero}
 use Rattle.reports.specs.CallLaws.{call-answer, call-output}
-use Rattle.reports.specs.Call.{done, written, reportSlots, workSlots, refusalBefore, reductionsOf, reportCall}
+use Rattle.reports.specs.Call.{done, written, reportSlots, workSlots, callChecks, reductionsOf, reportCall}
 use Rattle.limits.specs.Limits.{hostLimit}
-use Rattle.reports.specs.Text.{digits, decimal, spaced, line, refusalLine, generatorLines, reportText, dimensionText, dimensionsText, textFor, programText}
+use Rattle.reports.specs.Text.{line, refusalLine, generatorLines, reportText, dimensionText, dimensionsText, textFor, programText}
 use Rattle.reports.specs.TextLaws.{reportText-reportList}
+use Rattle.reports.specs.LineLaws.{refusalLine-injective, feeds, feeds-append, feeds-line}
 use Rattle.answers.specs.Printed.{DimensionPrinted, too-wide, reports, inTurn, DimensionsPrinted}
 use Rattle.answers.specs.TwoReductions.{Right}
 use Rattle.answers.specs.Numbers.{coordinates-length}
@@ -65,9 +65,9 @@ module _ (b : List ℕ) (bytes : Bytes b) (accepted : refusal hostLimit b ≡ 0)
     abbrev work : List ℤ
     work = replicate (workSlots (sectionsOf b) p) (pos 0)
 
-    passes : p ≤ top → refusalBefore hostLimit b p reportSlots (length report) (length work) ≡ 0
+    passes : p ≤ top → first (callChecks hostLimit b p reportSlots (length report) (length work)) ≡ 0
     passes h =
-        refusalBefore-zero hostLimit b p reportSlots (length report) (length work) .1 (record {
+        callChecks-zero hostLimit b p reportSlots (length report) (length work) .1 (record {
           accepted = accepted;
           dimension = h;
           output-slots = omega (arith, length-replicate (reportSlots (sectionsOf b) p) (pos 0));
@@ -80,11 +80,11 @@ module _ (b : List ℕ) (bytes : Bytes b) (accepted : refusal hostLimit b ≡ 0)
 
       report-done : reportCall hostLimit b p report work .answer ≡ done (freeRank s r) (torsionCount r x)
       unfolding reportCall
-      report-done = call-answer (refusalBefore hostLimit b p reportSlots (length report) (length work)) (reductionsOf b p) numbers report work (passes h) s r x e
+      report-done = call-answer (first (callChecks hostLimit b p reportSlots (length report) (length work))) (reductionsOf b p) numbers report work (passes h) s r x e
 
       report-left : reportCall hostLimit b p report work .output ≡ written (reportList n s r x) report
       unfolding reportCall
-      report-left = call-output (refusalBefore hostLimit b p reportSlots (length report) (length work)) (reductionsOf b p) numbers report work (passes h) s r x e
+      report-left = call-output (first (callChecks hostLimit b p reportSlots (length report) (length work))) (reductionsOf b p) numbers report work (passes h) s r x e
 
       -- the numbers of the report give the text
       report-text : dimensionText p n (reduced s r x)
@@ -114,45 +114,45 @@ module _ (b : List ℕ) (bytes : Bytes b) (accepted : refusal hostLimit b ≡ 0)
 
 -- ---- a refused sheet
 
--- a number of one digit
-line-small : (k : ℕ) → k < 10 → refusalLine k ≡ 82 ∷ 32 ∷ (48 + k) ∷ 10 ∷ []
-unfolding spaced decimal digits
-line-small k h = rw (lt-ltb k 10 h)
-
-line-injective : (j k : ℕ) → j < 10 → k < 10 → refusalLine j ≡ refusalLine k → j ≡ k
-line-injective j k a b e = omega (arith, ap (λ (l : List ℕ). getD l 2 0) (sym (line-small j a) ∙ e ∙ line-small k b))
-
--- a dimension's text has a letter and a line feed
-text-long : (p n : ℕ) (R : Reductions) → 2 ≤ length (dimensionText p n R)
+-- a dimension's text has a line
+text-feeds : (p n : ℕ) (R : Reductions) → 1 ≤ feeds (dimensionText p n R)
 unfolding dimensionText
-text-long p n tooWide = omega (arith, length-append (spaced (pos 13 ∷ [])) (10 ∷ []))
-text-long p n (reduced s r x) =
-    omega (arith, length-append (line 72 heading) (generatorLines n x (reported (kind x) s)), length-append (spaced heading) (10 ∷ []))
+text-feeds p n tooWide = omega (arith, feeds-line 82 (pos 13 ∷ []) (λ e. absurd (omega arith)))
+text-feeds p n (reduced s r x) =
+    omega (
+      arith,
+      feeds-append (line 72 heading) (generatorLines n x (reported (kind x) s)),
+      feeds-line 72 heading (λ e. absurd (omega arith)),
+    )
   where
     heading : List ℤ
     heading = pos p ∷ pos (freeRank s r) ∷ pos (torsionCount r x) ∷ map (kind x) (reported (kind x) r)
 
-turns-long : (b : List ℕ) (n : ℕ) → n + n ≤ length (inTurn n (textOf b))
+turns-feeds : (b : List ℕ) (n : ℕ) → n ≤ feeds (inTurn n (textOf b))
 unfolding inTurn
-turns-long b zero = omega arith
-turns-long b (suc n) =
-    omega (arith, turns-long b n, text-long n (count (sectionsOf b) n) (reductionsOf b n), length-append (inTurn n (textOf b)) (textOf b n))
+turns-feeds b zero = omega arith
+turns-feeds b (suc n) =
+    omega (arith, turns-feeds b n, text-feeds n (count (sectionsOf b) n) (reductionsOf b n), feeds-append (inTurn n (textOf b)) (textOf b n))
 
 module _ (b : List ℕ) where
-  accepted-other : refusal hostLimit b ≡ 0 → (k : ℕ) → k < 10 → programText b ≢ refusalLine k
+  accepted-other : refusal hostLimit b ≡ 0 → (k : ℕ) → programText b ≢ refusalLine k
   unfolding programText textFor
-  accepted-other e k h q =
-      absurd (omega (arith, turns-long b (suc top), ap length (turns-all b ∙ sym (ap (λ (i : ℕ). textFor i b) e) ∙ q ∙ line-small k h)))
+  accepted-other e k q =
+      absurd (omega (
+        arith,
+        turns-feeds b (suc top),
+        ap feeds (turns-all b ∙ sym (ap (λ (i : ℕ). textFor i b) e) ∙ q),
+        feeds-line 82 (pos k ∷ []) (λ e. absurd (omega arith)),
+      ))
 
   refused-text : (k : ℕ) → k ≢ 0 → refusal hostLimit b ≡ k → programText b ≡ refusalLine k
   unfolding programText textFor
   refused-text zero d e = absurd (d refl)
   refused-text (suc k) d e = rw e
 
-  pub refused-iff : (k : ℕ) → k ≢ 0 → k ≤ 7 → (programText b ≡ refusalLine k) ↔ (refusal hostLimit b ≡ k)
-  refused-iff k d h = (λ q. from (refusal hostLimit b) refl q, refused-text k d)
+  pub refused-iff : (k : ℕ) → k ≢ 0 → (programText b ≡ refusalLine k) ↔ (refusal hostLimit b ≡ k)
+  refused-iff k d = (λ q. from (refusal hostLimit b) refl q, refused-text k d)
     where
       from : (j : ℕ) → refusal hostLimit b ≡ j → programText b ≡ refusalLine k → refusal hostLimit b ≡ k
-      from zero e q = absurd (accepted-other e k (omega arith) q)
-      from (suc j) e q =
-          e ∙ line-injective (suc j) k (omega (arith, e, refusal-le hostLimit b)) (omega arith) (sym (refused-text (suc j) (λ z. absurd (omega arith)) e) ∙ q)
+      from zero e q = absurd (accepted-other e k q)
+      from (suc j) e q = e ∙ refusalLine-injective (suc j) k (sym (refused-text (suc j) (λ z. absurd (omega arith)) e) ∙ q)

@@ -10,15 +10,15 @@ use lib.ListN.{length, getD}
 use lib.IntN.{ℤ, pos}
 use Rattle.complexes.specs.Complex.{count, Complex}
 use Rattle.sheet_format.specs.Layout.{top}
-use Rattle.sheet_format.specs.Check.{sectionsOf}
+use Rattle.sheet_format.specs.Check.{sectionsOf, first}
 use Rattle.sheet_format.specs.Sheet.{Bytes}
 use Rattle.reduction_steps.specs.State.{State}
 use Rattle.reduction_steps.specs.Pivot.{release1}
 use Rattle.reports.specs.Report.{reportList}
 use Rattle.reports.specs.ReportLaws.{report-fits}
-use Rattle.reports.specs.Call.{Called, done, written, refusalBefore, reportSlots, reductionsOf, reportCall}
+use Rattle.reports.specs.Call.{Called, done, written, callChecks, reportSlots, reductionsOf, reportCall}
 use Rattle.limits.specs.Limits.{entryLimit}
-use Rattle.reports.specs.RefusalLaws.{refusalBefore-le, refusalBefore-zero}
+use Rattle.reports.specs.RefusalLaws.{callChecks-narrow, callChecks-zero}
 use Rattle.reports.specs.WrittenLaws.{getD-written}
 use Rattle.reports.specs.CallLaws.{ReducedWith, call-output}
 use Rattle.answers.specs.Right.{slot, reportLength}
@@ -31,7 +31,7 @@ use Rattle.answers.specs.Calls.{told, told-answers, call-number, call-co
 module _ (limit : ℕ) (b : List ℕ) (p : ℕ) (report work : List ℤ) where
   -- the refusals 1 to 9 of the report call
   abbrev pub reportBefore : ℕ
-  reportBefore = refusalBefore limit b p reportSlots (length report) (length work)
+  reportBefore = first (callChecks limit b p reportSlots (length report) (length work))
 
   abbrev pub reportNumbers : ℕ → ℕ → State → List ℤ
   reportNumbers s r x = reportList (count (sectionsOf b) p) s r x
@@ -39,8 +39,8 @@ module _ (limit : ℕ) (b : List ℕ) (p : ℕ) (report work : List ℤ) where
   abbrev pub reportCalled : Called
   reportCalled = reportCall limit b p report work
 
-  reportBefore-le : reportBefore ≤ 12
-  reportBefore-le = le-trans (refusalBefore-le limit b p reportSlots (length report) (length work)) (omega arith)
+  report-narrow : reportBefore ≢ 13
+  report-narrow = callChecks-narrow limit b p reportSlots (length report) (length work)
 
   report-complex : Bytes b → reportBefore ≡ 0 → Complex top limit (sectionsOf b)
   report-complex bytes = passed-complex limit b p reportSlots (length report) (length work) bytes
@@ -50,7 +50,7 @@ module _ (limit : ℕ) (b : List ℕ) (p : ℕ) (report work : List ℤ) where
   report-number = call-number reportNumbers report work reportBefore (reductionsOf b p)
 
   pub report-answers : Bytes b → Answers reportBefore (GoesWide entryLimit release1 (sectionsOf b) p) (answerNumber (reportCalled .answer))
-  report-answers bytes = rw report-number (told-answers reportBefore (reductionsOf b p) reportBefore-le (λ e. reductionsOf-wide b p (report-complex bytes e)))
+  report-answers bytes = rw report-number (told-answers reportBefore (reductionsOf b p) report-narrow (λ e. reductionsOf-wide b p (report-complex bytes e)))
 
   pub report-counted : answerNumber (reportCalled .answer) ≡ 0 → IsDone (reportCalled .answer)
   unfolding reportCall
@@ -62,7 +62,7 @@ module _ (limit : ℕ) (b : List ℕ) (p : ℕ) (report work : List ℤ) where
 
   pub report-work : WorkLeft (answerNumber (reportCalled .answer)) work (reportCalled .work)
   unfolding reportCall
-  report-work = rw report-number (work-left reportNumbers report work reportBefore (reductionsOf b p) reportBefore-le)
+  report-work = rw report-number (work-left reportNumbers report work reportBefore (reductionsOf b p) report-narrow)
 
   pub report-output : reportBefore ≡ 0 → {f t : ℕ} (c : ReducedWith (reductionsOf b p) f t) → reportCalled .output ≡ written (reportList (count (sectionsOf b) p) (c .rows) (c .rank) (c .state)) report
   unfolding reportCall
@@ -95,4 +95,4 @@ module _ (limit : ℕ) (b : List ℕ) (p : ℕ) (report work : List ℤ) where
         fits = rw size at (report-fits (count (sectionsOf b) p) (c .rows) (c .rank) (c .state) (report-answered .right .rank-bound) (report-answered .right .rows-bound))
 
         slots : reportSlots (sectionsOf b) p ≤ length report
-        slots = refusalBefore-zero limit b p reportSlots (length report) (length work) .0 (report-answered .passes) .output-slots
+        slots = callChecks-zero limit b p reportSlots (length report) (length work) .0 (report-answered .passes) .output-slots

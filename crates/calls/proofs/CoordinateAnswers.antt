@@ -1,18 +1,20 @@
 -- What the coordinate call answers: coordinates-refuse, for the checks 1 to 9; chain-refuses, for 10 to 12; coordinates-wide, coordinates-done.
 use mathlib.Core.Path.{_≡_, _∙_, ap}
-use mathlib.Core.List.{List}
+use mathlib.Core.List.{List, _++_}
 use Prim.Native.Nat.{ℕ}
+use native.Mathlib.Omega.{arith}
 use lib.IntN.{ℤ, pos}
 use lib.ListN.{length, replicate}
 use Rattle.complexes.specs.Complex.{Complex, count}
 use Rattle.sheet_format.specs.Layout.{top}
-use Rattle.sheet_format.specs.Check.{sectionsOf}
+use Rattle.sheet_format.specs.Check.{sectionsOf, first}
 use Rattle.reduction_steps.specs.State.{State}
 use Rattle.reports.specs.Report.{coordinateList}
-use Rattle.reports.specs.Call.{coordinateSlots, orElse, refusalBefore, chainRefusal, reductionsOf, coordinateCall, written}
+use Rattle.reports.specs.Call.{coordinateSlots, callChecks, chainChecks, reductionsOf, coordinateCall, written}
 use Rattle.limits.specs.Limits.{libraryLimit}
-use Rattle.reports.specs.RefusalLaws.{Passed, refusalBefore-zero}
+use Rattle.reports.specs.RefusalLaws.{Passed, callChecks-zero, call-told, call-passed}
 use Rattle.refusal.specs.Number.{numberOf}
+use Rattle.refusal.specs.NumberLaws.{number-positive}
 use Rattle.refusal.specs.declared.Refusal.{Refusal}
 use Rattle.refusal.specs.declared.Refusal.the-variants as refusal
 use Rattle.writers.specs.Written.{WroteCoordinates}
@@ -23,17 +25,16 @@ use Rattle.calls.specs.Answer.{CallAnswers}
 use Rattle.calls.specs.Slices.{ReducedTwice, TwiceReduced}
 use Rattle.calls.specs.declared.answer.Answer.the-variants.{Done, Refused}
 use Rattle.calls.specs.declared.reductions.Reductions.the-variants as reductions
-use Rattle.calls.proofs.Refusals.{orElse-first}
 use Rattle.calls.proofs.Answering.{refuses, goes-wide, is-done}
 use Rattle.calls.proofs.Writing.{follower-width}
 
 module _ (limit : ℕ) (b : List ℕ) (p : ℕ) (z coordinates work : List ℤ) where
   -- the refusals before the reductions: 1 to 9, then 10 to 12
   abbrev before-chain : ℕ
-  before-chain = refusalBefore limit b p coordinateSlots (length coordinates) (length work)
+  before-chain = first (callChecks limit b p coordinateSlots (length coordinates) (length work))
 
   abbrev before-reductions : ℕ
-  before-reductions = orElse before-chain (chainRefusal b p z)
+  before-reductions = first (callChecks limit b p coordinateSlots (length coordinates) (length work) ++ chainChecks b p z)
 
   -- the coordinates
   abbrev numbers : ℕ → ℕ → State → List ℤ
@@ -42,18 +43,19 @@ module _ (limit : ℕ) (b : List ℕ) (p : ℕ) (z coordinates work : List ℤ) 
   pub coordinates-refuse : {x : Refusal} → before-chain ≡ numberOf x → CallAnswers (coordinateCall limit b p z coordinates work) (Refused x) coordinates work
   unfolding coordinateCall
   coordinates-refuse {x} e =
-      refuses before-reductions (reductionsOf b p) numbers coordinates work (orElse-first before-chain (chainRefusal b p z) x e)
+      refuses before-reductions (reductionsOf b p) numbers coordinates work (call-told limit b p coordinateSlots (length coordinates) (length work) z (λ q. absurd (omega (arith, number-positive x))) ∙ e)
 
   module _ (passed : Passed limit b p coordinateSlots (length coordinates) (length work)) where
-    chain-next : before-reductions ≡ chainRefusal b p z
+    chain-next : before-reductions ≡ first (chainChecks b p z)
     chain-next =
-        ap (λ (k : ℕ). orElse k (chainRefusal b p z)) (refusalBefore-zero limit b p coordinateSlots (length coordinates) (length work) .1 passed)
+        call-passed limit b p coordinateSlots (length coordinates) (length work) z
+        (callChecks-zero limit b p coordinateSlots (length coordinates) (length work) .1 passed)
 
-    pub chain-refuses : {x : Refusal} → chainRefusal b p z ≡ numberOf x → CallAnswers (coordinateCall limit b p z coordinates work) (Refused x) coordinates work
+    pub chain-refuses : {x : Refusal} → first (chainChecks b p z) ≡ numberOf x → CallAnswers (coordinateCall limit b p z coordinates work) (Refused x) coordinates work
     unfolding coordinateCall
     chain-refuses e = refuses before-reductions (reductionsOf b p) numbers coordinates work (chain-next ∙ e)
 
-    module _ (chain : chainRefusal b p z ≡ 0) where
+    module _ (chain : first (chainChecks b p z) ≡ 0) where
       pub coordinates-wide : {x : Refusal} {work′ : List ℤ} → TwiceReduced b p (reductionsOf b p) (length work) (reductions.Refused x) work′
           → CallAnswers (coordinateCall limit b p z coordinates work) (Refused refusal.TooWide) coordinates work′
       unfolding coordinateCall

@@ -6,12 +6,12 @@ use lib.IntN.{ℤ, pos}
 use lib.ListN.{length, replicate}
 use Rattle.complexes.specs.Complex.{Complex, count}
 use Rattle.sheet_format.specs.Layout.{top}
-use Rattle.sheet_format.specs.Check.{sectionsOf}
+use Rattle.sheet_format.specs.Check.{sectionsOf, first}
 use Rattle.reduction_steps.specs.State.{State}
 use Rattle.reports.specs.Report.{reportList}
-use Rattle.reports.specs.Call.{reportSlots, refusalBefore, reductionsOf, reportCall, written}
+use Rattle.reports.specs.Call.{reportSlots, callChecks, reductionsOf, reportCall, written}
 use Rattle.limits.specs.Limits.{libraryLimit}
-use Rattle.reports.specs.RefusalLaws.{Passed, refusalBefore-zero}
+use Rattle.reports.specs.RefusalLaws.{Passed, callChecks-zero}
 use Rattle.refusal.specs.Number.{numberOf}
 use Rattle.refusal.specs.declared.Refusal.{Refusal}
 use Rattle.refusal.specs.declared.Refusal.the-variants as refusal
@@ -29,7 +29,7 @@ use Rattle.calls.proofs.Writing.{inverse-width}
 module _ (limit : ℕ) (b : List ℕ) (p : ℕ) (report work : List ℤ) where
   -- the refusal before the reductions
   abbrev pub before-report : ℕ
-  before-report = refusalBefore limit b p reportSlots (length report) (length work)
+  before-report = first (callChecks limit b p reportSlots (length report) (length work))
 
   -- the numbers of the report
   abbrev numbers : ℕ → ℕ → State → List ℤ
@@ -41,7 +41,7 @@ module _ (limit : ℕ) (b : List ℕ) (p : ℕ) (report work : List ℤ) where
 
   module _ (passed : Passed limit b p reportSlots (length report) (length work)) where
     passes : before-report ≡ 0
-    passes = refusalBefore-zero limit b p reportSlots (length report) (length work) .1 passed
+    passes = callChecks-zero limit b p reportSlots (length report) (length work) .1 passed
 
     pub report-wide : {x : Refusal} {work′ : List ℤ} → TwiceReduced b p (reductionsOf b p) (length work) (reductions.Refused x) work′
         → CallAnswers (reportCall limit b p report work) (Refused refusal.TooWide) report work′

@@ -6,18 +6,18 @@
 -- `Bytes`: the contract of `Sheet::read` says so.
 use mathlib.Core.Path.{_≡_}
 use mathlib.Core.Logic.{_↔_, _≢_}
-use mathlib.Core.List.{List}
+use mathlib.Core.List.{List, _++_}
 use Prim.Native.Nat.{ℕ, _+_, _*_, _≤_, _<_}
 use lib.ListN.{length, take}
 use lib.IntN.{ℤ, pos, _-ℤ_}
 use lib.Signed.{_≤ℤ_, _<ℤ_}
 use Rattle.complexes.specs.Complex.{count}
 use Rattle.sheet_format.specs.Layout.{longest}
-use Rattle.sheet_format.specs.Check.{refusal, sectionsOf}
+use Rattle.sheet_format.specs.Check.{first, refusal, sectionsOf}
 use Rattle.sheet_format.specs.Sheet.{Bytes, IsSheet}
 use Rattle.homology_groups.specs.Chain.{Chain, combination}
 use Rattle.reduction_steps.specs.Pivot.{release1}
-use Rattle.reports.specs.Call.{done, orElse, refusalBefore, chainRefusal, reportSlots, coordinateSlots, workSlots, reportCall, coordinateCall}
+use Rattle.reports.specs.Call.{done, callChecks, chainChecks, reportSlots, coordinateSlots, workSlots, reportCall, coordinateCall}
 use Rattle.limits.specs.Limits.{libraryLimit, hostLimit, entryLimit}
 use Rattle.reports.specs.Host.{chainFrom, coefficientIn, slotsIn, hostReport, hostCoordinates, numberAt}
 use Rattle.reports.specs.Text.{refusalLine, programText}
@@ -39,18 +39,18 @@ TooWide b p = GoesWide entryLimit release1 (sectionsOf b) p
 abbrev pub ReportNumbers : Type 0
 ReportNumbers =
     (limit : ℕ) (b : List ℕ) (p : ℕ) (report work : List ℤ) → Bytes b →
-    Answers (refusalBefore limit b p reportSlots (length report) (length work)) (TooWide b p) (answerNumber (reportCall limit b p report work .answer))
+    Answers (first (callChecks limit b p reportSlots (length report) (length work))) (TooWide b p) (answerNumber (reportCall limit b p report work .answer))
 
 -- the coordinate call:
 abbrev pub CoordinateNumbers : Type 0
 CoordinateNumbers =
     (limit : ℕ) (b : List ℕ) (p : ℕ) (z coordinates work : List ℤ) → Bytes b →
-    Answers (orElse (refusalBefore limit b p coordinateSlots (length coordinates) (length work)) (chainRefusal b p z)) (TooWide b p)
+    Answers (first (callChecks limit b p coordinateSlots (length coordinates) (length work) ++ chainChecks b p z)) (TooWide b p)
     (answerNumber (coordinateCall limit b p z coordinates work .answer))
 
 -- 01, "12. The chain has a nonzero boundary": among 10 to 12 it is told exactly when 10 and 11 do not apply and the chain is no cycle
 abbrev pub NotACycle : Type 0
-NotACycle = (b : List ℕ) (p : ℕ) (z : List ℤ) → (chainRefusal b p z ≡ 12) ↔ NoCycle (sectionsOf b) p z
+NotACycle = (b : List ℕ) (p : ℕ) (z : List ℤ) → (first (chainChecks b p z) ≡ 12) ↔ NoCycle (sectionsOf b) p z
 
 -- "a refusal leaves report and coordinate slices untouched"; 01, "untouched past what the call writes", and the work slice "reads 0 throughout
 -- after a finished call, after refusal 13 ..; the other refusals leave it alone". The report call:
@@ -137,15 +137,15 @@ CoordinatesReduced =
 abbrev pub HostReportNumbers : Type 0
 HostReportNumbers =
     (b : List ℕ) (p : ℕ) (report : List ℕ) → Bytes b →
-    Answers (refusalBefore hostLimit b p reportSlots (slotsIn report) (workSlots (sectionsOf b) p)) (TooWide b p) (hostReport b p report .number)
+    Answers (first (callChecks hostLimit b p reportSlots (slotsIn report) (workSlots (sectionsOf b) p))) (TooWide b p) (hostReport b p report .number)
 
 -- fildwuk_coordinates:
 abbrev pub HostCoordinateNumbers : Type 0
 HostCoordinateNumbers =
     (b : List ℕ) (p : ℕ) (chain coordinates : List ℕ) → Bytes b →
     Answers
-    (orElse (refusalBefore hostLimit b p coordinateSlots (slotsIn coordinates) (workSlots (sectionsOf b) p))
-    (chainRefusal b p (chainFrom (count (sectionsOf b) p) chain)))
+    (first (callChecks hostLimit b p coordinateSlots (slotsIn coordinates) (workSlots (sectionsOf b) p)
+    ++ chainChecks b p (chainFrom (count (sectionsOf b) p) chain)))
     (TooWide b p) (hostCoordinates b p chain coordinates .number)
 
 -- demand 1, "a refusal leaves report and coordinate slices untouched"
@@ -184,7 +184,7 @@ HostCoordinateCounts =
 
 -- 01, "A sheet refused by 1 to 7 gives the single line `R` and the number", and no other sheet does
 abbrev pub ProgramRefuses : Type 0
-ProgramRefuses = (b : List ℕ) (k : ℕ) → k ≢ 0 → k ≤ 7 → (programText b ≡ refusalLine k) ↔ (refusal hostLimit b ≡ k)
+ProgramRefuses = (b : List ℕ) (k : ℕ) → k ≢ 0 → (programText b ≡ refusalLine k) ↔ (refusal hostLimit b ≡ k)
 
 -- 01, "Otherwise each dimension gives .."; "a dimension that goes too wide gives `R 13` instead": else the text of the report that a report call leaves,
 -- which is right by `Reports`

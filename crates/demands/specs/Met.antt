@@ -6,7 +6,7 @@
 --     plane-goes-wide                      the two reductions go too wide, at the entry limit 1; at 1,048,575 no sheet that computes here does
 use mathlib.Core.Path.{_≡_, refl, sym, _∙_, ap, subst}
 use mathlib.Core.Bool.{Bool, true, false, _&&_}
-use mathlib.Core.List.{List, [], _∷_}
+use mathlib.Core.List.{List, [], _∷_, _++_}
 use Prim.Native.Nat.{ℕ, zero, suc, _+_, _<_}
 use native.Mathlib.Omega.{arith}
 use lib.Dec.{T, ltb, ltb→lt}
@@ -20,16 +20,16 @@ use Rattle.complexes.specs.Cell.{without, same, rises, precedes, listed}
 use Rattle.complexes.specs.Complex.{Sections, count, Complex}
 use Rattle.complexes.specs.Boundary.{sign, coefficient, countBelow, boundary}
 use Rattle.sheet_format.specs.Layout.{top, start}
-use Rattle.sheet_format.specs.Check.{countField, offsetField, cellOf, cellsOf, sectionsOf, some, verticesDoNotRise, cellsDoNotRise, faceMissing, refusal}
+use Rattle.sheet_format.specs.Check.{first, countField, offsetField, cellOf, cellsOf, sectionsOf, some, verticesDoNotRise, cellsDoNotRise, faceMissing, refusal}
 use Rattle.sheet_format.specs.Sheet.{Bytes}
 use Rattle.sheet_format.specs.Starred.{hollowTriangle}
 use Rattle.sheet_format.specs.Accept.{accepted-complex}
 use Rattle.reduction_steps.specs.Pivot.{release1}
 use Rattle.reduction_steps.specs.PivotLaws.{release1-is-rule}
 use Rattle.limits.specs.Limits.{hostLimit}
-use Rattle.reports.specs.Call.{Called, orElse, refusalBefore, chainRefusal, coefficientExceeds, boundaryNotZero, reportSlots, coordinateSlots, workSlots, reportCall, coordinateCall}
+use Rattle.reports.specs.Call.{Called, callChecks, chainChecks, coefficientExceeds, boundaryNotZero, reportSlots, coordinateSlots, workSlots, reportCall, coordinateCall}
 use Rattle.reports.specs.Host.{coefficientAt, coefficientIn, chainFrom, slotsIn, numberAt, hostReport, hostCoordinates}
-use Rattle.reports.specs.RefusalLaws.{refusalBefore-zero}
+use Rattle.reports.specs.RefusalLaws.{callChecks-zero}
 use Rattle.answers.specs.Homology.{IsBoundary}
 use Rattle.answers.specs.Right.{slot, HasCounts}
 use Rattle.answers.specs.Wide.{GoesWide}
@@ -79,23 +79,23 @@ plane-counts =
 -- ---- what demand 3 says of them
 
 -- what stands at place 0 of the output
-abbrev first : Called → ℤ
-first called = slot (called .output) 0
+abbrev coordinate-0 : Called → ℤ
+coordinate-0 called = slot (called .output) 0
 
 pub twice-bounds : IsBoundary (sectionsOf sheet) 1 (λ i. slot loop i -ℤ slot backwards i)
 twice-bounds =
     coordinatesDecide sheet 1 plane-bytes (slot loop) (slot backwards) (read loop) (read backwards) loop-coordinates backwards-coordinates 0 1 plane-counts .0 same
   where
     same : (j : ℕ) → j < 1 + 0 → read loop j ≡ read backwards j
-    same zero l = ap first (plane-calls .coordinate-loop) ∙ sym (ap first (plane-calls .coordinate-backwards))
+    same zero l = ap coordinate-0 (plane-calls .coordinate-loop) ∙ sym (ap coordinate-0 (plane-calls .coordinate-backwards))
     same (suc j) l = absurd (omega arith)
 
 pub loop-differs : IsBoundary (sectionsOf sheet) 1 (λ i. slot loop i -ℤ slot twice i) → ⊥
 loop-differs h =
     one≢zero
-    (sym (ap first (plane-calls .coordinate-loop))
+    (sym (ap coordinate-0 (plane-calls .coordinate-loop))
     ∙ coordinatesDecide sheet 1 plane-bytes (slot loop) (slot twice) (read loop) (read twice) loop-coordinates twice-coordinates 0 1 plane-counts .1 h 0 (omega arith)
-    ∙ ap first (plane-calls .coordinate-twice))
+    ∙ ap coordinate-0 (plane-calls .coordinate-twice))
   where
     one≢zero : _≡_ {A = ℤ} (pos 1) (pos 0) → ⊥
     one≢zero e = subst IsOne e tt
@@ -109,7 +109,7 @@ loop-differs h =
 
 accepted : refusal 256 sheet ≡ 0
 accepted =
-    refusalBefore-zero 256 sheet 1 reportSlots (length (nines 242)) (length (nines 600)) .0
+    callChecks-zero 256 sheet 1 reportSlots (length (nines 242)) (length (nines 600)) .0
     (reportNumbers 256 sheet 1 (nines 242) (nines 600) plane-bytes .is-done .0 (ap (λ (c : Called). answerNumber (c .answer)) (plane-calls .report-call)) .0)
     .accepted
 
@@ -129,8 +129,8 @@ plane-goes-wide =
 narrow : TooWide sheet 1 → ⊥
 narrow = reportNumbers 256 sheet 1 (nines 242) (nines 600) plane-bytes .is-done .0 (ap (λ (c : Called). answerNumber (c .answer)) (plane-calls .report-call)) .1
 
-report-admitted : refusalBefore hostLimit sheet 1 reportSlots (slotsIn (replicate 1936 9)) (workSlots (sectionsOf sheet) 1) ≡ 0
-unfolding refusalBefore refusal countField offsetField cellOf cellsOf sectionsOf some verticesDoNotRise cellsDoNotRise faceMissing without same rises precedes listed start countBelow tabulate
+report-admitted : first (callChecks hostLimit sheet 1 reportSlots (slotsIn (replicate 1936 9)) (workSlots (sectionsOf sheet) 1)) ≡ 0
+unfolding callChecks chainChecks refusal countField offsetField cellOf cellsOf sectionsOf some verticesDoNotRise cellsDoNotRise faceMissing without same rises precedes listed start countBelow tabulate
 report-admitted = refl
 
 pub plane-host-report : ReportOf sheet 1 (numberAt (hostReport sheet 1 (replicate 1936 9) .output))
@@ -138,11 +138,12 @@ plane-host-report = claims.ReportOf.by-host (replicate 1936 9) (hostReportNumber
 
 -- the chain of zeros, in 60 bytes for the 15 edges
 coordinates-admitted :
-    orElse (refusalBefore hostLimit sheet 1 coordinateSlots (slotsIn (replicate 120 9)) (workSlots (sectionsOf sheet) 1))
-    (chainRefusal sheet 1 (chainFrom (count (sectionsOf sheet) 1) (replicate 60 0)))
+    first
+    (callChecks hostLimit sheet 1 coordinateSlots (slotsIn (replicate 120 9)) (workSlots (sectionsOf sheet) 1)
+    ++ chainChecks sheet 1 (chainFrom (count (sectionsOf sheet) 1) (replicate 60 0)))
     ≡ 0
-unfolding refusalBefore refusal countField offsetField cellOf cellsOf sectionsOf some verticesDoNotRise cellsDoNotRise faceMissing without same rises precedes listed start countBelow tabulate
-    chainRefusal chainFrom coefficientAt coefficientExceeds boundaryNotZero boundary coefficient sign apply sum
+unfolding callChecks chainChecks refusal countField offsetField cellOf cellsOf sectionsOf some verticesDoNotRise cellsDoNotRise faceMissing without same rises precedes listed start countBelow tabulate
+    chainFrom coefficientAt coefficientExceeds boundaryNotZero boundary coefficient sign apply sum
 coordinates-admitted = refl
 
 pub plane-host-coordinates : CoordinatesOf sheet 1 (coefficientIn (replicate 60 0)) (numberAt (hostCoordinates sheet 1 (replicate 60 0) (replicate 120 9) .output))
@@ -151,13 +152,13 @@ plane-host-coordinates =
     (hostCoordinateNumbers sheet 1 (replicate 60 0) (replicate 120 9) plane-bytes .is-done .1 (coordinates-admitted, narrow))
 
 pub plane-accepted : refusal hostLimit sheet ≡ 0
-plane-accepted = refusalBefore-zero hostLimit sheet 1 reportSlots (slotsIn (replicate 1936 9)) (workSlots (sectionsOf sheet) 1) .0 report-admitted .accepted
+plane-accepted = callChecks-zero hostLimit sheet 1 reportSlots (slotsIn (replicate 1936 9)) (workSlots (sectionsOf sheet) 1) .0 report-admitted .accepted
 
 -- ---- no cycle
 
 pub triangle-no-cycle : NoCycle (sectionsOf hollowTriangle) 1 (pos 1 ∷ pos 0 ∷ pos 0 ∷ [])
-unfolding countField cellOf cellsOf sectionsOf some without same start countBelow tabulate chainRefusal coefficientExceeds boundaryNotZero boundary coefficient sign apply sum
+unfolding chainChecks countField cellOf cellsOf sectionsOf some without same start countBelow tabulate coefficientExceeds boundaryNotZero boundary coefficient sign apply sum
 triangle-no-cycle = notACycle hollowTriangle 1 (pos 1 ∷ pos 0 ∷ pos 0 ∷ []) .0 told
   where
-    told : chainRefusal hollowTriangle 1 (pos 1 ∷ pos 0 ∷ pos 0 ∷ []) ≡ 12
+    told : first (chainChecks hollowTriangle 1 (pos 1 ∷ pos 0 ∷ pos 0 ∷ [])) ≡ 12
     told = refl

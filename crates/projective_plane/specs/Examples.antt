@@ -22,7 +22,7 @@ use Rattle.reduction_steps.specs.Pivot.{better, alongRow, downRows, release1}
 use Rattle.reduction_steps.specs.Step.{columnKeeps, rowKeeps, rowIndivisible, firstIndivisible, positive, bring, quotient, rowPass, columnPass, next, step, run, reduce}
 use Rattle.reports.specs.Reductions.{tooWide, reduced, firstStart, product, secondStart, afterSecond, second, afterFirst, reductions}
 use Rattle.reports.specs.Report.{reported, columnsOf, torsionCount, reportList, coordinateAt, coordinateList}
-use Rattle.reports.specs.Call.{Called, done, coefficientExceeds, boundaryNotZero, refusalBefore, chainRefusal, finished, reductionsOf, reportCall, coordinateCall}
+use Rattle.reports.specs.Call.{Called, done, coefficientExceeds, boundaryNotZero, callChecks, chainChecks, finished, reductionsOf, reportCall, coordinateCall}
 use Rattle.reports.specs.Text.{digits, decimal, spaced, generatorLines, dimensionText}
 use Rattle.reports.specs.WideEnd.{inFirst, inSecond, endOfSecond, endOfProduct, endOfFirst, end, endsWide, end-wide}
 use Rattle.projective_plane.specs.Plane.{cells, sheet, left, report, loop, twice, backwards, text}
@@ -54,7 +54,7 @@ pub record PlaneCalls : Type 0 where
   pub printed : dimensionText 1 15 (reductionsOf sheet 1) ≡ text
 
 pub plane-calls : PlaneCalls
-unfolding reportCall coordinateCall refusalBefore chainRefusal coefficientExceeds boundaryNotZero finished
+unfolding reportCall coordinateCall callChecks chainChecks coefficientExceeds boundaryNotZero finished
     refusal countField offsetField cellOf cellsOf sectionsOf some verticesDoNotRise cellsDoNotRise faceMissing without same rises precedes listed start
     countBelow boundary coefficient sign apply sum floor modulo tabulate reportList coordinateList coordinateAt torsionCount columnsOf reported
     dimensionText generatorLines spaced decimal digits

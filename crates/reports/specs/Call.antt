@@ -11,7 +11,7 @@ use Rattle.matrices.specs.Vector.{apply}
 use Rattle.complexes.specs.Complex.{Sections, count}
 use Rattle.complexes.specs.Boundary.{countBelow, boundary}
 use Rattle.sheet_format.specs.Layout.{top}
-use Rattle.sheet_format.specs.Check.{sectionsOf, some, refuse, refusal}
+use Rattle.sheet_format.specs.Check.{sectionsOf, some, first, sheetChecks}
 use Rattle.reduction_steps.specs.State.{State}
 use Rattle.reduction_steps.specs.Pivot.{release1}
 use Rattle.reports.specs.Reductions.{Reductions, tooWide, reduced, reductions}
@@ -43,26 +43,21 @@ unfoldable pub boundaryNotZero : Sections → ℕ → List ℤ → Bool
 boundaryNotZero K p z =
     some (countBelow K p) (λ i. not (eqb (natAbs (apply (count K p) (boundary K p) (λ j. getD z j (pos 0)) i)) 0))
 
--- ---- the refusals before the reduction, in document 01's order
-
--- the first number unless it is 0, else the second
-abbrev pub orElse : ℕ → ℕ → ℕ
-orElse zero later = later
-orElse (suc n) later = suc n
+-- ---- the checks before the reduction, in document 01's order
 
 -- 1 to 9, for a sheet b at the count limit, a dimension p and the lengths of the output and work slices; `slots` are those that the output must have
-unfoldable pub refusalBefore : ℕ → List ℕ → ℕ → (Sections → ℕ → ℕ) → ℕ → ℕ → ℕ
-refusalBefore limit b p slots output work =
-    orElse (refusal limit b)
-    (refuse 8 (ltb top p)
-    (refuse 9 (ltb output (slots (sectionsOf b) p) || ltb work (workSlots (sectionsOf b) p)) 0))
+unfoldable pub callChecks : ℕ → List ℕ → ℕ → (Sections → ℕ → ℕ) → ℕ → ℕ → List (ℕ × Bool)
+callChecks limit b p slots output work =
+    sheetChecks limit b
+    ++ (8, ltb top p)
+    ∷ (9, ltb output (slots (sectionsOf b) p) || ltb work (workSlots (sectionsOf b) p)) ∷ []
 
 -- 10 to 12, for a chain z
-unfoldable pub chainRefusal : List ℕ → ℕ → List ℤ → ℕ
-chainRefusal b p z =
-    refuse 10 (chainLengthDiffers (sectionsOf b) p z)
-    (refuse 11 (coefficientExceeds z)
-    (refuse 12 (boundaryNotZero (sectionsOf b) p z) 0))
+unfoldable pub chainChecks : List ℕ → ℕ → List ℤ → List (ℕ × Bool)
+chainChecks b p z =
+    (10, chainLengthDiffers (sectionsOf b) p z)
+    ∷ (11, coefficientExceeds z)
+    ∷ (12, boundaryNotZero (sectionsOf b) p z) ∷ []
 
 -- ---- what a call answers and leaves
 
@@ -103,11 +98,11 @@ reductionsOf b p = reductions release1 entryLimit (sectionsOf b) p
 -- the report call at a count limit, on a sheet, a dimension, a report slice and a work slice
 unfoldable pub reportCall : ℕ → List ℕ → ℕ → List ℤ → List ℤ → Called
 reportCall limit b p report work =
-    orRefused (refusalBefore limit b p reportSlots (length report) (length work)) report work
+    orRefused (first (callChecks limit b p reportSlots (length report) (length work))) report work
     (finished (reductionsOf b p) (λ s r x. reportList (count (sectionsOf b) p) s r x) report work)
 
 -- the coordinate call at a count limit, on a sheet, a dimension, a chain, a coordinate slice and a work slice
 unfoldable pub coordinateCall : ℕ → List ℕ → ℕ → List ℤ → List ℤ → List ℤ → Called
 coordinateCall limit b p z coordinates work =
-    orRefused (orElse (refusalBefore limit b p coordinateSlots (length coordinates) (length work)) (chainRefusal b p z)) coordinates work
+    orRefused (first (callChecks limit b p coordinateSlots (length coordinates) (length work) ++ chainChecks b p z)) coordinates work
     (finished (reductionsOf b p) (λ s r x. coordinateList (count (sectionsOf b) p) s x z) coordinates work)

@@ -16,7 +16,7 @@ pub digits-small : (most n : ℕ) → n < 10 → digits (suc most) n ≡ (48 + n
 unfolding digits
 digits-small most n h = rw (lt-ltb n 10 h, digits)
 
-digits-more : (most n : ℕ) → 10 ≤ n → digits (suc most) n ≡ digits most (n / 10) ++ ((48 + n % 10) ∷ [])
+pub digits-more : (most n : ℕ) → 10 ≤ n → digits (suc most) n ≡ digits most (n / 10) ++ ((48 + n % 10) ∷ [])
 unfolding digits
 digits-more most n h = rw (le-ltb n 10 h, digits)
 

@@ -25,7 +25,7 @@ use Rattle.reduction_steps.specs.Pivot.{better, alongRow, downRows, release1}
 use Rattle.reduction_steps.specs.Step.{columnKeeps, rowKeeps, rowIndivisible, firstIndivisible, positive, bring, quotient, rowPass, columnPass, next, step, run, reduce}
 use Rattle.reports.specs.Reductions.{tooWide, firstStart, product, secondStart, afterSecond, second, afterFirst, reductions}
 use Rattle.reports.specs.Report.{reported, columnsOf, torsionCount, reportList, coordinateAt, coordinateList}
-use Rattle.reports.specs.Call.{coefficientExceeds, boundaryNotZero, refusalBefore, chainRefusal, reductionsOf}
+use Rattle.reports.specs.Call.{coefficientExceeds, boundaryNotZero, callChecks, chainChecks, reductionsOf}
 use Rattle.reports.specs.Text.{digits, decimal, spaced, generatorLines, dimensionText, dimensionsText, textFor, programText}
 use Rattle.reports.specs.Host.{HostCalled, lowBytes, numberBytes, numbersBytes, coefficientAt, otherLength, chainFrom, finishedWith, hostReport, hostCoordinates}
 use Rattle.reports.specs.TextCases.{TextCase, textCases}
@@ -81,7 +81,7 @@ unfolding every sameList sameBytes textGood hostGood called sameCalled end endOf
     release1 downRows alongRow better onRow onColumn checked andThen within rowOperation columnOperation follow tableWithin rowWithin table
     onRows onColumns inverse identity null mul apply sum floor modulo divides tabulate reported torsionCount
     programText textFor dimensionsText dimensionText generatorLines spaced decimal digits
-    hostReport hostCoordinates refusalBefore chainRefusal coefficientExceeds boundaryNotZero
+    hostReport hostCoordinates callChecks chainChecks coefficientExceeds boundaryNotZero
     chainFrom otherLength coefficientAt finishedWith numbersBytes numberBytes lowBytes reportList coordinateList coordinateAt columnsOf
 examples = record { texts = tt; hosts = tt; wideInFirst = refl; wideInProduct = refl; notWide = refl }
 

@@ -1,5 +1,6 @@
 -- The host calls beside the library's. With `reportRoom`, `coordinateRoom` and `workRoom` slots a host call has room for every sheet that it accepts,
 -- so it answers what the library's call answers: report-refused, report-done, coordinates-refused, coordinates-done.
+use mathlib.Core.Bool.{Bool}
 use mathlib.Core.Path.{_≡_, refl, sym, _∙_, ap}
 use mathlib.Core.List.{List, _++_}
 use Prim.Native.Nat.{ℕ, zero, suc, _+_, _*_, _≤_, _<_, min, max}
@@ -14,14 +15,16 @@ use lib.IntN.{ℤ}
 use Rattle.complexes.specs.Complex.{Sections, count}
 use Rattle.complexes.specs.Boundary.{countBelow}
 use Rattle.sheet_format.specs.Layout.{top}
-use Rattle.sheet_format.specs.Check.{sectionsOf, refusal}
+use Rattle.sheet_format.specs.Check.{sectionsOf, first, refusal}
+use Rattle.sheet_format.specs.FirstLaws.{orElse, first-append}
 use Rattle.sheet_format.specs.CheckLaws.{refusal-zero, countExceeds-false}
 use Rattle.sheet_format.specs.SheetLaws.{count-sectionsOf, countField-out}
 use Rattle.reduction_steps.specs.State.{State}
 use Rattle.reports.specs.Reductions.{Reductions}
 use Rattle.reports.specs.Report.{reportList, coordinateList}
-use Rattle.reports.specs.Call.{done, refused, orElse, refusalBefore, chainRefusal, reportSlots, coordinateSlots, workSlots, reductionsOf, reportCall, coordinateCall}
+use Rattle.reports.specs.Call.{done, refused, callChecks, chainChecks, reportSlots, coordinateSlots, workSlots, reductionsOf, reportCall, coordinateCall}
 use Rattle.limits.specs.Limits.{hostLimit}
+use Rattle.reports.specs.RefusalLaws.{sheet-told, sheet-passed}
 use Rattle.reports.specs.CallLaws.{call, ReducedWith, CallRefused, earlier, wide, call-done, call-refused, call-output}
 use Rattle.reports.specs.Host.{HostCalled, numbersBytes, chainFrom, slotsIn, orRefusedWith, finishedWith, hostReport, hostCoordinates}
 
@@ -112,23 +115,23 @@ ltb-min o room need h = go (decLt o need)
     go (no l) = le-ltb (min o room) need (omega arith) ∙ sym (le-ltb o need (omega arith))
 
 module _ (b : List ℕ) (p : ℕ) (slots : Sections → ℕ → ℕ) (room o output work : ℕ) (size : output ≡ min o room) (space : work ≡ workRoom) where
-  -- whatever follows the check of the sheet
-  checked : (k : ℕ) → refusal hostLimit b ≡ k → (refusal hostLimit b ≡ 0 → slots (sectionsOf b) p ≤ room)
-      → refusalBefore hostLimit b p slots output work ≡ refusalBefore hostLimit b p slots o (workSlots (sectionsOf b) p)
-  unfolding refusalBefore
-  checked (suc k) e fits = rw e
-  checked zero e fits =
-      rw (size, ltb-min o room (slots (sectionsOf b) p) (fits e), le-ltb work needed enough, le-ltb needed needed (omega arith))
+  abbrev before : ℕ → ℕ → ℕ
+  before o w = first (callChecks hostLimit b p slots o w)
+
+  same-refusal : (refusal hostLimit b ≡ 0 → slots (sectionsOf b) p ≤ room) → before output work ≡ before o (workSlots (sectionsOf b) p)
+  same-refusal fits = go (refusal hostLimit b) refl
     where
       needed : ℕ
       needed = workSlots (sectionsOf b) p
 
-      enough : needed ≤ work
-      enough = omega (arith, work-room b e p)
-
-  same-refusal : (refusal hostLimit b ≡ 0 → slots (sectionsOf b) p ≤ room)
-      → refusalBefore hostLimit b p slots output work ≡ refusalBefore hostLimit b p slots o (workSlots (sectionsOf b) p)
-  same-refusal = checked (refusal hostLimit b) refl
+      go : (k : ℕ) → refusal hostLimit b ≡ k → before output work ≡ before o needed
+      go (suc k) e =
+          sheet-told hostLimit b p slots output work (λ z. absurd (omega arith))
+          ∙ sym (sheet-told hostLimit b p slots o needed (λ z. absurd (omega arith)))
+      go zero e =
+          sheet-passed hostLimit b p slots output work e
+          ∙ (rw (size, ltb-min o room (slots (sectionsOf b) p) (fits e), le-ltb work needed (omega (arith, work-room b e p)), le-ltb needed needed (omega arith)))
+          ∙ sym (sheet-passed hostLimit b p slots o needed e)
 
 -- ---- the report
 
@@ -137,7 +140,7 @@ module _ (b : List ℕ) (p : ℕ) (output : List ℕ) (slots work : List ℤ) (s
   reportNumbers s r x = reportList (count (sectionsOf b) p) s r x
 
   reportBefore : ℕ
-  reportBefore = refusalBefore hostLimit b p reportSlots (length slots) (length work)
+  reportBefore = first (callChecks hostLimit b p reportSlots (length slots) (length work))
 
   report-same : hostReport b p output ≡ hostCall reportBefore (reductionsOf b p) reportNumbers output
   unfolding hostReport reportBefore reportNumbers
@@ -166,33 +169,43 @@ module _ (b : List ℕ) (p : ℕ) (chain output : List ℕ) (z slots work : List
   coordinateNumbers : List ℤ → ℕ → ℕ → State → List ℤ
   coordinateNumbers y s r x = coordinateList (count (sectionsOf b) p) s x y
 
-  sheetBefore : ℕ
-  sheetBefore = refusalBefore hostLimit b p coordinateSlots (length slots) (length work)
+  sheetChecked : List (ℕ × Bool)
+  sheetChecked = callChecks hostLimit b p coordinateSlots (length slots) (length work)
 
   coordinateBefore : List ℤ → ℕ
-  coordinateBefore y = orElse sheetBefore (chainRefusal b p y)
+  coordinateBefore y = first (sheetChecked ++ chainChecks b p y)
 
   answered : List ℤ → HostCalled
   answered y = hostCall (coordinateBefore y) (reductionsOf b p) (coordinateNumbers y) output
 
+  -- the checks 1 to 9 of the library's call decide, or those of the chain
+  before-is : (y : List ℤ) → coordinateBefore y ≡ orElse (first sheetChecked) (first (chainChecks b p y))
+  unfolding coordinateBefore sheetChecked callChecks
+  before-is y = first-append sheetChecked (chainChecks b p y) refl
+
   -- only a sheet that is accepted has its chain read
   same-chain : (k : ℕ) → refusal hostLimit b ≡ k → answered (chainFrom (count (sectionsOf b) p) chain) ≡ answered z
-  unfolding answered coordinateBefore sheetBefore refusalBefore
+  unfolding answered sheetChecked
   same-chain zero e = ap answered (sym (read (counts-within b e p)))
-  same-chain (suc k) e = rw e
+  same-chain (suc k) e =
+      let told = sheet-told hostLimit b p coordinateSlots (length slots) (length work) (λ z. absurd (omega arith)) in
+      rw (before-is (chainFrom (count (sectionsOf b) p) chain), before-is z, told, e)
 
   coordinates-same : hostCoordinates b p chain output ≡ answered z
-  unfolding hostCoordinates answered coordinateBefore sheetBefore coordinateNumbers
+  unfolding hostCoordinates answered sheetChecked coordinateNumbers callChecks
   coordinates-same =
-      ap (λ (n : ℕ). hostCall (orElse n (chainRefusal b p y)) (reductionsOf b p) (coordinateNumbers y) output)
+      ap (λ (n : ℕ). hostCall n (reductionsOf b p) (coordinateNumbers y) output)
+      (first-append (callChecks hostLimit b p coordinateSlots (slotsIn output) (workSlots (sectionsOf b) p)) (chainChecks b p y) refl
+      ∙ ap (λ (n : ℕ). orElse n (first (chainChecks b p y)))
       (sym (same-refusal b p coordinateSlots coordinateRoom (slotsIn output) (length slots) (length work) size space (λ e. counts-within b e p)))
+      ∙ sym (before-is y))
       ∙ same-chain (refusal hostLimit b) refl
     where
       y : List ℤ
       y = chainFrom (count (sectionsOf b) p) chain
 
   pub coordinates-refused : (k : ℕ) → coordinateCall hostLimit b p z slots work .answer ≡ refused k → HostRefused (hostCoordinates b p chain output) k output
-  unfolding coordinateCall answered coordinateBefore sheetBefore coordinateNumbers
+  unfolding coordinateCall answered coordinateBefore sheetChecked coordinateNumbers
   coordinates-refused k e =
       rw coordinates-same (host-refused (coordinateBefore z) (reductionsOf b p) (coordinateNumbers z) slots work output k e)
 
@@ -200,7 +213,7 @@ module _ (b : List ℕ) (p : ℕ) (chain output : List ℕ) (z slots work : List
   pub coordinates-done : {f t : ℕ} (many : ℕ) → coordinateCall hostLimit b p z slots work .answer ≡ done f t → (c : ReducedWith (reductionsOf b p) f t)
       → length (coordinateList (count (sectionsOf b) p) (c .rows) (c .state) z) ≡ many
       → HostDone (hostCoordinates b p chain output) many (coordinateCall hostLimit b p z slots work .output) output
-  unfolding coordinateCall answered coordinateBefore sheetBefore coordinateNumbers
+  unfolding coordinateCall answered coordinateBefore sheetChecked coordinateNumbers
   coordinates-done {f} {t} many e c long =
       let d = call-done (coordinateBefore z) (reductionsOf b p) (coordinateNumbers z) slots work f t e in
       rw coordinates-same (host-done (coordinateBefore z) (reductionsOf b p) (coordinateNumbers z) slots work output many (d .passes) c long)

@@ -14,6 +14,7 @@ pub mod CallLaws
 pub mod HostLaws
 pub mod HostCallLaws
 pub mod DigitsLaws
+pub mod LineLaws
 pub mod TextLaws
 pub mod LimitExamples
 pub mod ReportExamples

@@ -1,104 +1,97 @@
--- The numbers of the refusals before the reduction. `refusalBefore-le`, `chainRefusal-le`: how large they are, which tells them apart
--- (orElse-zero, orElse-above). `refusalBefore-zero`: what the checks 1 to 9 ask.
-use mathlib.Core.Path.{_≡_, refl}
-use mathlib.Core.Logic.{_↔_}
+-- The checks before the reduction. `callChecks-zero`: what the checks 1 to 9 ask. `sheet-told`, `sheet-passed`: the sheet's checks decide, or those after
+-- them; `call-told`, `call-passed`, `call-chain-zero`: the checks 1 to 9 decide, or those of a chain. `callChecks-narrow`, `call-chain-narrow`: none of
+-- them tells 13.
+use mathlib.Core.Path.{_≡_, refl, _∙_}
+use mathlib.Core.Logic.{_↔_, _≢_}
 use mathlib.Core.Bool.{Bool, true, false, _||_, true≢false}
-use mathlib.Core.List.{List}
-use Prim.Native.Nat.{ℕ, zero, suc, _≤_, _<_, zero-le}
+use mathlib.Core.List.{List, [], _∷_, _++_}
+use Prim.Native.Nat.{ℕ, _≤_}
 use native.Mathlib.Omega.{arith}
 use borrow.Author.Tests.{ltb-false, le-ltb}
 use lib.Dec.{ltb}
 use lib.IntN.{ℤ}
 use Rattle.complexes.specs.Complex.{Sections}
 use Rattle.sheet_format.specs.Layout.{top}
-use Rattle.sheet_format.specs.Check.{refuse, refusal, sectionsOf, tooShort, countExceeds, offsetDiffers, lengthDiffers, verticesDoNotRise, cellsDoNotRise, faceMissing}
-use Rattle.sheet_format.specs.CheckLaws.{refuse-zero}
-use Rattle.reports.specs.Call.{orElse, refusalBefore, chainRefusal, workSlots, chainLengthDiffers, coefficientExceeds, boundaryNotZero}
+use Rattle.sheet_format.specs.Check.{first, sheetChecks, refusal, sectionsOf}
+use Rattle.sheet_format.specs.FirstLaws.{first-zero, first-absent, first-append-told, first-append-passed, first-append-zero}
+use Rattle.reports.specs.Call.{callChecks, chainChecks, workSlots}
 
--- ---- the numbers
+or-false : (s t : Bool) → s || t ≡ false → (s ≡ false) × (t ≡ false)
+or-false true t e = (e, absurd (true≢false e))
+or-false false t e = (refl, e)
 
-refuse-le : {most : ℕ} (number : ℕ) (fault : Bool) (later : ℕ) → number ≤ most → later ≤ most → refuse number fault later ≤ most
-refuse-le number true later a b = a
-refuse-le number false later a b = b
-
-pub orElse-le : {most : ℕ} (first later : ℕ) → first ≤ most → later ≤ most → orElse first later ≤ most
-orElse-le zero later a b = b
-orElse-le (suc n) later a b = a
-
-pub refusal-le : (limit : ℕ) (b : List ℕ) → refusal limit b ≤ 7
-unfolding refusal
-refusal-le limit b =
-    refuse-le 1 (tooShort b) _ (omega arith)
-    (refuse-le 2 (countExceeds limit b) _ (omega arith)
-    (refuse-le 3 (offsetDiffers b) _ (omega arith)
-    (refuse-le 4 (lengthDiffers b) _ (omega arith)
-    (refuse-le 5 (verticesDoNotRise (sectionsOf b)) _ (omega arith)
-    (refuse-le 6 (cellsDoNotRise (sectionsOf b)) _ (omega arith)
-    (refuse-le 7 (faceMissing (sectionsOf b)) 0 (omega arith) zero-le))))))
-
-pub refusalBefore-le : (limit : ℕ) (b : List ℕ) (p : ℕ) (slots : Sections → ℕ → ℕ) (output work : ℕ) → refusalBefore limit b p slots output work ≤ 9
-unfolding refusalBefore
-refusalBefore-le limit b p slots output work =
-    orElse-le (refusal limit b) _ (omega (arith, refusal-le limit b))
-    (refuse-le 8 (ltb top p) _ (omega arith)
-    (refuse-le 9 (ltb output (slots (sectionsOf b) p) || ltb work (workSlots (sectionsOf b) p)) 0 (omega arith) zero-le))
-
-pub chainRefusal-le : (b : List ℕ) (p : ℕ) (z : List ℤ) → chainRefusal b p z ≤ 12
-unfolding chainRefusal
-chainRefusal-le b p z =
-    refuse-le 10 (chainLengthDiffers (sectionsOf b) p z) _ (omega arith)
-    (refuse-le 11 (coefficientExceeds z) _ (omega arith)
-    (refuse-le 12 (boundaryNotZero (sectionsOf b) p z) 0 (omega arith) zero-le))
-
-pub orElse-zero : (first later : ℕ) → (orElse first later ≡ 0) ↔ ((first ≡ 0) × (later ≡ 0))
-orElse-zero zero later = (λ e. (refl, e), λ h. h .1)
-orElse-zero (suc n) later = (λ e. absurd (omega arith), λ h. absurd (omega (arith, h .0)))
-
--- a number above all those of the first is told by the second
-pub orElse-above : (first later : ℕ) {most k : ℕ} → first ≤ most → most < k → orElse first later ≡ k → (first ≡ 0) × (later ≡ k)
-orElse-above zero later a b e = (refl, e)
-orElse-above (suc n) later a b e = absurd (omega arith)
-
--- ---- what the checks 1 to 9 ask
-
+-- what the checks 1 to 9 ask
 pub record Passed (limit : ℕ) (b : List ℕ) (p : ℕ) (slots : Sections → ℕ → ℕ) (output work : ℕ) : Type 0 where
   pub accepted : refusal limit b ≡ 0
   pub dimension : p ≤ top
   pub output-slots : slots (sectionsOf b) p ≤ output
   pub work-slots : workSlots (sectionsOf b) p ≤ work
 
-or-false : (s t : Bool) → s || t ≡ false → (s ≡ false) × (t ≡ false)
-or-false true t e = (e, absurd (true≢false e))
-or-false false t e = (refl, e)
+module _ (limit : ℕ) (b : List ℕ) (p : ℕ) (slots : Sections → ℕ → ℕ) (output work : ℕ) where
+  abbrev short : Bool
+  short = ltb output (slots (sectionsOf b) p) || ltb work (workSlots (sectionsOf b) p)
 
-pub refusalBefore-zero : (limit : ℕ) (b : List ℕ) (p : ℕ) (slots : Sections → ℕ → ℕ) (output work : ℕ)
-    → (refusalBefore limit b p slots output work ≡ 0) ↔ Passed limit b p slots output work
-unfolding refusalBefore
-refusalBefore-zero limit b p slots output work = (forward, backward)
-  where
-    K : Sections
-    K = sectionsOf b
+  -- the checks after the sheet's
+  abbrev pub laterChecks : List (ℕ × Bool)
+  laterChecks = (8, ltb top p) ∷ (9, short) ∷ []
 
-    short : Bool
-    short = ltb output (slots K p) || ltb work (workSlots K p)
+  pub sheet-told : refusal limit b ≢ 0 → first (callChecks limit b p slots output work) ≡ refusal limit b
+  unfolding callChecks refusal
+  sheet-told d = first-append-told (sheetChecks limit b) laterChecks refl d
 
-    forward : orElse (refusal limit b) (refuse 8 (ltb top p) (refuse 9 short 0)) ≡ 0 → Passed limit b p slots output work
-    forward e =
-        let k = orElse-zero (refusal limit b) (refuse 8 (ltb top p) (refuse 9 short 0)) .0 e in
-        let d = refuse-zero 7 (ltb top p) (refuse 9 short 0) .0 (k .1) in
-        let l = or-false (ltb output (slots K p)) (ltb work (workSlots K p)) (refuse-zero 8 short 0 .0 (d .1) .0) in
-        record {
-          accepted = k .0;
-          dimension = ltb-false top p (d .0);
-          output-slots = ltb-false output (slots K p) (l .0);
-          work-slots = ltb-false work (workSlots K p) (l .1);
-        }
+  sheet-zero : (first (callChecks limit b p slots output work) ≡ 0) ↔ ((refusal limit b ≡ 0) × (first laterChecks ≡ 0))
+  unfolding callChecks refusal
+  sheet-zero = first-append-zero (sheetChecks limit b) laterChecks refl
 
-    backward : Passed limit b p slots output work → orElse (refusal limit b) (refuse 8 (ltb top p) (refuse 9 short 0)) ≡ 0
-    backward h =
-        rw (
-          h .accepted,
-          le-ltb top p (h .dimension),
-          le-ltb output (slots K p) (h .output-slots),
-          le-ltb work (workSlots K p) (h .work-slots),
-        )
+  pub sheet-passed : refusal limit b ≡ 0 → first (callChecks limit b p slots output work) ≡ first laterChecks
+  unfolding callChecks refusal
+  sheet-passed e = first-append-passed (sheetChecks limit b) laterChecks refl e
+
+  pub callChecks-zero : (first (callChecks limit b p slots output work) ≡ 0) ↔ Passed limit b p slots output work
+  callChecks-zero = (forward, backward)
+    where
+      forward : first (callChecks limit b p slots output work) ≡ 0 → Passed limit b p slots output work
+      forward e =
+          let k = sheet-zero .0 e in
+          let (dimension, (long, _)) = first-zero laterChecks refl .0 (k .1) in
+          let l = or-false (ltb output (slots (sectionsOf b) p)) (ltb work (workSlots (sectionsOf b) p)) long in
+          record {
+            accepted = k .0;
+            dimension = ltb-false top p dimension;
+            output-slots = ltb-false output (slots (sectionsOf b) p) (l .0);
+            work-slots = ltb-false work (workSlots (sectionsOf b) p) (l .1);
+          }
+
+      backward : Passed limit b p slots output work → first (callChecks limit b p slots output work) ≡ 0
+      backward h =
+          sheet-passed (h .accepted)
+          ∙ rw (
+            le-ltb top p (h .dimension),
+            le-ltb output (slots (sectionsOf b) p) (h .output-slots),
+            le-ltb work (workSlots (sectionsOf b) p) (h .work-slots),
+          )
+
+  pub callChecks-narrow : first (callChecks limit b p slots output work) ≢ 13
+  unfolding callChecks
+  callChecks-narrow = first-absent 13 (callChecks limit b p slots output work) (λ e. absurd (omega arith)) refl
+
+  module _ (z : List ℤ) where
+    pub call-told : first (callChecks limit b p slots output work) ≢ 0
+        → first (callChecks limit b p slots output work ++ chainChecks b p z) ≡ first (callChecks limit b p slots output work)
+    unfolding callChecks
+    call-told d = first-append-told (callChecks limit b p slots output work) (chainChecks b p z) refl d
+
+    pub call-passed : first (callChecks limit b p slots output work) ≡ 0
+        → first (callChecks limit b p slots output work ++ chainChecks b p z) ≡ first (chainChecks b p z)
+    unfolding callChecks
+    call-passed e = first-append-passed (callChecks limit b p slots output work) (chainChecks b p z) refl e
+
+    pub call-chain-zero : (first (callChecks limit b p slots output work ++ chainChecks b p z) ≡ 0)
+        ↔ ((first (callChecks limit b p slots output work) ≡ 0) × (first (chainChecks b p z) ≡ 0))
+    unfolding callChecks
+    call-chain-zero = first-append-zero (callChecks limit b p slots output work) (chainChecks b p z) refl
+
+    pub call-chain-narrow : first (callChecks limit b p slots output work ++ chainChecks b p z) ≢ 13
+    unfolding callChecks chainChecks
+    call-chain-narrow =
+        first-absent 13 (callChecks limit b p slots output work ++ chainChecks b p z) (λ e. absurd (omega arith)) refl

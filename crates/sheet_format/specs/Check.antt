@@ -75,18 +75,24 @@ unfoldable pub faceMissing : Sections → Bool
 faceMissing K =
     some top (λ p. some (count K (suc p)) (λ i. some (suc (suc p)) (λ j. not (listed (without j (cell K (suc p) i)) (section K p)))))
 
--- `number` if the check tells a fault, else what the later checks answer
-abbrev pub refuse : ℕ → Bool → ℕ → ℕ
-refuse number true later = number
-refuse number false later = later
+-- ---- the order of trial
+
+-- the number of the first check that tells a fault, 0 for none; a check is a number and whether it tells one
+abbrev pub first : List (ℕ × Bool) → ℕ
+first [] = 0
+first (check ∷ later) = cond (check .1) (check .0) (first later)
+
+-- the checks of the sheet b at the count limit
+abbrev pub sheetChecks : ℕ → List ℕ → List (ℕ × Bool)
+sheetChecks limit b =
+    (1, tooShort b)
+    ∷ (2, countExceeds limit b)
+    ∷ (3, offsetDiffers b)
+    ∷ (4, lengthDiffers b)
+    ∷ (5, verticesDoNotRise (sectionsOf b))
+    ∷ (6, cellsDoNotRise (sectionsOf b))
+    ∷ (7, faceMissing (sectionsOf b)) ∷ []
 
 -- the number of the first refusal that applies to the sheet b at the count limit, 0 if it is accepted
 unfoldable pub refusal : ℕ → List ℕ → ℕ
-refusal limit b =
-    refuse 1 (tooShort b)
-    (refuse 2 (countExceeds limit b)
-    (refuse 3 (offsetDiffers b)
-    (refuse 4 (lengthDiffers b)
-    (refuse 5 (verticesDoNotRise (sectionsOf b))
-    (refuse 6 (cellsDoNotRise (sectionsOf b))
-    (refuse 7 (faceMissing (sectionsOf b)) 0))))))
+refusal limit b = first (sheetChecks limit b)

@@ -17,7 +17,8 @@ use Rattle.complexes.specs.Cell.{Cell, without, rises, precedes, listed, Listed
 use Rattle.complexes.specs.Complex.{Sections, section, count, cell}
 use Rattle.complexes.specs.CellLaws.{listed-true, Listed-listed}
 use Rattle.sheet_format.specs.Layout.{top, headerLength}
-use Rattle.sheet_format.specs.Check.{countField, offsetField, startAt, sectionsOf, some, refuse, refusal, tooShort, countExceeds, offsetDiffers, lengthDiffers, verticesDoNotRise, cellsDoNotRise, faceMissing}
+use Rattle.sheet_format.specs.Check.{countField, offsetField, startAt, sectionsOf, some, sheetChecks, refusal, tooShort, countExceeds, offsetDiffers, lengthDiffers, verticesDoNotRise, cellsDoNotRise, faceMissing}
+use Rattle.sheet_format.specs.FirstLaws.{first-zero}
 
 -- ---- some
 
@@ -171,11 +172,7 @@ faceMissing-false K = (
     dims : faceMissing K ≡ false ↔ ((p : ℕ) → p < top → some (count K (suc p)) (λ i. some (suc (suc p)) (missing p i)) ≡ false)
     dims = some-false top (λ p. some (count K (suc p)) (λ i. some (suc (suc p)) (missing p i)))
 
--- ---- refuse
-
-pub refuse-zero : (number : ℕ) (fault : Bool) (later : ℕ) → refuse (suc number) fault later ≡ 0 ↔ (fault ≡ false) × (later ≡ 0)
-refuse-zero number true later = (λ e. absurd (suc-ne-zero number e), λ k. absurd (true≢false (k .0)))
-refuse-zero number false later = (λ e. (refl, e), λ k. k .1)
+-- ---- acceptance
 
 -- none of the seven checks tells a fault
 pub record Passes (limit : ℕ) (b : List ℕ) : Type 0 where
@@ -193,14 +190,8 @@ refusal-zero limit b = (to, from)
   where
     to : refusal limit b ≡ 0 → Passes limit b
     to e =
-        let k₁ = refuse-zero 0 (tooShort b) _ .0 e in
-        let k₂ = refuse-zero 1 (countExceeds limit b) _ .0 (k₁ .1) in
-        let k₃ = refuse-zero 2 (offsetDiffers b) _ .0 (k₂ .1) in
-        let k₄ = refuse-zero 3 (lengthDiffers b) _ .0 (k₃ .1) in
-        let k₅ = refuse-zero 4 (verticesDoNotRise (sectionsOf b)) _ .0 (k₄ .1) in
-        let k₆ = refuse-zero 5 (cellsDoNotRise (sectionsOf b)) _ .0 (k₅ .1) in
-        let k₇ = refuse-zero 6 (faceMissing (sectionsOf b)) _ .0 (k₆ .1) in
-        record { long = k₁ .0; counts = k₂ .0; offsets = k₃ .0; ends = k₄ .0; vertices = k₅ .0; cells = k₆ .0; faces = k₇ .0 }
+        let (long, (counts, (offsets, (ends, (vertices, (cells, (faces, _))))))) = first-zero (sheetChecks limit b) refl .0 e in
+        record { long = long; counts = counts; offsets = offsets; ends = ends; vertices = vertices; cells = cells; faces = faces }
 
     from : Passes limit b → refusal limit b ≡ 0
     from k = rw (k .long, k .counts, k .offsets, k .ends, k .vertices, k .cells, k .faces)

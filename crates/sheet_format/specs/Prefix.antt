@@ -4,25 +4,29 @@
 --     refusal-take     the refusal of a sheet is that of its first n bytes, for every n above `longest`
 use mathlib.Core.Path.{_≡_, refl, sym, ap, _∙_, ap₂}
 use mathlib.Core.Bool.{Bool, true, false, not}
-use mathlib.Core.List.{List}
+use mathlib.Core.List.{List, [], _∷_}
 use Prim.Native.Nat.{ℕ, suc, _+_, _*_, _≤_, _<_}
 use native.Mathlib.Nat.{le-of-suc-le-suc}
 use native.Mathlib.Decide.{decLe}
 use native.Mathlib.Omega.{arith}
 use lib.Dec.{eqb, ltb}
-use lib.ListN.{length, take}
+use lib.ListN.{length, take, drop}
 use lib.Seq.{length-take-le, take-all, getD-take}
 use borrow.Author.Tests.{le-ltb, ne-eqb}
 use Rattle.sheet_format.specs.Layout.{top, headerLength, longest}
-use Rattle.sheet_format.specs.Check.{fieldAt, countField, offsetField, startAt, countExceeds, offsetDiffers, lengthDiffers, refuse, refusal}
+use Rattle.sheet_format.specs.Check.{fieldAt, countField, offsetField, startAt, countExceeds, offsetDiffers, lengthDiffers, first, sheetChecks, refusal}
 use Rattle.sheet_format.specs.CheckLaws.{some-ext, countExceeds-false, lengthDiffers-false, refusal-zero}
 use Rattle.sheet_format.specs.SheetLaws.{countField-in, countField-out, start-ext, start-le}
 
 -- ---- a longer sheet
 
-fourth : (x y z : Bool) (later : ℕ) → (x ≡ false → z ≡ true) → refuse 2 x (refuse 3 y (refuse 4 z later)) ≡ refuse 2 x (refuse 3 y 4)
+-- the checks 2 to 4, where 4 tells a fault
+abbrev upTo4 : Bool → Bool → List (ℕ × Bool)
+upTo4 counts offsets = (2, counts) ∷ (3, offsets) ∷ (4, true) ∷ []
+
+fourth : (x y z : Bool) (later : List (ℕ × Bool)) → (x ≡ false → z ≡ true) → first ((2, x) ∷ (3, y) ∷ (4, z) ∷ later) ≡ first (upTo4 x y)
 fourth true y z later h = refl
-fourth false y z later h = ap (λ (t : Bool). refuse 3 y (refuse 4 t later)) (h refl)
+fourth false y z later h = ap (λ (t : Bool). first ((3, y) ∷ (4, t) ∷ later)) (h refl)
 
 start-longest : (limit : ℕ) (b : List ℕ) → countExceeds limit b ≡ false → startAt b (suc top) ≤ longest limit
 start-longest limit b e = start-le (countField b) limit (suc top) (λ p l. countExceeds-false limit b .0 e p (le-of-suc-le-suc l))
@@ -37,11 +41,11 @@ length-long limit b h e =
     ap not (ne-eqb (length b) (startAt b (suc top)) (λ q. omega (arith, start-longest limit b e)))
 
 pub refusal-long : (limit : ℕ) (b : List ℕ) → longest limit < length b
-    → refusal limit b ≡ refuse 2 (countExceeds limit b) (refuse 3 (offsetDiffers b) 4)
+    → refusal limit b ≡ first (upTo4 (countExceeds limit b) (offsetDiffers b))
 unfolding refusal
 refusal-long limit b h =
     rw (le-ltb (length b) headerLength (omega arith))
-    (fourth (countExceeds limit b) (offsetDiffers b) (lengthDiffers b) _ (length-long limit b h))
+    (fourth (countExceeds limit b) (offsetDiffers b) (lengthDiffers b) (drop 4 (sheetChecks limit b)) (length-long limit b h))
 
 -- ---- the first bytes
 
@@ -79,5 +83,5 @@ refusal-take limit b n h = pick (decLe (length b) n)
     pick (yes l) = ap (refusal limit) (take-all n b l)
     pick (no l) =
         refusal-long limit (take n b) (omega (arith, length-take-le n b (omega arith)))
-        ∙ ap₂ (λ x y. refuse 2 x (refuse 3 y 4)) (countExceeds-take n b (omega arith) limit) (offsetDiffers-take n b (omega arith))
+        ∙ ap₂ (λ x y. first (upTo4 x y)) (countExceeds-take n b (omega arith) limit) (offsetDiffers-take n b (omega arith))
         ∙ sym (refusal-long limit b (omega arith))

@@ -19,7 +19,7 @@ use Rattle.reduction_steps.specs.Pivot.{better, alongRow, downRows, release1}
 use Rattle.reduction_steps.specs.Step.{columnKeeps, rowKeeps, rowIndivisible, firstIndivisible, positive, bring, quotient, rowPass, columnPass, next, step, run, reduce}
 use Rattle.reports.specs.Reductions.{firstStart, product, secondStart, afterSecond, second, afterFirst, reductions}
 use Rattle.reports.specs.Report.{reported, columnsOf, torsionCount, reportList, coordinateAt, coordinateList}
-use Rattle.reports.specs.Call.{coefficientExceeds, boundaryNotZero, refusalBefore, chainRefusal, finished, reductionsOf, reportCall, coordinateCall}
+use Rattle.reports.specs.Call.{coefficientExceeds, boundaryNotZero, callChecks, chainChecks, finished, reductionsOf, reportCall, coordinateCall}
 use Rattle.starred.specs.Same.{sameSlice, sameAnswer, sameCalled}
 use Rattle.starred.specs.Case.{Case, answered, good}
 use Rattle.starred.specs.DoneCases.{noCellsCases, reportCases, coordinateCases}
@@ -31,7 +31,7 @@ cases = noCellsCases ++ (reportCases ++ (coordinateCases ++ (sheetCases ++ (dime
 
 pub starred-sheets-and-calls : T (every good cases)
 unfolding every good sameCalled sameAnswer sameSlice sameList sameNumber
-    answered reportCall coordinateCall refusalBefore chainRefusal coefficientExceeds boundaryNotZero reductionsOf finished
+    answered reportCall coordinateCall callChecks chainChecks coefficientExceeds boundaryNotZero reductionsOf finished
     refusal countField offsetField cellOf cellsOf sectionsOf some verticesDoNotRise cellsDoNotRise faceMissing without same rises precedes listed start
     reductions firstStart afterFirst second product secondStart afterSecond countBelow boundary coefficient sign
     reduce run step next bring positive quotient rowPass columnPass columnKeeps rowKeeps rowIndivisible firstIndivisible

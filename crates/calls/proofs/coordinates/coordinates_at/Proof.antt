@@ -8,10 +8,10 @@ use denote.Ref.{now}
 use lib.ListN.{length}
 use Rattle.complexes.specs.Complex.{Complex, count}
 use Rattle.sheet_format.specs.Layout.{top}
-use Rattle.sheet_format.specs.Check.{sectionsOf, refusal}
+use Rattle.sheet_format.specs.Check.{sectionsOf, first, refusal}
 use Rattle.sheet_format.specs.SheetLaws.{count-sectionsOf}
 use Rattle.sheet.specs.Number.{readingNumber}
-use Rattle.reports.specs.Call.{coordinateSlots, workSlots, reductionsOf, coefficientExceeds, chainRefusal}
+use Rattle.reports.specs.Call.{coordinateSlots, workSlots, reductionsOf, coefficientExceeds, chainChecks}
 use Rattle.limits.specs.Limits.{libraryLimit}
 use Rattle.reports.specs.RefusalLaws.{Passed}
 use Rattle.boundaries.specs.Face.{Accepted}
@@ -185,7 +185,7 @@ module _ (c : tie.Else6) where
   abbrev checked : tie.Else3
   checked = sized fifth .before
 
-  chain : chainRefusal (now (entered checked .args .s)) (entered checked .args .dimension) (now (entered checked .args .chain)) ≡ 0
+  chain : first (chainChecks (now (entered checked .args .s)) (entered checked .args .dimension) (now (entered checked .args .chain))) ≡ 0
   chain =
       let a = entered checked .args in
       chain-passed (now (a .s)) (a .dimension) (now (a .chain)) (size (sized fifth)) (narrow fifth)
