@@ -34,7 +34,7 @@ def main():
     """Prints a line for each sheet."""
     parser = argparse.ArgumentParser(description=__doc__)
     parser.add_argument("sheets", nargs="+", metavar="FILE.sheet", type=Path)
-    print(f"{'sheet':24} {'operations':>10} {'quotient 0':>10} {'returns':>8} {'depth':>6}")
+    print(f"{'sheet':18} {'operations':>10} {'quotient 0':>10} {'returns':>8} {'depth':>6}")
     for path in parser.parse_args().sheets:
         totals = Counter()
         reduction.Reduction.run = counted_run(totals)
@@ -43,7 +43,7 @@ def main():
                 homology.report(path.read_bytes(), p)
             except Refused:
                 pass
-        print(f"{path.name:24} {totals['operations']:10} {totals['idle']:10} {totals['returns']:8} {totals['depth']:6}")
+        print(f"{path.stem:18} {totals['operations']:10} {totals['idle']:10} {totals['returns']:8} {totals['depth']:6}")
 
 
 if __name__ == "__main__":

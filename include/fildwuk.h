@@ -1,6 +1,6 @@
 /* Fildwuk: verified homology of conductor meshes. The host calls of document 01.
  *
- * Link with libfildwuk.a, which `rt staticlib fildwuk` writes to target/staticlib/.
+ * Link with libfildwuk.a: `pkg-config --cflags --libs fildwuk` after `bash install PREFIX`, or target/staticlib/ after `rt staticlib fildwuk`.
  *
  * Every pointer is lent for the time of the call and not kept. A call reads `sheet` and `chain`, and writes nothing but its output. The output
  * must not overlap the sheet or the chain, and nobody else may write to any of them while the call runs. No pointer may be null, also where its
