@@ -13,7 +13,7 @@ use Rattle.matrices.specs.Matrix as theory
 use Rattle.lines.specs.Slice.{Small}
 use Rattle.lines.specs.Matrices.{contents, Holds}
 use Rattle.lines.specs.declared.matrix.Matrix.{Matrix}
-use Rattle.boundaries.specs.Face.{ColumnFilled}
+use Rattle.boundaries.specs.Column.{ColumnFilled}
 
 abbrev pub leftOf : ℕ → theory.Matrix → theory.Matrix → theory.Matrix
 leftOf j A B a b = cond (ltb b j) (A a b) (B a b)

@@ -16,8 +16,8 @@ use Rattle.sheet_format.specs.Check.{sectionsOf}
 use Rattle.lines.specs.Slice.{at, lineAt}
 use Rattle.lines.specs.Matrices.{contents, end, Off}
 use Rattle.lines.specs.declared.matrix.Matrix.{Matrix}
-use Rattle.boundaries.specs.Face.{AreFaces}
-use Rattle.boundaries.proofs.Sums.{sum-places}
+use Rattle.faces.specs.Face.{AreFaces}
+use Rattle.faces.proofs.Sums.{sum-places}
 
 -- the matrix q of a slice times the boundary matrix of dimension p + 1
 abbrev pub product : List ℕ → ℕ → Matrix → List ℤ → theory.Matrix

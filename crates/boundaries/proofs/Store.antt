@@ -15,7 +15,7 @@ use Rattle.lines.specs.Matrices.{Held, contents, Off, Holds}
 use Rattle.lines.specs.declared.matrix.Matrix.{Matrix}
 use Rattle.lines.proofs.Store.{at-set-same, at-set-other, small-set}
 use Rattle.lines.proofs.Spans.{Span, span-inside, span-off, span-outside}
-use Rattle.boundaries.specs.Face.{ColumnFilled}
+use Rattle.boundaries.specs.Column.{ColumnFilled}
 
 -- the place of entry i, j of M
 pub record Place (M : Matrix) (n i j place : ℕ) : Type 0 where

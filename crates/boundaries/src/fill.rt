@@ -9,9 +9,10 @@ ghost use Rattle.sheet_format.specs.Layout.{top};
 ghost use Rattle.sheet_format.specs.Check.{sectionsOf};
 ghost use Rattle.lines.specs.Slice.{Small};
 ghost use Rattle.lines.specs.Matrices.{Held, contents, Holds};
-ghost use Rattle.boundaries.specs.Face.{Accepted, ColumnFilled};
-use crate::face::face_place;
-use crate::face::sign;
+ghost use Rattle.faces.specs.Face.{Accepted};
+ghost use Rattle.boundaries.specs.Column.{ColumnFilled};
+use faces::face::face_place;
+use faces::face::sign;
 use lines::matrix::Matrix;
 
 // Writes column j of the boundary matrix of dimension p + 1.

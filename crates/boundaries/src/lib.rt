@@ -1,5 +1,3 @@
-// Boundary matrices of an accepted sheet: their entries in a work slice, a product with one, and the boundary of a chain.
-pub mod chain;
-pub mod face;
+// Boundary matrices of an accepted sheet: their entries in a work slice, and a product with one.
 pub mod fill;
 pub mod product;

@@ -12,10 +12,11 @@ ghost use Rattle.sheet_format.specs.Layout.{top};
 ghost use Rattle.sheet_format.specs.Check.{sectionsOf};
 ghost use Rattle.lines.specs.Slice.{Small, at};
 ghost use Rattle.lines.specs.Matrices.{Held, contents, end, Became};
-ghost use Rattle.boundaries.specs.Face.{Accepted, ColumnBecame};
-use crate::face::FACES;
-use crate::face::face_places;
-use crate::face::sign;
+ghost use Rattle.faces.specs.Face.{Accepted};
+ghost use Rattle.boundaries.specs.Column.{ColumnBecame};
+use faces::face::FACES;
+use faces::face::face_places;
+use faces::face::sign;
 use lines::line::Effect;
 use lines::matrix::Matrix;
 

@@ -34,7 +34,8 @@ use Rattle.refusal.specs.declared.Refusal.{Refusal}
 use Rattle.refusal.specs.declared.Refusal.the-variants as refusal
 use Rattle.operations.specs.Laid.{Laid, stateOf}
 use Rattle.operations.specs.declared.layout.Layout.{Layout}
-use Rattle.reducer.specs.Answer.{Cleared, StillSmall, Reduces, ReductionDone, ReductionRefused, reductionOf}
+use Rattle.passes.specs.Answer.{Cleared, StillSmall}
+use Rattle.reducer.specs.Answer.{Reduces, ReductionDone, ReductionRefused, reductionOf}
 use Rattle.reducer.specs.declared.reduction.Reduction.{Reduction}
 use Rattle.reducer.specs.declared.reduction.Reduction.the-variants as reduction
 use Rattle.writers.specs.declared.reduced.Reduced.{Reduced}

@@ -16,10 +16,10 @@ use Rattle.sheet_format.specs.Accept.{accepted-complex}
 use Rattle.sheet_format.specs.Check.{countField, sectionsOf, refusal}
 use Rattle.sheet_format.specs.CheckLaws.{Passes, refusal-zero, countExceeds-false}
 use Rattle.sheet_format.specs.SheetLaws.{count-sectionsOf}
-use Rattle.sheet.specs.Read.{ReadsBelow}
+use Rattle.fields.specs.Read.{ReadsBelow}
 use Rattle.reports.specs.Call.{workSlots}
 use Rattle.limits.specs.Limits.{libraryLimit}
-use Rattle.boundaries.specs.Face.{Accepted}
+use Rattle.faces.specs.Face.{Accepted}
 use Rattle.operations.specs.Layouts.{firstLayout, secondLayout}
 use Rattle.calls.specs.Slices.{firstLayoutOf, secondLayoutOf}
 

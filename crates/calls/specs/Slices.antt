@@ -12,7 +12,7 @@ use Rattle.reports.specs.Reductions.{firstStart}
 use Rattle.operations.specs.Laid.{stateOf}
 use Rattle.operations.specs.Layouts.{firstLayout, secondLayout}
 use Rattle.operations.specs.declared.layout.Layout.{Layout}
-use Rattle.reducer.specs.Answer.{Cleared, StillSmall}
+use Rattle.passes.specs.Answer.{Cleared, StillSmall}
 use Rattle.writers.specs.declared.reduced.Reduced.{Reduced}
 use Rattle.calls.specs.declared.reductions.Reductions.{Reductions}
 use Rattle.calls.specs.declared.reductions.Reductions.the-variants.{Done, Refused}

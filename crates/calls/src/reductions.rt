@@ -3,22 +3,22 @@ ghost use mathlib.Core.Path.{_≡_};
 ghost use Prim.Native.Nat.{_≤_};
 ghost use lib.ListN.{length};
 ghost use Rattle.complexes.specs.Boundary.{countBelow};
-ghost use Rattle.sheet.specs.Read.{ReadsBelow};
+ghost use Rattle.fields.specs.Read.{ReadsBelow};
 ghost use Rattle.sheet_format.specs.Layout.{top};
 ghost use Rattle.sheet_format.specs.Check.{sectionsOf};
 ghost use Rattle.reports.specs.Call.{workSlots, reductionsOf};
-ghost use Rattle.boundaries.specs.Face.{Accepted};
+ghost use Rattle.faces.specs.Face.{Accepted};
 ghost use Rattle.calls.specs.Slices.{firstLayoutOf, Filled, TwiceReduced};
 use boundaries::fill::fill_boundary;
 use boundaries::fill::fill_identity;
 use boundaries::product::multiply;
+use fields::field::count;
 use lines::line::Effect;
 use lines::line::clear;
 use operations::layout::Layout;
 use reducer::reduction::Reduction;
 use reducer::reduction::reduce_matrix;
 use refusal::Refusal;
-use sheet::field::count;
 use writers::reduced::Reduced;
 
 pub enum Reductions {

@@ -10,10 +10,10 @@ use calls::coordinates::coordinates_at;
 use calls::report::report_at;
 use calls::slots::REPORT_SLOTS;
 use calls::slots::WORK_SLOTS;
+use fields::field::count;
 use little_endian::read_chain;
 use little_endian::smaller;
 use little_endian::write_numbers;
-use sheet::field::count;
 use sheet::reader::Sheet;
 
 // The slots of the coefficients and coordinates.

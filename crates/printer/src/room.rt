@@ -1,6 +1,6 @@
 // The bytes of a sheet within the host limit, and of its text.
-use sheet::field::HEADER_LENGTH;
-use sheet::field::TOP;
+use fields::field::HEADER_LENGTH;
+use fields::field::TOP;
 use sheet::reader::Sheet;
 
 const CELLS: usize = Sheet::HOST_LIMIT;

@@ -1,10 +1,6 @@
--- What the proofs of the crate share: the state that a slice holds (`States`), what the code reads of it (`Words`, `Tests`), the steps of a stage
--- (`Brings`, `Passes`, `Measures`, `Stages`), and the loop over the stages (`Reductions`).
-pub mod States
+-- What the proofs of the crate share: what the tests of a stage read (`Tests`), the steps of a stage (`Measures`, `Stages`), and the loop over the
+-- stages (`Reductions`).
 mod Tests
-mod Words
-mod Brings
-mod Passes
 mod Measures
 mod Stages
 mod Reductions

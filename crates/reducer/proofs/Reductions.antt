@@ -18,9 +18,10 @@ use Rattle.operations.specs.Laid.{Laid, sizesOf, stateOf}
 use Rattle.operations.specs.declared.layout.Layout.{Layout}
 use Rattle.reducer.specs.declared.stage.Stage.{Stage}
 use Rattle.reducer.specs.declared.stage.Stage.the-variants as stage
-use Rattle.reducer.specs.Answer.{matrixOf, Begun, sizeAt, chosenSize, reductionOf, Goes, ChoiceEnds, ReductionDone, ReductionRefused}
-use Rattle.reducer.proofs.States.{entry-state, shaped-state, within-state}
-use Rattle.reducer.proofs.Words.{small-entry}
+use Rattle.passes.specs.Answer.{matrixOf}
+use Rattle.reducer.specs.Answer.{Begun, sizeAt, chosenSize, reductionOf, Goes, ChoiceEnds, ReductionDone, ReductionRefused}
+use Rattle.passes.proofs.States.{entry-state, shaped-state, within-state}
+use Rattle.passes.proofs.Words.{small-entry}
 
 -- from the slice w₀ the reduction has come to letter a of stage k with the slice w
 pub record Reducing (W : Layout) (w₀ : List ℤ) (k : ℕ) (w : List ℤ) : Type 0 where

@@ -28,12 +28,13 @@ use Rattle.refusal.specs.declared.Refusal.{Refusal}
 use Rattle.refusal.specs.declared.Refusal.the-variants as refusal
 use Rattle.operations.specs.Laid.{Laid, sizesOf, stateOf}
 use Rattle.operations.specs.declared.layout.Layout.{Layout}
-use Rattle.reducer.specs.declared.pass.Pass.{Pass}
-use Rattle.reducer.specs.declared.pass.Pass.the-variants as pass
+use Rattle.passes.specs.declared.pass.Pass.{Pass}
+use Rattle.passes.specs.declared.pass.Pass.the-variants as pass
 use Rattle.reducer.specs.declared.stage.Stage.{Stage}
 use Rattle.reducer.specs.declared.stage.Stage.the-variants as stage
-use Rattle.reducer.specs.Answer.{matrixOf, RowsDone, Begun, Placed, ColumnClear, chosenSize, pivotSize, bringOf, rowPassOf, columnPassOf, Passed, PassMade, PassRefused, Goes, StageCleared, StageAgain, StageExhausted, StageRefused, StageEnds}
-use Rattle.reducer.proofs.States.{entry-state, shaped-state, rowsDone-moves}
+use Rattle.passes.specs.Answer.{matrixOf, RowsDone, Placed, ColumnClear, bringOf, rowPassOf, columnPassOf, Passed, PassMade, PassRefused}
+use Rattle.reducer.specs.Answer.{Begun, chosenSize, pivotSize, Goes, StageCleared, StageAgain, StageExhausted, StageRefused, StageEnds}
+use Rattle.passes.proofs.States.{laid-kept, entry-state, shaped-state, rowsDone-moves}
 use Rattle.reducer.proofs.Tests.{columnKeeps-cong, rowKeeps-cong, firstIndivisible-cong}
 use Rattle.reducer.proofs.Measures.{columnCalls, calls-fall, chosen-at, smaller-chosen}
 
@@ -97,10 +98,6 @@ again {W} {k} {w} h rounds e = record {
   falls = omega arith;
   same-length = refl;
 }
-
--- the layout after an operation or a pass
-pub laid-kept : {W : Layout} {n : ℕ} (w′ : List ℤ) → Laid n W → length w′ ≡ n → Laid (length w′) W
-laid-kept {W} w′ h l = subst (λ (n : ℕ). Laid n W) (sym l) h
 
 -- what a pass answered
 pub passed-made : {W : Layout} {o : Outcome} {n : ℕ} {r : Pass} {w′ : List ℤ} → r ≡ pass.Made → Passed W o n r w′ → PassMade W o n w′

@@ -1,23 +1,18 @@
--- What the passes, a stage and the whole reduction answer and leave in the slice, and what a stage starts from at each of its letters.
+-- What a stage and the whole reduction answer and leave in the slice, and what a stage starts from. `Placed` and `ColumnClear`, from which the passes
+-- start, stand in crate `passes`.
 use mathlib.Core.Path.{_≡_}
 use mathlib.Core.List.{List}
-use Prim.Native.Nat.{ℕ, suc, _+_, _-_, _≤_}
-use lib.ListN.{length, replicate}
-use lib.IntN.{ℤ, pos, natAbs}
+use Prim.Native.Nat.{ℕ, suc, _+_, _≤_}
+use lib.ListN.{length}
+use lib.IntN.{ℤ, natAbs}
 use Rattle.matrices.specs.Matrix.{Matrix}
-use Rattle.reduction_steps.specs.Table.{entry}
-use Rattle.reduction_steps.specs.State.{Outcome, made, tooWide}
 use Rattle.reduction_steps.specs.Pivot.{Choice, none, place, release1}
-use Rattle.reduction_steps.specs.Step.{Letter, Machine, at, done, wide, a, bring, rowPass, columnPass, reduce, Reaches}
-use Rattle.reduction_laws.specs.StageLaws as stage-laws
-use Rattle.reduction_laws.specs.Letters.{ReadyC, ReadyD}
+use Rattle.reduction_steps.specs.Step.{Letter, Machine, at, done, wide, a, reduce, Reaches}
 use Rattle.lines.specs.Slice.{limit, Small}
-use Rattle.refusal.specs.Number.{numberOf}
 use Rattle.refusal.specs.declared.Refusal.{Refusal}
 use Rattle.operations.specs.Laid.{Laid, sizesOf, stateOf}
 use Rattle.operations.specs.declared.layout.Layout.{Layout}
-use Rattle.reducer.specs.declared.pass.Pass.{Pass}
-use Rattle.reducer.specs.declared.pass.Pass.the-variants as pass
+use Rattle.passes.specs.Answer.{matrixOf, RowsDone, Cleared, StillSmall}
 use Rattle.reducer.specs.declared.stage.Stage.{Stage}
 use Rattle.reducer.specs.declared.stage.Stage.the-variants as stage
 use Rattle.reducer.specs.declared.reduction.Reduction.{Reduction}
@@ -25,34 +20,12 @@ use Rattle.reducer.specs.declared.reduction.Reduction.the-variants as re
 
 -- ---- what a stage starts from
 
--- the matrix that the slice w holds
-abbrev pub matrixOf : Layout → List ℤ → Matrix
-matrixOf W w = entry (stateOf W w .matrix)
-
--- the rows above k are finished: they have no nonzero entry from column k on
-abbrev pub RowsDone : Layout → ℕ → List ℤ → Type 0
-RowsDone W k w = stage-laws.RowsDone (W .matrix .width) k (matrixOf W w)
-
 -- letter a of stage k
 pub record Begun (W : Layout) (k : ℕ) (w : List ℤ) : Type 0 where
   pub laid : Laid (length w) W
   pub small : Small w
   pub row-bound : k ≤ W .matrix .lines
   pub column-bound : k ≤ W .matrix .width
-  pub rows-done : RowsDone W k w
-
--- letter c: the pivot is positive
-pub record Placed (W : Layout) (k : ℕ) (w : List ℤ) : Type 0 where
-  pub laid : Laid (length w) W
-  pub small : Small w
-  pub ready : ReadyC (sizesOf W) k (stateOf W w)
-  pub rows-done : RowsDone W k w
-
--- letter d: column k is zero off the pivot
-pub record ColumnClear (W : Layout) (k : ℕ) (w : List ℤ) : Type 0 where
-  pub laid : Laid (length w) W
-  pub small : Small w
-  pub ready : ReadyD (sizesOf W) k (stateOf W w)
   pub rows-done : RowsDone W k w
 
 -- ---- absolute values that fall within stage k
@@ -70,48 +43,13 @@ chosenSize W k w = sizeAt (matrixOf W w) (release1 (W .matrix .lines) (W .matrix
 abbrev pub pivotSize : Layout → ℕ → List ℤ → ℕ
 pivotSize W k w = natAbs (matrixOf W w k k)
 
--- ---- what the steps make of the slice w
-
--- step b, for the entry at (i, j)
-abbrev pub bringOf : Layout → ℕ → ℕ → ℕ → List ℤ → Outcome
-bringOf W k i j w = bring limit (sizesOf W) k i j (stateOf W w)
-
--- step c
-abbrev pub rowPassOf : Layout → ℕ → List ℤ → Outcome
-rowPassOf W k w = rowPass limit (sizesOf W) k (W .matrix .lines - suc k) (suc k) (stateOf W w)
-
--- step d
-abbrev pub columnPassOf : Layout → ℕ → List ℤ → Outcome
-columnPassOf W k w = columnPass limit (sizesOf W) k (W .matrix .width - suc k) (suc k) (stateOf W w)
+-- ---- what the reduction makes of the slice w
 
 -- the whole reduction by the pivot rule of release 1
 abbrev pub reductionOf : Layout → List ℤ → Machine
 reductionOf W w = reduce limit (sizesOf W) release1 (stateOf W w)
 
 -- ---- what is answered
-
--- refusal 13, and the slice of length n reads 0 throughout
-pub record Cleared (n : ℕ) (x : Refusal) (w′ : List ℤ) : Type 0 where
-  pub number : numberOf x ≡ 13
-  pub zeros : w′ ≡ replicate n (pos 0)
-
--- the slice still has its length, and every entry lies within the limit
-pub record StillSmall (n : ℕ) (w′ : List ℤ) : Type 0 where
-  pub same-length : length w′ ≡ n
-  pub small : Small w′
-
--- a pass that comes to the outcome o
-pub record PassMade (W : Layout) (o : Outcome) (n : ℕ) (w′ : List ℤ) : Type 0 where
-  pub outcome : o ≡ made (stateOf W w′)
-  pub kept : StillSmall n w′
-
-pub record PassRefused (o : Outcome) (n : ℕ) (x : Refusal) (w′ : List ℤ) : Type 0 where
-  pub outcome : o ≡ tooWide
-  pub cleared : Cleared n x w′
-
-abbrev pub Passed : Layout → Outcome → ℕ → Pass → List ℤ → Type 0
-Passed W o n pass.Made w′ = PassMade W o n w′
-Passed W o n (pass.Refused x) w′ = PassRefused o n x w′
 
 -- the machine goes from x to y by the steps of document 01 under the pivot rule of release 1
 abbrev pub Goes : Layout → Machine → Machine → Type 0

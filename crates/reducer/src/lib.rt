@@ -1,5 +1,3 @@
 // The reduction of document 01 on a matrix and its companions in a lent slice.
-pub mod bring;
-pub mod pass;
 pub mod reduction;
 pub mod stage;

@@ -1,11 +1,8 @@
 // One stage of the reduction. Pivot choice, row pass and column pass call one another; the pivot's absolute value falls on each return to the
 // choice, and step e is followed by a column pass that leaves a remainder. The number of rounds bounds how deep the calls go.
 ghost use Rattle.reduction_steps.specs.Step as steps;
-ghost use Rattle.reducer.specs.Answer.{Begun, Placed, ColumnClear, ChoiceEnds, PassEnds};
-use crate::bring::bring_pivot;
-use crate::pass::Pass;
-use crate::pass::clear_column;
-use crate::pass::clear_row;
+ghost use Rattle.passes.specs.Answer.{Placed, ColumnClear};
+ghost use Rattle.reducer.specs.Answer.{Begun, ChoiceEnds, PassEnds};
 use lines::line::Effect;
 use lines::line::clear;
 use operations::layout::Layout;
@@ -15,6 +12,10 @@ use operations::remainder::Indivisible;
 use operations::remainder::column_keeps;
 use operations::remainder::first_indivisible;
 use operations::remainder::row_keeps;
+use passes::bring::bring_pivot;
+use passes::pass::Pass;
+use passes::pass::clear_column;
+use passes::pass::clear_row;
 use refusal::Refusal;
 
 // How many pivots one call of the cycle tries. A round takes at most four frames: the choice, the row pass, the column pass, and the column pass

@@ -1,3 +1,2 @@
 -- What the contracts of src/ cite beside document 01's definitions.
-pub mod Read
 pub mod Number

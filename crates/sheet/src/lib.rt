@@ -1,6 +1,2 @@
-// Reading a sheet: document 01, "The sheet" and the refusals 1 to 7. Every function reads a slice of bytes of any length and content.
-pub mod cell;
-pub mod check;
-pub mod face;
-pub mod field;
+// Reading a sheet: document 01, "The sheet" and the refusals 1 to 7. A sheet is a slice of bytes of any length and content.
 pub mod reader;

@@ -2,14 +2,14 @@
 ghost use mathlib.Core.Path.{_≡_};
 ghost use Rattle.limits.specs.Limits.{libraryLimit, hostLimit};
 ghost use Rattle.sheet.specs.Number.{ReadsSheet};
-use crate::check::cells_do_not_rise;
-use crate::check::count_exceeds;
-use crate::check::face_missing;
-use crate::check::offset_differs;
-use crate::check::vertices_do_not_rise;
-use crate::field::HEADER_LENGTH;
-use crate::field::TOP;
-use crate::field::start;
+use checks::check::cells_do_not_rise;
+use checks::check::count_exceeds;
+use checks::check::face_missing;
+use checks::check::offset_differs;
+use checks::check::vertices_do_not_rise;
+use fields::field::HEADER_LENGTH;
+use fields::field::TOP;
+use fields::field::start;
 use refusal::Refusal;
 
 // A sheet is read at a limit for its counts.

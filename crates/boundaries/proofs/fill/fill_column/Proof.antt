@@ -18,11 +18,12 @@ use Rattle.limits.specs.Limits.{libraryLimit}
 use Rattle.lines.specs.Slice.{lineAt, Small}
 use Rattle.lines.specs.Matrices.{Held, contents}
 use Rattle.lines.specs.declared.matrix.Matrix.{Matrix}
-use Rattle.boundaries.specs.Face.{IsFace, ColumnFilled}
-use Rattle.boundaries.proofs.Sheet.{complex}
-use Rattle.boundaries.proofs.Column.{entry, part-none, part-face, part-other, part-fresh, part-all}
+use Rattle.faces.specs.Face.{IsFace}
+use Rattle.boundaries.specs.Column.{ColumnFilled}
+use Rattle.faces.proofs.Sheet.{complex}
+use Rattle.faces.proofs.Column.{entry, part-none, part-face, part-other, part-fresh, part-all}
 use Rattle.boundaries.proofs.Store.{Place, place-inside, entry-set, column-set}
-use Rattle.boundaries.proofs.Words.{sign-cast, sign-entry}
+use Rattle.faces.proofs.Words.{sign-cast, sign-entry}
 use Rattle.boundaries.proofs.fill.fill_column.Statement.{statement}
 use Rattle.boundaries.proofs.fill.fill_column.Tie as tie
 

@@ -17,7 +17,7 @@ use Rattle.complexes.specs.CoefficientLaws.{natAbs-sign}
 use Rattle.lines.specs.Slice.{limit, at, Small}
 use Rattle.lines.proofs.Words.{read, read-entry, entry-fits, cast-fits}
 use Rattle.matrices.specs.SumLaws.{natAbs-sum}
-use Rattle.boundaries.proofs.Words.{term-fits, sum-fits, sum-is}
+use Rattle.faces.proofs.Words.{term-fits, sum-fits, sum-is}
 use Rattle.boundaries.proofs.product.line_product.Statement.{statement}
 use Rattle.boundaries.proofs.product.line_product.Tie as tie
 

@@ -16,7 +16,7 @@ use Rattle.lines.specs.Matrices.{contents, end, Holds, Exceeds}
 use Rattle.lines.specs.declared.matrix.Matrix.{Matrix}
 use Rattle.lines.specs.declared.line.Effect.{Effect}
 use Rattle.lines.specs.declared.line.Effect.the-variants.{Done, TooWide}
-use Rattle.boundaries.specs.Face.{ColumnFilled, ColumnExceeds, ColumnBecame}
+use Rattle.boundaries.specs.Column.{ColumnFilled, ColumnExceeds, ColumnBecame}
 use Rattle.boundaries.proofs.Columns.{leftOf, columns-none, columns-more, columns-all}
 use Rattle.boundaries.proofs.Products.{product, contents-kept}
 use Rattle.boundaries.proofs.product.multiply.Statement.{statement}

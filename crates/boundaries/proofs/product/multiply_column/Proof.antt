@@ -24,8 +24,9 @@ use Rattle.lines.specs.declared.matrix.Matrix.{Matrix}
 use Rattle.lines.proofs.Spans.{line-span, span-inside}
 use Rattle.lines.proofs.Operations.{upTo, upTo-below, upTo-from}
 use Rattle.lines.proofs.Words.{read, read-entry, entry-fits, beyond-low, beyond-high, within}
-use Rattle.boundaries.specs.Face.{AreFaces, ColumnFilled, ColumnExceeds}
-use Rattle.boundaries.proofs.Sheet.{complex}
+use Rattle.faces.specs.Face.{AreFaces}
+use Rattle.boundaries.specs.Column.{ColumnFilled, ColumnExceeds}
+use Rattle.faces.proofs.Sheet.{complex}
 use Rattle.boundaries.proofs.Store.{Place, place-inside, entry-set, column-set}
 use Rattle.boundaries.proofs.Products.{product, contents-kept, product-entry}
 use Rattle.boundaries.proofs.product.multiply_column.Statement.{statement}

@@ -14,7 +14,7 @@ use Rattle.sheet.specs.Number.{readingNumber}
 use Rattle.reports.specs.Call.{reportSlots, workSlots, reductionsOf}
 use Rattle.limits.specs.Limits.{libraryLimit}
 use Rattle.reports.specs.RefusalLaws.{Passed}
-use Rattle.boundaries.specs.Face.{Accepted}
+use Rattle.faces.specs.Face.{Accepted}
 use Rattle.calls.specs.Slices.{ReducedTwice}
 use Rattle.operations.proofs.Room.{product-below}
 use Rattle.calls.proofs.Sheet.{counted, sheet-complex, accepted-library, slots-of}

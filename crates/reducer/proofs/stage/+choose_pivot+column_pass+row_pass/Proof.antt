@@ -14,11 +14,12 @@ use Rattle.reduction_steps.specs.Step.{Letter, at, row}
 use Rattle.refusal.specs.declared.Refusal.the-variants.{TooWide}
 use Rattle.operations.specs.Laid.{stateOf}
 use Rattle.operations.specs.Scan.{pivotChoice, indivisibleRow}
-use Rattle.reducer.specs.Answer.{matrixOf, rowPassOf, columnPassOf, PassMade, StageRefused}
-use Rattle.reducer.proofs.States.{held-matrix, operated-done, operated-wide}
-use Rattle.reducer.proofs.Words.{pivot-positive}
+use Rattle.passes.specs.Answer.{matrixOf, rowPassOf, columnPassOf, PassMade}
+use Rattle.reducer.specs.Answer.{StageRefused}
+use Rattle.passes.proofs.States.{laid-kept, held-matrix, operated-done, operated-wide}
+use Rattle.passes.proofs.Words.{pivot-positive}
 use Rattle.reducer.proofs.Measures.{choiceMeasure, rowMeasure, columnMeasure, calls-range}
-use Rattle.reducer.proofs.Stages.{ToRows, ToChoice, ToColumns, ColumnsAgain, onward-ends, again, laid-kept, passed-made, pass-stops, Chosen, exhausted, chosen-least, bring-goes, to-rows, rows-go, rows-to-choice, rows-to-columns, columns-go, columns-to-choice, RowClear, row-clear, Found, cleared, row-lower, row-within, add-stops, columns-again}
+use Rattle.reducer.proofs.Stages.{ToRows, ToChoice, ToColumns, ColumnsAgain, onward-ends, again, passed-made, pass-stops, Chosen, exhausted, chosen-least, bring-goes, to-rows, rows-go, rows-to-choice, rows-to-columns, columns-go, columns-to-choice, RowClear, row-clear, Found, cleared, row-lower, row-within, add-stops, columns-again}
 use Rattle.reducer.proofs.stage.choose_pivot.Reads as choose-pivot
 use Rattle.reducer.proofs.stage.choose_pivot.Kinds as choose-pivot-kinds
 use Rattle.reducer.proofs.stage.+choose_pivot+column_pass+row_pass.Lts-choose_pivot as choose-pivot-lts
@@ -29,9 +30,9 @@ use Rattle.reducer.proofs.stage.row_pass.Reads as row-pass
 use Rattle.reducer.proofs.stage.row_pass.Kinds as row-pass-kinds
 use Rattle.reducer.proofs.stage.+choose_pivot+column_pass+row_pass.Lts-row_pass as row-pass-lts
 use Rattle.lines.proofs.line.clear.Reads as clear-reads
-use Rattle.reducer.proofs.bring.bring_pivot.Reads as bring-pivot-reads
-use Rattle.reducer.proofs.pass.clear_column.Reads as clear-column-reads
-use Rattle.reducer.proofs.pass.clear_row.Reads as clear-row-reads
+use Rattle.passes.proofs.bring.bring_pivot.Reads as bring-pivot-reads
+use Rattle.passes.proofs.pass.clear_column.Reads as clear-column-reads
+use Rattle.passes.proofs.pass.clear_row.Reads as clear-row-reads
 use Rattle.operations.proofs.layout.Layout.subtract_row.Reads as subtract-row-reads
 use Rattle.operations.proofs.pivot.find_pivot.Reads as find-pivot-reads
 use Rattle.operations.proofs.remainder.column_keeps.Reads as column-keeps-reads

@@ -1,0 +1,33 @@
+-- A column of a matrix in a slice.
+use mathlib.Core.Path.{_≡_}
+use mathlib.Core.Logic.{_≢_}
+use mathlib.Core.List.{List}
+use Prim.Native.Nat.{ℕ, _<_}
+use lib.ListN.{length}
+use lib.IntN.{ℤ, natAbs}
+use Rattle.matrices.specs.Matrix as theory
+use Rattle.lines.specs.Slice.{limit, at, Small}
+use Rattle.lines.specs.Matrices.{contents, Off}
+use Rattle.lines.specs.declared.matrix.Matrix.{Matrix}
+use Rattle.lines.specs.declared.line.Effect.{Effect}
+use Rattle.lines.specs.declared.line.Effect.the-variants.{Done, TooWide}
+
+-- w′ is w but for column j of the matrix M, which holds column j of A
+pub record ColumnFilled (M : Matrix) (w : List ℤ) (A : theory.Matrix) (j : ℕ) (w′ : List ℤ) : Type 0 where
+  pub same-length : length w′ ≡ length w
+  pub on : (i : ℕ) → i < M .lines → contents M w′ i j ≡ A i j
+  pub beside : (i k : ℕ) → i < M .lines → k < M .width → k ≢ j → contents M w′ i k ≡ contents M w i k
+  pub off : (i : ℕ) → Off M i → at w′ i ≡ at w i
+  pub small : Small w′
+
+-- some entry of column j of A lies beyond the limit
+pub record ColumnExceeds (M : Matrix) (w : List ℤ) (A : theory.Matrix) (j : ℕ) (w′ : List ℤ) : Type 0 where
+  pub same-length : length w′ ≡ length w
+  pub line : ℕ
+  pub line-below : line < M .lines
+  pub beyond : limit < natAbs (A line j)
+  pub small : Small w′
+
+abbrev pub ColumnBecame : Matrix → List ℤ → theory.Matrix → ℕ → Effect → List ℤ → Type 0
+ColumnBecame M w A j Done w′ = ColumnFilled M w A j w′
+ColumnBecame M w A j TooWide w′ = ColumnExceeds M w A j w′

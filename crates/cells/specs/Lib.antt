@@ -1,0 +1,2 @@
+-- What the contracts of src/ cite beside document 01's definitions.
+pub mod Find

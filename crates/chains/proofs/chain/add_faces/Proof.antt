@@ -1,0 +1,240 @@
+-- `chain::add_faces` meets its contract. The invariant: x times the column after t faces has been added. The measure is how many faces are
+-- left. Assumes nothing.
+use mathlib.Core.Path.{_≡_, refl, sym, ap, subst, _∙_}
+use mathlib.Core.List.{List}
+use Prim.Native.Nat.{ℕ, suc, _+_, _-_, _^_, _<_, _≤_}
+use native.Mathlib.Nat as NatL
+use native.Mathlib.Omega.{arith}
+use native.Mathlib.Decide.{ℕ-discrete}
+use denote.Ref.{now}
+use lib.ListN.{length, getD, set, length-set}
+use lib.Seq.{getD-set-same, getD-set-other}
+use lib.IntN.{ℤ, pos, natAbs, _+ℤ_, _*ℤ_}
+use mir.Syntax.{w64}
+use mir.Val.{SFits, toZ}
+use mir.Facts.{toZ-ofZ}
+use Rattle.integers.specs.Ring.{add-assoc, add-zero, mul-add, mul-zero}
+use Rattle.integers.specs.Order.{natAbs-add, natAbs-mul}
+use Rattle.complexes.specs.Complex.{count, cell, Complex}
+use Rattle.complexes.specs.Boundary.{sign}
+use Rattle.sheet_format.specs.Layout.{top}
+use Rattle.sheet_format.specs.Check.{sectionsOf}
+use Rattle.limits.specs.Limits.{libraryLimit, coefficientLimit}
+use Rattle.lines.specs.Slice.{limit}
+use Rattle.lines.proofs.Words.{read, sfits-below, read-wide}
+use Rattle.faces.specs.Face.{IsFace}
+use Rattle.chains.specs.Sums.{Sums, AddsFaces}
+use Rattle.faces.proofs.Sheet.{complex}
+use Rattle.faces.proofs.Column.{entry, part-none, part-face, part-other, part-all}
+use Rattle.faces.proofs.Sums.{natAbs-part}
+use Rattle.faces.proofs.Words.{term-fits, sum-fits, sum-is}
+use Rattle.chains.proofs.chain.add_faces.Statement.{statement}
+use Rattle.chains.proofs.chain.add_faces.Tie as tie
+
+record Invariant (b : List ℕ) (p j : ℕ) (x : ℤ) (sums₀ : List ℤ) (t : ℕ) (sums : List ℤ) : Type 0 where
+  within : t ≤ p + 2
+  same-length : length sums ≡ length sums₀
+  so-far : (i : ℕ) → i < count (sectionsOf b) p → getD sums i (pos 0) ≡ getD sums₀ i (pos 0) +ℤ x *ℤ entry b p j t i
+
+with-factor : {b : List ℕ} {p j : ℕ} {x y : ℤ} {sums₀ : List ℤ} {t : ℕ} {sums : List ℤ} → x ≡ y → Invariant b p j x sums₀ t sums
+    → Invariant b p j y sums₀ t sums
+with-factor {b} {p} {j} {x} {y} {sums₀} {t} {sums} e = subst (λ (z : ℤ). Invariant b p j z sums₀ t sums) e
+
+begun : (b : List ℕ) (p j : ℕ) (x : ℤ) (sums₀ : List ℤ) → Invariant b p j x sums₀ 0 sums₀
+begun b p j x sums₀ = record {
+  within = omega arith;
+  same-length = refl;
+  so-far = λ i l.
+      rw (part-none (cell (sectionsOf b) (suc p) j) (cell (sectionsOf b) p i), mul-zero x) (sym (add-zero (getD sums₀ i (pos 0))));
+}
+
+-- what the function is given
+record Given (b : List ℕ) (p j : ℕ) (x : ℤ) (sums₀ : List ℤ) : Type 0 where
+  sheet : Complex top libraryLimit (sectionsOf b)
+  inside : p < top
+  below : j < count (sectionsOf b) (suc p)
+  factor : natAbs x ≤ coefficientLimit
+  sums : Sums b p sums₀
+
+module _ {b : List ℕ} {p j : ℕ} {x : ℤ} {sums₀ : List ℤ} {t : ℕ} {sums : List ℤ} (given : Given b p j x sums₀) (inv : Invariant b p j x sums₀ t sums)
+    (more : t < p + 2) (i : ℕ) (face : IsFace b p j t i) (r : ℤ) (r-is : r ≡ sign t) where
+  abbrev old : ℤ
+  old = getD sums i (pos 0)
+
+  small-entry : natAbs (entry b p j t i) ≤ 4
+  small-entry = omega (arith, natAbs-part (cell (sectionsOf b) (suc p) j) t (cell (sectionsOf b) p i), given .inside)
+
+  old-small : natAbs old ≤ 2 ^ 33
+  old-small =
+      rw (inv .so-far i (face .below))
+      (omega (
+        arith,
+        natAbs-add (getD sums₀ i (pos 0)) (x *ℤ entry b p j t i),
+        natAbs-mul x (entry b p j t i),
+        NatL.mul-le-mul (given .factor) small-entry,
+        given .sums .bounded i (face .below),
+      ))
+
+  read-old : read w64 old ≡ old
+  read-old = toZ-ofZ (sfits-below w64 old (omega (arith, old-small)))
+
+  read-small : natAbs (read w64 old) ≤ 2 ^ 33
+  read-small = rw read-old old-small
+
+  factor-small : natAbs x ≤ limit
+  factor-small = omega (arith, given .factor)
+
+  term-word : SFits w64 (read w64 x *ℤ read w64 r)
+  term-word = term-fits (read w64 old) x r t r-is read-small factor-small
+
+  sum-word : SFits w64 (read w64 old +ℤ read w64 (read w64 x *ℤ read w64 r))
+  sum-word = sum-fits (read w64 old) x r t r-is read-small factor-small
+
+  -- the new sum as the machine computes it
+  abbrev new : ℤ
+  new = read w64 (read w64 old +ℤ read w64 (read w64 x *ℤ read w64 r))
+
+  new-is : new ≡ getD sums₀ i (pos 0) +ℤ x *ℤ entry b p j (t + 1) i
+  new-is =
+      sum-is (read w64 old) x r t r-is read-small factor-small
+      ∙ rw (read-old, inv .so-far i (face .below), part-face b (given .sheet) p j (given .below) t i face, mul-add x (entry b p j t i) (sign t))
+      (add-assoc (getD sums₀ i (pos 0)) (x *ℤ entry b p j t i) (x *ℤ sign t))
+
+  again : Invariant b p j x sums₀ (t + 1) (set sums i new)
+  again = record {
+    within = omega arith;
+    same-length = length-set sums i new ∙ inv .same-length;
+    so-far = λ k l. pick k l (ℕ-discrete k i);
+  }
+    where
+      inside : i < length sums
+      inside = omega (arith, inv .same-length, given .sums .sized, face .below, given .sheet .within p)
+
+      pick : (k : ℕ) → k < count (sectionsOf b) p → Dec (k ≡ i) → getD (set sums i new) k (pos 0) ≡ getD sums₀ k (pos 0) +ℤ x *ℤ entry b p j (t + 1) k
+      pick k l (yes e) = rw (e, getD-set-same sums i new (pos 0) inside) new-is
+      pick k l (no d) =
+          getD-set-other sums i k new (pos 0) d
+          ∙ inv .so-far k l
+          ∙ ap (λ (z : ℤ). getD sums₀ k (pos 0) +ℤ x *ℤ z) (sym (part-other b (given .sheet) p j (given .below) t i face k l d))
+
+ended : {b : List ℕ} {p j : ℕ} {x : ℤ} {sums₀ : List ℤ} {t : ℕ} {sums : List ℤ} → Given b p j x sums₀ → Invariant b p j x sums₀ t sums → p + 2 ≤ t
+    → AddsFaces b p j x sums₀ sums
+ended {b} {p} {j} {x} {sums₀} {t} {sums} given inv done = record {
+  same-length = inv .same-length;
+  adds = λ i l.
+      inv .so-far i l
+      ∙ ap (λ (n : ℕ). getD sums₀ i (pos 0) +ℤ x *ℤ entry b p j n i) all
+      ∙ ap (λ (z : ℤ). getD sums₀ i (pos 0) +ℤ x *ℤ z) (sym (part-all b (given .sheet) p j (given .below) i));
+}
+  where
+    all : t ≡ suc (suc p)
+    all = omega (arith, inv .within)
+
+abbrev Inv-loop : tie.InvT-loop
+Inv-loop s p j x sums₀ t₀ sums t = Invariant s p j (toZ w64 x) sums₀ t sums
+
+abbrev μ-loop : tie.MeasureT-loop
+μ-loop s p j x sums₀ t₀ sums t = p + 2 - t
+
+-- the factor as the machine reads it
+read-x : (c : tie.Start Inv-loop μ-loop) → read w64 (c .args .x) ≡ c .args .x
+read-x c = read-wide (c .args .x) (omega (arith, c .pre .1 .1 .0))
+
+given : (c : tie.After-shared-slice-known Inv-loop μ-loop) →
+    let args = c .before .args in Given (args .s .now) (args .p) (args .j) (args .x) (args .sums .now)
+given c =
+    let pre = c .before .pre in
+    record {
+      sheet = complex (record { small = λ i. c .shared-slice-known .given i .fits }) (pre .0);
+      inside = pre .1 .0 .0;
+      below = pre .1 .0 .1;
+      factor = pre .1 .1 .0;
+      sums = pre .1 .1 .1;
+    }
+
+loop-holds : tie.Need-loop-holds Inv-loop μ-loop
+loop-holds c = let args = c .before .args in begun (args .s .now) (args .p) (args .j) (read w64 (args .x)) (args .sums .now)
+
+add-loop : tie.Need-add-loop Inv-loop μ-loop
+add-loop c = omega (arith, c .before .before .pre .1 .0 .0)
+
+face-place-requires : tie.Need-face-place-requires Inv-loop μ-loop
+face-place-requires c κs =
+    let pre = c .before .before .before .pre in (pre .0, (pre .1 .0 .0, pre .1 .0 .1, omega (arith, c .loop-test .taken)))
+
+-- the place of a face is one of the sums
+inside : (c : tie.After-face-place Inv-loop μ-loop) → c .face-place .result < libraryLimit
+inside c =
+    let known = c .before .before .before in omega (arith, c .face-place .ensures .below, given known .sheet .within (known .before .args .p))
+
+mul-sums : tie.Need-mul-sums Inv-loop μ-loop
+mul-sums c = omega (arith, inside c)
+
+element-copy-out-sums : tie.Need-element-copy-out-sums Inv-loop μ-loop
+element-copy-out-sums c = inside c
+
+sign-requires : tie.Need-sign-requires Inv-loop μ-loop
+sign-requires c κs = tt
+
+module _ (c : tie.After-sign Inv-loop μ-loop) where
+  abbrev called : tie.After-face-place Inv-loop μ-loop
+  called = c .before .before
+
+  abbrev known : tie.After-shared-slice-known Inv-loop μ-loop
+  known = called .before .before .before
+
+  before : let args = known .before .args in
+      Invariant (args .s .now) (args .p) (args .j) (args .x) (args .sums .now) (called .before .before .loop .t) (called .before .before .loop .sums)
+  before = with-factor (read-x (known .before)) (called .before .before .loop .inv)
+
+mul-sums-2 : tie.Need-mul-sums-2 Inv-loop μ-loop
+mul-sums-2 c =
+    term-word (given (known c)) (before c) (called c .before .loop-test .taken) (called c .face-place .result) (called c .face-place .ensures) (c .sign .result)
+    (c .sign .ensures)
+
+add-sums : tie.Need-add-sums Inv-loop μ-loop
+add-sums c =
+    sum-word (given (known c)) (before c) (called c .before .loop-test .taken) (called c .face-place .result) (called c .face-place .ensures) (c .sign .result)
+    (c .sign .ensures)
+
+mul-t16 : tie.Need-mul-t16 Inv-loop μ-loop
+mul-t16 c = omega (arith, inside (called c))
+
+element-set-from-sums : tie.Need-element-set-from-sums Inv-loop μ-loop
+element-set-from-sums c = inside (called c)
+
+add-t : tie.Need-add-t Inv-loop μ-loop
+add-t c = omega (arith, called c .before .loop-test .taken, known c .before .pre .1 .0 .0)
+
+loop-less : tie.Need-loop-less Inv-loop μ-loop
+loop-less c = omega (arith, called c .before .loop-test .taken)
+
+loop-again : tie.Need-loop-again Inv-loop μ-loop
+loop-again c =
+    with-factor (sym (read-x (known c .before)))
+    (again (given (known c)) (before c) (called c .before .loop-test .taken) (called c .face-place .result) (called c .face-place .ensures) (c .sign .result)
+    (c .sign .ensures))
+
+returns : tie.Need-returns Inv-loop μ-loop
+returns c = ended (given (c .before .before)) (with-factor (read-x (c .before .before .before)) (c .before .loop .inv)) (c .loop-test .left)
+
+pub add-faces-spec : {M : Type 1} → statement M
+add-faces-spec =
+    tie.close
+    (tie.spec
+    Inv-loop
+    μ-loop
+    loop-holds
+    add-loop
+    face-place-requires
+    mul-sums
+    element-copy-out-sums
+    sign-requires
+    mul-sums-2
+    add-sums
+    mul-t16
+    element-set-from-sums
+    add-t
+    loop-less
+    loop-again
+    returns)

@@ -1,0 +1,308 @@
+-- `chain::boundary_not_zero` meets its contract. The first loop's invariant: the sums are the boundary of the coefficients passed. The second
+-- loop's: the sums passed are 0. The measures are how many are left. Assumes nothing.
+use mathlib.Core.Path.{_≡_, refl, sym, ap, subst, _∙_}
+use mathlib.Core.Logic.{_≢_, ⊎-elim}
+use mathlib.Core.Bool.{Bool, true, false, not}
+use mathlib.Core.List.{List}
+use Prim.Native.Nat.{ℕ, suc, _+_, _*_, _-_, _<_, _≤_}
+use native.Mathlib.Nat as NatL
+use native.Mathlib.Numerals.{add-one}
+use native.Mathlib.Omega.{arith}
+use borrow.Author.Count.{below-more}
+use borrow.Author.Tests.{eq-eqb, ne-eqb}
+use denote.Ref.{now}
+use lib.Dec.{eqb}
+use lib.ListN.{length, getD, replicate, getD-replicate}
+use lib.IntN.{ℤ, pos, natAbs, _*ℤ_}
+use mir.Syntax.{w32, w64}
+use mir.Val.{SFits, ofZ}
+use mir.Facts.{toZ-ofZ}
+use Rattle.integers.specs.Ring.{mul-comm, mul-zero, add-zero}
+use Rattle.integers.specs.Order.{natAbs-mul, natAbs-zero}
+use Rattle.matrices.specs.Sum.{sum}
+use Rattle.matrices.specs.Vector.{apply}
+use Rattle.complexes.specs.Complex.{count, Complex}
+use Rattle.complexes.specs.Boundary.{countBelow, boundary}
+use Rattle.complexes.specs.BoundaryLaws.{boundary-small}
+use Rattle.sheet_format.specs.Layout.{top}
+use Rattle.sheet_format.specs.Check.{sectionsOf, some}
+use Rattle.sheet_format.specs.CheckLaws.{some-at, some-false}
+use Rattle.sheet_format.specs.SheetLaws.{count-sectionsOf}
+use Rattle.reports.specs.Call.{boundaryNotZero}
+use Rattle.limits.specs.Limits.{libraryLimit, coefficientLimit}
+use Rattle.lines.proofs.Words.{read, cast-fits, cast-is, zero-of-bits}
+use Rattle.chains.specs.Sums.{Sums, AddsFaces}
+use Rattle.faces.proofs.Sheet.{complex}
+use Rattle.matrices.specs.SumLaws.{natAbs-sum}
+use Rattle.chains.proofs.chain.boundary_not_zero.Statement.{statement}
+use Rattle.chains.proofs.chain.boundary_not_zero.Tie as tie
+
+-- what the function is given
+record Given (b : List ℕ) (p : ℕ) (chain : List ℤ) : Type 0 where
+  sheet : Complex top libraryLimit (sectionsOf b)
+  inside : suc p ≤ top
+  sized : length chain ≡ count (sectionsOf b) (suc p)
+  small : (i : ℕ) → natAbs (getD chain i (pos 0)) ≤ coefficientLimit
+
+-- row i of the boundary of the first j coefficients
+abbrev partial : List ℕ → ℕ → List ℤ → ℕ → ℕ → ℤ
+partial b p chain j i = apply j (boundary (sectionsOf b) (suc p)) (λ k. getD chain k (pos 0)) i
+
+-- the sums hold the boundary of the first j coefficients
+record Summed (b : List ℕ) (p : ℕ) (chain : List ℤ) (j : ℕ) (sums : List ℤ) : Type 0 where
+  within : j ≤ length chain
+  sized : length sums ≡ libraryLimit
+  so-far : (i : ℕ) → i < count (sectionsOf b) p → getD sums i (pos 0) ≡ partial b p chain j i
+
+begun : (b : List ℕ) (p : ℕ) (chain : List ℤ) → count (sectionsOf b) p ≤ libraryLimit → Summed b p chain 0 (replicate libraryLimit (pos 0))
+unfolding apply sum
+begun b p chain few = record { within = omega arith; sized = refl; so-far = λ i l. getD-replicate libraryLimit i (pos 0) (pos 0) (omega arith) }
+
+module _ {b : List ℕ} {p : ℕ} {chain : List ℤ} {j : ℕ} {sums : List ℤ} (given : Given b p chain) (inv : Summed b p chain j sums) where
+  partial-small : (i : ℕ) → natAbs (partial b p chain j i) ≤ j * coefficientLimit
+  unfolding apply
+  partial-small i = natAbs-sum j (λ k. boundary (sectionsOf b) (suc p) i k *ℤ getD chain k (pos 0)) coefficientLimit one
+    where
+      one : (k : ℕ) → k < j → natAbs (boundary (sectionsOf b) (suc p) i k *ℤ getD chain k (pos 0)) ≤ coefficientLimit
+      one k l =
+          omega (
+            arith,
+            natAbs-mul (boundary (sectionsOf b) (suc p) i k) (getD chain k (pos 0)),
+            NatL.mul-le-mul (boundary-small (given .sheet) (suc p) i k) (given .small k),
+          )
+
+  sums-small : Sums b p sums
+  sums-small = record {
+    sized = inv .sized;
+    bounded = λ i l. rw (inv .so-far i l) (omega (arith, partial-small i, inv .within, given .sized, given .sheet .within (suc p)));
+  }
+
+  added : j < length chain → {sums′ : List ℤ} → AddsFaces b p j (getD chain j (pos 0)) sums sums′ → Summed b p chain (j + 1) sums′
+  unfolding apply sum
+  added l h = record {
+    within = omega arith;
+    sized = h .same-length ∙ inv .sized;
+    so-far = λ i k.
+        h .adds i k
+        ∙ rw (inv .so-far i k, add-one j, mul-comm (getD chain j (pos 0)) (boundary (sectionsOf b) (suc p) i j));
+  }
+
+  skipped : j < length chain → getD chain j (pos 0) ≡ pos 0 → Summed b p chain (j + 1) sums
+  unfolding apply sum
+  skipped l e = record {
+    within = omega arith;
+    sized = inv .sized;
+    so-far = λ i k.
+        inv .so-far i k
+        ∙ rw (add-one j, e, mul-zero (boundary (sectionsOf b) (suc p) i j)) (sym (add-zero (partial b p chain j i)));
+  }
+
+-- ---- the test of the sums
+
+-- check 12 at row i
+abbrev nonzero : List ℕ → ℕ → List ℤ → ℕ → Bool
+nonzero b p chain i = not (eqb (natAbs (partial b p chain (count (sectionsOf b) (suc p)) i)) 0)
+
+module _ {b : List ℕ} {p : ℕ} {chain : List ℤ} {j : ℕ} {sums : List ℤ} (given : Given b p chain) (inv : Summed b p chain j sums)
+    (done : length chain ≤ j) where
+  -- row i of the boundary
+  abbrev whole : ℕ → ℤ
+  whole i = partial b p chain (count (sectionsOf b) (suc p)) i
+
+  sum-is : (i : ℕ) → i < count (sectionsOf b) p → getD sums i (pos 0) ≡ whole i
+  sum-is i l = inv .so-far i l ∙ ap (λ (n : ℕ). partial b p chain n i) (omega (arith, inv .within, given .sized))
+
+  found : (i : ℕ) → i < count (sectionsOf b) p → getD sums i (pos 0) ≢ pos 0 → true ≡ boundaryNotZero (sectionsOf b) (suc p) chain
+  unfolding boundaryNotZero countBelow
+  found i l d =
+      sym (some-at (count (sectionsOf b) p) (nonzero b p chain) i l
+      (ap not (ne-eqb (natAbs (whole i)) 0 (λ e. d (sum-is i l ∙ natAbs-zero (whole i) e)))))
+
+  none : ((i : ℕ) → i < count (sectionsOf b) p → getD sums i (pos 0) ≡ pos 0) → false ≡ boundaryNotZero (sectionsOf b) (suc p) chain
+  unfolding boundaryNotZero countBelow
+  none h =
+      sym (some-false (count (sectionsOf b) p) (nonzero b p chain) .1
+      (λ i l. ap not (eq-eqb (natAbs (whole i)) 0 (ap natAbs (sym (sum-is i l) ∙ h i l)))))
+
+abbrev Inv-loop : tie.InvT-loop
+Inv-loop s p chain sums₀ j₀ sums j = Summed s (p - 1) chain j sums
+
+abbrev μ-loop : tie.MeasureT-loop
+μ-loop s p chain sums₀ j₀ sums j = length chain - j
+
+abbrev Inv-loop2 : tie.InvT-loop2
+Inv-loop2 s p chain sums j rows row₀ row = (row ≤ rows) × ((k : ℕ) → k < row → getD sums k (pos 0) ≡ pos 0)
+
+abbrev μ-loop2 : tie.MeasureT-loop2
+μ-loop2 s p chain sums j rows row₀ row = rows - row
+
+returns : tie.Need-returns Inv-loop μ-loop Inv-loop2 μ-loop2
+unfolding boundaryNotZero countBelow some
+returns c =
+    let args = c .before .before .args in
+    subst (λ (n : ℕ). false ≡ boundaryNotZero (sectionsOf (now (args .s))) n (now (args .chain))) (sym (c .if1 .taken)) refl
+
+-- the dimension is not 0
+positive : (c : tie.Else1 Inv-loop μ-loop Inv-loop2 μ-loop2) → suc (c .before .before .args .p - 1) ≡ c .before .before .args .p
+positive c = omega (arith, c .if1 .left)
+
+given : (c : tie.Else1 Inv-loop μ-loop Inv-loop2 μ-loop2) → let args = c .before .before .args in Given (args .s .now) (args .p - 1) (args .chain .now)
+given c =
+    let pre = c .before .before .pre in
+    record {
+      sheet = complex (record { small = λ i. c .before .shared-slice-known .given i .fits }) (pre .0);
+      inside = omega (arith, positive c, pre .1 .0 .0);
+      sized = rw (positive c) (pre .1 .0 .1);
+      small = pre .1 .1;
+    }
+
+loop-holds : tie.Need-loop-holds Inv-loop μ-loop Inv-loop2 μ-loop2
+loop-holds c = let args = c .before .before .args in begun (args .s .now) (args .p - 1) (args .chain .now) (given c .sheet .within (args .p - 1))
+
+mul-x : tie.Need-mul-x Inv-loop μ-loop Inv-loop2 μ-loop2
+mul-x c = omega arith
+
+shared-slice-copy-out-x : tie.Need-shared-slice-copy-out-x Inv-loop μ-loop Inv-loop2 μ-loop2
+shared-slice-copy-out-x c = c .loop-test .taken
+
+-- coefficient j
+module _ (c : tie.After-x Inv-loop μ-loop Inv-loop2 μ-loop2) where
+  abbrev head : tie.At-loop Inv-loop μ-loop Inv-loop2 μ-loop2
+  head = c .before .before
+
+  abbrev start : tie.Start Inv-loop μ-loop Inv-loop2 μ-loop2
+  start = head .before .before .before
+
+  abbrev x : ℤ
+  x = getD (start .args .chain .now) (head .loop .j) (pos 0)
+
+  x-fits : SFits w32 x
+  x-fits = record { sfits = c .x .given }
+
+  -- as the machine reads it
+  x-is : read w64 (read w32 x) ≡ x
+  x-is = cast-is x x-fits
+
+cast-x : tie.Need-cast-x Inv-loop μ-loop Inv-loop2 μ-loop2
+cast-x c = cast-fits (x c) (x-fits c)
+
+sub-add-faces : tie.Need-sub-add-faces Inv-loop μ-loop Inv-loop2 μ-loop2
+sub-add-faces c = omega (arith, positive (head (c .before) .before))
+
+add-faces-requires : tie.Need-add-faces-requires Inv-loop μ-loop Inv-loop2 μ-loop2
+add-faces-requires c κs =
+    let at = c .before .before in let g = given (head at .before) in (
+      start at .pre .0,
+      (
+        (g .inside, omega (arith, at .before .loop-test .taken, g .sized)),
+        (subst (λ (z : ℤ). natAbs z ≤ coefficientLimit) (sym (x-is at)) (g .small (head at .loop .j)), sums-small g (head at .loop .inv)),
+      ),
+    )
+
+add-j : tie.Need-add-j Inv-loop μ-loop Inv-loop2 μ-loop2
+add-j c = omega arith
+
+loop-less : tie.Need-loop-less Inv-loop μ-loop Inv-loop2 μ-loop2
+loop-less c = omega (arith, c .before .before .loop-test .taken)
+
+loop-again : tie.Need-loop-again Inv-loop μ-loop Inv-loop2 μ-loop2
+loop-again c =
+    let at = c .before in let g = given (head at .before) in let args = start at .args in let j = head at .loop .j in let inv = head at .loop .inv in
+    let more = at .before .loop-test .taken in
+    ⊎-elim
+    (λ way.
+    subst (λ (sums : List ℤ). Summed (args .s .now) (args .p - 1) (args .chain .now) (j + 1) sums) (sym (way .3))
+    (added g inv more
+    (subst (λ (z : ℤ). AddsFaces (args .s .now) (args .p - 1) j z (head at .loop .sums) (way .2 .last .1 .1 .1 .1 .0)) (x-is at) (way .2 .ensures))))
+    (λ way.
+    subst (λ (sums : List ℤ). Summed (args .s .now) (args .p - 1) (args .chain .now) (j + 1) sums) (sym (way .1))
+    (skipped g inv more (sym (toZ-ofZ (x-fits at)) ∙ zero-of-bits (cast-x at) (way .0 .left))))
+    (c .if2 .came)
+
+sub-count : tie.Need-sub-count Inv-loop μ-loop Inv-loop2 μ-loop2
+sub-count c = omega (arith, positive (c .before .before))
+
+count-requires : tie.Need-count-requires Inv-loop μ-loop Inv-loop2 μ-loop2
+count-requires c κs = tt
+
+loop2-holds : tie.Need-loop2-holds Inv-loop μ-loop Inv-loop2 μ-loop2
+loop2-holds c = (omega arith, λ k l. absurd (omega arith))
+
+rows : (c : tie.After-count Inv-loop μ-loop Inv-loop2 μ-loop2) →
+    let args = c .before .before .before .before .before .args in c .count .result ≡ count (sectionsOf (args .s .now)) (args .p - 1)
+rows c =
+    let args = c .before .before .before .before .before .args in c .count .ensures .is ∙ sym (count-sectionsOf (args .s .now) (args .p - 1))
+
+row-below : (c : tie.In-loop2 Inv-loop μ-loop Inv-loop2 μ-loop2) → c .before .loop2 .row < libraryLimit
+row-below c =
+    let counted = c .before .before in let first = counted .before .before .before in
+    omega (arith, c .loop2-test .taken, rows counted, given first .sheet .within (first .before .before .args .p - 1))
+
+mul-if3 : tie.Need-mul-if3 Inv-loop μ-loop Inv-loop2 μ-loop2
+mul-if3 c = omega (arith, row-below c)
+
+array-copy-out-if3 : tie.Need-array-copy-out-if3 Inv-loop μ-loop Inv-loop2 μ-loop2
+array-copy-out-if3 c = row-below c
+
+returns-2 : tie.Need-returns-2 Inv-loop μ-loop Inv-loop2 μ-loop2
+returns-2 c =
+    let turn = c .before .before in let counted = turn .before .before in let first = counted .before .before .before in
+    let args = first .before .before .args in
+    subst (λ (n : ℕ). true ≡ boundaryNotZero (sectionsOf (now (args .s))) n (now (args .chain))) (positive first)
+    (found (given first) (counted .before .before .loop .inv) (counted .before .loop-test .left) (turn .before .loop2 .row)
+    (omega (arith, turn .loop2-test .taken, rows counted))
+    (λ e. c .if3 .taken (ap (ofZ w64) e)))
+
+add-row : tie.Need-add-row Inv-loop μ-loop Inv-loop2 μ-loop2
+add-row c = omega (arith, row-below (c .before .before))
+
+loop2-less : tie.Need-loop2-less Inv-loop μ-loop Inv-loop2 μ-loop2
+loop2-less c = omega (arith, c .before .before .loop2-test .taken)
+
+sum-fits : (c : tie.After-if32 Inv-loop μ-loop Inv-loop2 μ-loop2)
+    → SFits w64 (getD (c .before .before .before .before .before .loop .sums) (c .before .before .loop2 .row) (pos 0))
+sum-fits c = record { sfits = c .if32 .given }
+
+loop2-again : tie.Need-loop2-again Inv-loop μ-loop Inv-loop2 μ-loop2
+loop2-again c =
+    let turn = c .before .before in let sums = turn .before .before .before .before .loop .sums in (
+      omega (arith, turn .loop2-test .taken),
+      below-more (λ k. getD sums k (pos 0) ≡ pos 0) (turn .before .loop2 .row) (turn .before .loop2 .inv .1)
+          (zero-of-bits (sum-fits (c .before)) (c .if3 .left)),
+    )
+
+returns-3 : tie.Need-returns-3 Inv-loop μ-loop Inv-loop2 μ-loop2
+returns-3 c =
+    let counted = c .before .before in let first = counted .before .before .before in let args = first .before .before .args in
+    subst (λ (n : ℕ). false ≡ boundaryNotZero (sectionsOf (now (args .s))) n (now (args .chain))) (positive first)
+    (none (given first) (counted .before .before .loop .inv) (counted .before .loop-test .left)
+    (λ i l. c .before .loop2 .inv .1 i (omega (arith, c .loop2-test .left, rows counted))))
+
+pub boundary-not-zero-spec : {M : Type 1} → statement M
+boundary-not-zero-spec =
+    tie.close
+    (tie.spec
+    Inv-loop
+    μ-loop
+    Inv-loop2
+    μ-loop2
+    returns
+    loop-holds
+    mul-x
+    shared-slice-copy-out-x
+    cast-x
+    sub-add-faces
+    add-faces-requires
+    add-j
+    loop-less
+    loop-again
+    sub-count
+    count-requires
+    loop2-holds
+    mul-if3
+    array-copy-out-if3
+    returns-2
+    add-row
+    loop2-less
+    loop2-again
+    returns-3)

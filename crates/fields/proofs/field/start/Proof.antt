@@ -1,0 +1,61 @@
+-- `start` meets its contract. The loop's invariant: `at` is where section q starts, and each section passed took at most 2 ^ 19 bytes.
+use borrow.Author.Needs.{needs}
+use mathlib.Core.Path.{_≡_, refl}
+use Prim.Native.Nat.{_+_, _*_, _-_, _≤_}
+use native.Mathlib.Nat.{le-antisymm}
+use native.Mathlib.Numerals.{add-one}
+use native.Mathlib.Omega.{arith}
+use Rattle.sheet_format.specs.Check.{startAt}
+use Rattle.sheet_format.specs.Layout.{start}
+use Rattle.fields.proofs.Offset.{few}
+use Rattle.fields.proofs.field.start.Statement.{statement}
+use Rattle.fields.proofs.field.start.Tie as tie
+
+abbrev Inv-loop : tie.InvT-loop
+Inv-loop s p at₀ q₀ at q = (q ≤ p) × (at ≡ startAt s q) × (at ≤ 16 + 524288 * q)
+
+abbrev μ-loop : tie.MeasureT-loop
+μ-loop s p at₀ q₀ at q = p - q
+
+-- the vertex numbers of section q
+section : (c : tie.After-count Inv-loop μ-loop) → (c .before .before .loop .q + 1) * c .count .result ≤ 262144
+section c = few (c .before .before .loop .q + 1) (c .count .result) (omega arith) (omega arith)
+
+loop-holds : tie.Need-loop-holds Inv-loop μ-loop
+unfolding start
+loop-holds c = (search needs, refl, search needs)
+
+add-at : tie.Need-add-at Inv-loop μ-loop
+add-at c = search needs
+
+count-requires : tie.Need-count-requires Inv-loop μ-loop
+count-requires c κs = search needs
+
+mul-at : tie.Need-mul-at Inv-loop μ-loop
+mul-at c = omega (arith, section c)
+
+mul-at-2 : tie.Need-mul-at-2 Inv-loop μ-loop
+mul-at-2 c = omega (arith, section c)
+
+add-at-2 : tie.Need-add-at-2 Inv-loop μ-loop
+add-at-2 c = omega (arith, section c)
+
+add-q : tie.Need-add-q Inv-loop μ-loop
+add-q c = search needs
+
+loop-less : tie.Need-loop-less Inv-loop μ-loop
+loop-less c = search needs
+
+loop-again : tie.Need-loop-again Inv-loop μ-loop
+unfolding start
+loop-again c = (search needs, simp add-one (cc), omega (arith, section c))
+
+returns : tie.Need-returns Inv-loop μ-loop
+returns c =
+    let end = le-antisymm (c .before .loop .inv .0) (c .loop-test .left) in
+    record { is = rw end at (c .before .loop .inv .1); below = omega arith }
+
+pub start-spec : {M : Type 1} → statement M
+start-spec =
+    tie.close
+    (tie.spec Inv-loop μ-loop loop-holds add-at count-requires mul-at mul-at-2 add-at-2 add-q loop-less loop-again returns)

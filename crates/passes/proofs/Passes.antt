@@ -1,0 +1,238 @@
+-- The loops of the passes: what is left of the pass from the present state is the whole pass from the start (RowPassing, ColumnPassing).
+use mathlib.Core.Path.{_≡_, refl, sym, _∙_, ap, subst}
+use mathlib.Core.Logic.{_≢_}
+use mathlib.Core.List.{List}
+use Prim.Native.Nat.{ℕ, zero, suc, _+_, _-_, _≤_, _<_}
+use native.Mathlib.Nat as Nat
+use native.Mathlib.Numerals.{add-one}
+use native.Mathlib.Omega.{arith}
+use native.Mathlib.Decide.{decLt}
+use lib.IntN.{ℤ, pos}
+use lib.Signed.{_<ℤ_}
+use lib.ListN.{length, replicate}
+use Rattle.integers.specs.Division.{floor}
+use Rattle.matrices.specs.Matrix as theory
+use Rattle.matrices.specs.Matrix.{transpose}
+use Rattle.matrices.specs.Operation.{subtract, onRows, onColumns}
+use Rattle.matrices.specs.OperationLaws.{onRows-subtract-other}
+use Rattle.reduction_steps.specs.Table.{entry}
+use Rattle.reduction_steps.specs.State.{Sizes, State, Outcome, tooWide, made, andThen, onRow, onColumn}
+use Rattle.reduction_steps.specs.Step.{quotient, rowPass, columnPass}
+use Rattle.reduction_laws.specs.Letters.{ReadyC}
+use Rattle.reduction_laws.specs.Led.{Led, led-row, led-column}
+use Rattle.lines.specs.Slice.{limit, Small}
+use Rattle.lines.specs.Matrices.{contents}
+use Rattle.operations.specs.Laid.{Laid, sizesOf, stateOf}
+use Rattle.operations.specs.declared.layout.Layout.{Layout}
+use Rattle.refusal.specs.declared.Refusal.the-variants as Refusal
+use Rattle.passes.specs.Answer.{Placed, ColumnClear, rowPassOf, columnPassOf, PassMade, PassRefused}
+use Rattle.passes.proofs.States.{entry-state, shaped-state, rowsDone-moves}
+
+-- ---- one operation of a pass
+
+module _ (limit : ℕ) (z : Sizes) (k more i : ℕ) (s : State) where
+  rowPass-made : (t : State) → onRow limit z (subtract i k (quotient limit z k s i k)) s ≡ made t → rowPass limit z k (suc more) i s ≡ rowPass limit z k more (suc i) t
+  unfolding rowPass andThen
+  rowPass-made t e = rw e
+
+  rowPass-wide : onRow limit z (subtract i k (quotient limit z k s i k)) s ≡ tooWide → rowPass limit z k (suc more) i s ≡ tooWide
+  unfolding rowPass andThen
+  rowPass-wide e = rw e
+
+  columnPass-made : (t : State) → onColumn limit z (subtract i k (quotient limit z k s k i)) s ≡ made t → columnPass limit z k (suc more) i s ≡ columnPass limit z k more (suc i) t
+  unfolding columnPass andThen
+  columnPass-made t e = rw e
+
+  columnPass-wide : onColumn limit z (subtract i k (quotient limit z k s k i)) s ≡ tooWide → columnPass limit z k (suc more) i s ≡ tooWide
+  unfolding columnPass andThen
+  columnPass-wide e = rw e
+
+-- the quotient of the pass, read from the slice
+quotient-state :
+    (W : Layout) (w : List ℤ) (k i j : ℕ) → i < W .matrix .lines → j < W .matrix .width → k < W .matrix .lines → k < W .matrix .width
+    → floor (contents (W .matrix) w i j) (contents (W .matrix) w k k) ≡ quotient limit (sizesOf W) k (stateOf W w) i j
+unfolding quotient
+quotient-state W w k i j a b c d = cc (entry-state W w i j a b, entry-state W w k k c d)
+
+-- an operation went too wide, and the slice was cleared
+pub pass-refused : {o : Outcome} {n : ℕ} (w : List ℤ) {w′ : List ℤ} → o ≡ tooWide → w′ ≡ replicate (length w) (pos 0) → length w ≡ n → PassRefused o n Refusal.TooWide w′
+pass-refused w e z l = record { outcome = e; cleared = record { number = refl; zeros = z ∙ ap (λ (n : ℕ). replicate n (pos 0)) l } }
+
+-- ---- step c
+
+-- before row i
+pub record RowPassing (W : Layout) (k : ℕ) (w₀ : List ℤ) (i : ℕ) (w : List ℤ) : Type 0 where
+  pub same-length : length w ≡ length w₀
+  pub from : k < i
+  pub placed : Placed W k w
+  pub rest :
+      rowPass limit (sizesOf W) k (W .matrix .lines - i) i (stateOf W w)
+      ≡ rowPassOf W k w₀
+
+pub rows-start : {W : Layout} {k : ℕ} {w : List ℤ} → Placed W k w → RowPassing W k w (k + 1) w
+rows-start {W} {k} {w} h = record {
+  same-length = refl;
+  from = omega arith;
+  placed = h;
+  rest = rw (add-one k);
+}
+
+module _ {W : Layout} {k : ℕ} {w₀ : List ℤ} {i : ℕ} {w : List ℤ} (h : RowPassing W k w₀ i w) (below : i < W .matrix .lines) where
+  -- the operation of the pass is the one that the code makes
+  row-operation :
+      {q : ℤ} → q ≡ floor (contents (W .matrix) w i k) (contents (W .matrix) w k k)
+      → onRow limit (sizesOf W) (subtract i k (quotient limit (sizesOf W) k (stateOf W w) i k)) (stateOf W w) ≡ onRow limit (sizesOf W) (subtract i k q) (stateOf W w)
+  row-operation e =
+      ap (λ (x : ℤ). onRow limit (sizesOf W) (subtract i k x) (stateOf W w))
+      (sym (e ∙ quotient-state W w k i k below (h .placed .ready .column) (h .placed .ready .row) (h .placed .ready .column)))
+
+  row-rest : rowPass limit (sizesOf W) k (suc (W .matrix .lines - suc i)) i (stateOf W w) ≡ rowPassOf W k w₀
+  row-rest = subst (λ (n : ℕ). rowPass limit (sizesOf W) k n i (stateOf W w) ≡ rowPassOf W k w₀) (omega arith) (h .rest)
+
+  pub rows-next :
+      {q : ℤ} {w′ : List ℤ} → q ≡ floor (contents (W .matrix) w i k) (contents (W .matrix) w k k) → length w′ ≡ length w → Small w′
+      → onRow limit (sizesOf W) (subtract i k q) (stateOf W w) ≡ made (stateOf W w′) → RowPassing W k w₀ (i + 1) w′
+  rows-next {q} {w′} e l s o = record {
+    same-length = l ∙ h .same-length;
+    from = omega (arith, h .from);
+    placed = record {
+      laid = laid;
+      small = s;
+      ready = record {
+        shaped = shaped-state w′ laid;
+        row = h .placed .ready .row;
+        column = h .placed .ready .column;
+        positive = subst (λ (x : ℤ). pos 0 <ℤ x) (sym pivot) (h .placed .ready .positive);
+      };
+      rows-done = rowsDone-moves (led .moves) (h .placed .ready .shaped) (h .placed .rows-done);
+    };
+    rest =
+        ap (λ (n : ℕ). rowPass limit (sizesOf W) k (W .matrix .lines - n) n (stateOf W w′)) (add-one i)
+        ∙ sym (rowPass-made limit (sizesOf W) k (W .matrix .lines - suc i) i (stateOf W w) (stateOf W w′) (row-operation e ∙ o))
+        ∙ row-rest;
+  }
+    where
+      laid : Laid (length w′) W
+      laid = subst (λ (n : ℕ). Laid n W) (sym l) (h .placed .laid)
+
+      led : Led limit (sizesOf W) k (stateOf W w) (stateOf W w′) (onRows (subtract i k q) (entry (stateOf W w .matrix)))
+      led = led-row limit (sizesOf W) k (subtract i k q) (stateOf W w) (stateOf W w′) (h .placed .ready .shaped) (omega (arith, h .from)) (omega (arith, h .from, h .placed .ready .row)) o
+
+      pivot : entry (stateOf W w′ .matrix) k k ≡ entry (stateOf W w .matrix) k k
+      pivot = ap (λ (A : theory.Matrix). A k k) (led .matrix) ∙ onRows-subtract-other i k q (entry (stateOf W w .matrix)) k k (omega (arith, h .from))
+
+  pub rows-wide :
+      {q : ℤ} → q ≡ floor (contents (W .matrix) w i k) (contents (W .matrix) w k k)
+      → onRow limit (sizesOf W) (subtract i k q) (stateOf W w) ≡ tooWide
+      → rowPassOf W k w₀ ≡ tooWide
+  rows-wide {q} e o =
+      sym row-rest
+      ∙ rowPass-wide limit (sizesOf W) k (W .matrix .lines - suc i) i (stateOf W w)
+      (row-operation e ∙ o)
+
+-- after the last row
+pub rows-end : {W : Layout} {k : ℕ} {w₀ : List ℤ} {i : ℕ} {w : List ℤ} → RowPassing W k w₀ i w → W .matrix .lines ≤ i → PassMade W (rowPassOf W k w₀) (length w₀) w
+unfolding rowPass
+rows-end {W} {k} {w₀} {i} {w} h l = record {
+  outcome = sym (h .rest) ∙ ap (λ (n : ℕ). rowPass limit (sizesOf W) k n i (stateOf W w)) none-left;
+  kept = record { same-length = h .same-length; small = h .placed .small };
+}
+  where
+    none-left : W .matrix .lines - i ≡ 0
+    none-left = omega arith
+
+-- ---- step d
+
+-- before column j
+pub record ColumnPassing (W : Layout) (k : ℕ) (w₀ : List ℤ) (j : ℕ) (w : List ℤ) : Type 0 where
+  pub same-length : length w ≡ length w₀
+  pub from : k < j
+  pub clear : ColumnClear W k w
+  pub rest :
+      columnPass limit (sizesOf W) k (W .matrix .width - j) j (stateOf W w)
+      ≡ columnPassOf W k w₀
+
+pub columns-start : {W : Layout} {k : ℕ} {w : List ℤ} → ColumnClear W k w → ColumnPassing W k w (k + 1) w
+columns-start {W} {k} {w} h = record {
+  same-length = refl;
+  from = omega arith;
+  clear = h;
+  rest = rw (add-one k);
+}
+
+-- column k is zero off the pivot
+pub column-zero : {W : Layout} {k : ℕ} {w : List ℤ} → ColumnClear W k w → (i : ℕ) → i < W .matrix .lines → i ≢ k → contents (W .matrix) w i k ≡ pos 0
+column-zero {W} {k} {w} h i below other = sym (entry-state W w i k below (h .ready .ready .column)) ∙ go (decLt i k)
+  where
+    go : Dec (i < k) → entry (stateOf W w .matrix) i k ≡ pos 0
+    go (yes l) = h .rows-done .zero i k l (Nat.le-refl k) (h .ready .ready .column)
+    go (no l) = h .ready .below i (omega arith) below
+
+module _ {W : Layout} {k : ℕ} {w₀ : List ℤ} {j : ℕ} {w : List ℤ} (h : ColumnPassing W k w₀ j w) (below : j < W .matrix .width) where
+  ready : ReadyC (sizesOf W) k (stateOf W w)
+  ready = h .clear .ready .ready
+
+  column-operation :
+      {q : ℤ} → q ≡ floor (contents (W .matrix) w k j) (contents (W .matrix) w k k)
+      → onColumn limit (sizesOf W) (subtract j k (quotient limit (sizesOf W) k (stateOf W w) k j)) (stateOf W w) ≡ onColumn limit (sizesOf W) (subtract j k q) (stateOf W w)
+  column-operation e =
+      ap (λ (x : ℤ). onColumn limit (sizesOf W) (subtract j k x) (stateOf W w)) (sym (e ∙ quotient-state W w k k j (ready .row) below (ready .row) (ready .column)))
+
+  column-rest : columnPass limit (sizesOf W) k (suc (W .matrix .width - suc j)) j (stateOf W w) ≡ columnPassOf W k w₀
+  column-rest = subst (λ (n : ℕ). columnPass limit (sizesOf W) k n j (stateOf W w) ≡ columnPassOf W k w₀) (omega arith) (h .rest)
+
+  pub columns-next :
+      {q : ℤ} {w′ : List ℤ} → q ≡ floor (contents (W .matrix) w k j) (contents (W .matrix) w k k) → length w′ ≡ length w → Small w′
+      → onColumn limit (sizesOf W) (subtract j k q) (stateOf W w) ≡ made (stateOf W w′) → ColumnPassing W k w₀ (j + 1) w′
+  unfolding onColumns
+  columns-next {q} {w′} e l s o = record {
+    same-length = l ∙ h .same-length;
+    from = omega (arith, h .from);
+    clear = record {
+      laid = laid;
+      small = s;
+      ready = record {
+        ready = record {
+          shaped = shaped-state w′ laid;
+          row = ready .row;
+          column = ready .column;
+          positive = subst (λ (x : ℤ). pos 0 <ℤ x) (sym (stays k)) (ready .positive);
+        };
+        below = λ i a b. stays i ∙ h .clear .ready .below i a b;
+      };
+      rows-done = rowsDone-moves (led .moves) (ready .shaped) (h .clear .rows-done);
+    };
+    rest =
+        ap (λ (n : ℕ). columnPass limit (sizesOf W) k (W .matrix .width - n) n (stateOf W w′)) (add-one j)
+        ∙ sym (columnPass-made limit (sizesOf W) k (W .matrix .width - suc j) j (stateOf W w) (stateOf W w′) (column-operation e ∙ o))
+        ∙ column-rest;
+  }
+    where
+      laid : Laid (length w′) W
+      laid = subst (λ (n : ℕ). Laid n W) (sym l) (h .clear .laid)
+
+      led : Led limit (sizesOf W) k (stateOf W w) (stateOf W w′) (onColumns (subtract j k q) (entry (stateOf W w .matrix)))
+      led = led-column limit (sizesOf W) k (subtract j k q) (stateOf W w) (stateOf W w′) (ready .shaped) (omega (arith, h .from)) (omega (arith, h .from, ready .column)) o
+
+      stays : (i : ℕ) → entry (stateOf W w′ .matrix) i k ≡ entry (stateOf W w .matrix) i k
+      stays i = ap (λ (A : theory.Matrix). A i k) (led .matrix) ∙ onRows-subtract-other j k q (transpose (entry (stateOf W w .matrix))) k i (omega (arith, h .from))
+
+  pub columns-wide :
+      {q : ℤ} → q ≡ floor (contents (W .matrix) w k j) (contents (W .matrix) w k k)
+      → onColumn limit (sizesOf W) (subtract j k q) (stateOf W w) ≡ tooWide
+      → columnPassOf W k w₀ ≡ tooWide
+  columns-wide {q} e o =
+      sym column-rest
+      ∙ columnPass-wide limit (sizesOf W) k (W .matrix .width - suc j) j (stateOf W w)
+      (column-operation e ∙ o)
+
+-- after the last column
+pub columns-end : {W : Layout} {k : ℕ} {w₀ : List ℤ} {j : ℕ} {w : List ℤ} → ColumnPassing W k w₀ j w → W .matrix .width ≤ j → PassMade W (columnPassOf W k w₀) (length w₀) w
+unfolding columnPass
+columns-end {W} {k} {w₀} {j} {w} h l = record {
+  outcome = sym (h .rest) ∙ ap (λ (n : ℕ). columnPass limit (sizesOf W) k n j (stateOf W w)) none-left;
+  kept = record { same-length = h .same-length; small = h .clear .small };
+}
+  where
+    none-left : W .matrix .width - j ≡ 0
+    none-left = omega arith

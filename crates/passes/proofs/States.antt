@@ -1,0 +1,97 @@
+-- The state that a slice holds: entry-state, shaped-state, within-state, held-matrix, laid-kept. operated-done, operated-wide: what an operation
+-- came to. rowsDone-moves: a stage's operations keep its finished rows.
+use mathlib.Core.Path.{_≡_, refl, sym, _∙_, ap, subst}
+use mathlib.Core.Bool.{true}
+use mathlib.Core.List.{List}
+use Prim.Native.Nat.{ℕ, _+_, _<_}
+use native.Mathlib.Omega.{arith}
+use lib.ListN.{length}
+use lib.IntN.{ℤ}
+use Rattle.matrices.specs.Matrix as theory
+use Rattle.reduction_steps.specs.Table.{table, entry, tableWithin}
+use Rattle.reduction_steps.specs.State.{Sizes, State, Outcome, made, tooWide, within}
+use Rattle.reduction_laws.specs.Tables.{entry-table, table-entry, tableWithin-table}
+use Rattle.reduction_laws.specs.Shape.{Shaped, shaped-rows, shaped-columns, matrix-rows, matrix-columns, within-iff}
+use Rattle.reduction_laws.specs.Moves.{Moves, Keeps, moves-keep}
+use Rattle.reduction_laws.specs.StageLaws as stage-laws
+use Rattle.lines.specs.Slice.{limit, at, lineAt, Small}
+use Rattle.lines.specs.Matrices.{Held, contents}
+use Rattle.lines.specs.declared.matrix.Matrix.{Matrix}
+use Rattle.lines.specs.declared.line.Effect.{Effect}
+use Rattle.lines.specs.declared.line.Effect.the-variants.{Done, TooWide}
+use Rattle.operations.specs.Laid.{Laid, sizesOf, linesOf, stateOf, outcomeOf, Operated}
+use Rattle.operations.specs.declared.layout.Layout.{Layout}
+
+-- ---- the state of a slice
+
+pub entry-state : (W : Layout) (w : List ℤ) (i j : ℕ) → i < W .matrix .lines → j < W .matrix .width → entry (stateOf W w .matrix) i j ≡ contents (W .matrix) w i j
+unfolding stateOf linesOf
+entry-state W w i j a b = entry-table (W .matrix .lines) (W .matrix .width) (contents (W .matrix) w) i j a b
+
+-- a table is the table of its own entries, with its number of lines written in another way
+table-lines : {m m′ : ℕ} → m ≡ m′ → (n : ℕ) (A : theory.Matrix) → table m n A ≡ table m′ n (entry (table m n A))
+table-lines {m} e n A = sym (table-entry m n A) ∙ ap (λ (x : ℕ). table x n (entry (table m n A))) e
+
+pub shaped-state : {n : ℕ} {W : Layout} (w : List ℤ) → Laid n W → Shaped (sizesOf W) (stateOf W w)
+unfolding stateOf linesOf
+shaped-state {n} {W} w h = record {
+  matrix = table-lines refl (W .matrix .width) (contents (W .matrix) w);
+  rowFollower = table-lines (h .row-follower-lines) (W .«row_follower» .width) (contents (W .«row_follower») w);
+  rowInverse = table-lines (h .row-inverse-lines) (W .«row_inverse» .width) (contents (W .«row_inverse») w);
+  columnFollower = table-lines (h .column-follower-lines) (W .«column_follower» .width) (contents (W .«column_follower») w);
+  columnInverse = table-lines (h .column-inverse-lines) (W .«column_inverse» .width) (contents (W .«column_inverse») w);
+}
+
+-- the layout after an operation or a pass
+pub laid-kept : {W : Layout} {n : ℕ} (w′ : List ℤ) → Laid n W → length w′ ≡ n → Laid (length w′) W
+laid-kept {W} w′ h l = subst (λ (n : ℕ). Laid n W) (sym l) h
+
+pub within-state : (W : Layout) (w : List ℤ) → Small w → within limit (stateOf W w) ≡ true
+unfolding stateOf linesOf
+within-state W w h =
+    within-iff limit (stateOf W w) .1
+    (record {
+      matrix = narrow (W .matrix);
+      rowFollower = narrow (W .«row_follower»);
+      rowInverse = narrow (W .«row_inverse»);
+      columnFollower = narrow (W .«column_follower»);
+      columnInverse = narrow (W .«column_inverse»);
+    })
+  where
+    narrow : (M : Matrix) → tableWithin limit (table (M .lines) (M .width) (contents M w)) ≡ true
+    narrow M = tableWithin-table limit (M .lines) (M .width) (contents M w) .1 (λ i j _ _. h .bound (lineAt (M .at) (M .width) i + j))
+
+pub held-matrix : {n : ℕ} {W : Layout} → Laid n W → Held n (W .matrix)
+held-matrix h = record { ends = omega (arith, h .after-matrix, h .after-row-inverse, h .after-row-follower, h .after-column-follower, h .after-column-inverse) }
+
+-- ---- what an operation came to
+
+pub operated-done : {W : Layout} {o : Outcome} {r : Effect} {w′ : List ℤ} → Operated W o r w′ → r ≡ Done → o ≡ made (stateOf W w′)
+operated-done {W} {o} {r} {w′} h e = sym (h .outcome) ∙ ap (λ (x : Effect). outcomeOf x (stateOf W w′)) e
+
+pub operated-wide : {W : Layout} {o : Outcome} {r : Effect} {w′ : List ℤ} → Operated W o r w′ → r ≡ TooWide → o ≡ tooWide
+operated-wide {W} {o} {r} {w′} h e = sym (h .outcome) ∙ ap (λ (x : Effect). outcomeOf x (stateOf W w′)) e
+
+-- ---- what a stage's operations keep
+
+-- the shape, and the finished rows
+record Underway (z : Sizes) (k : ℕ) (s : State) : Type 0 where
+  pub shaped : Shaped z s
+  pub rows-done : stage-laws.RowsDone (z .columns) k (entry (s .matrix))
+
+underway-keeps : (limit : ℕ) (z : Sizes) (k : ℕ) → Keeps limit z k (Underway z k)
+underway-keeps limit z k = record {
+  onRows = λ op t f w h p. record {
+    shaped = shaped-rows op (p .shaped);
+    rows-done = subst (λ (A : theory.Matrix). stage-laws.RowsDone (z .columns) k A) (sym (matrix-rows op (p .shaped) w)) (stage-laws.rowsDone-rows op f (p .rows-done));
+  };
+  onColumns = λ op t f w h p. record {
+    shaped = shaped-columns op (p .shaped);
+    rows-done = subst (λ (A : theory.Matrix). stage-laws.RowsDone (z .columns) k A) (sym (matrix-columns op (p .shaped) w)) (stage-laws.rowsDone-columns op f w (p .rows-done));
+  };
+}
+
+pub rowsDone-moves :
+    {limit : ℕ} {z : Sizes} {k : ℕ} {s t : State} → Moves limit z k s t → Shaped z s → stage-laws.RowsDone (z .columns) k (entry (s .matrix))
+    → stage-laws.RowsDone (z .columns) k (entry (t .matrix))
+rowsDone-moves {limit} {z} {k} p h r = moves-keep limit z k (underway-keeps limit z k) p (record { shaped = h; rows-done = r }) .rows-done

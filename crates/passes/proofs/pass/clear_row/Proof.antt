@@ -1,0 +1,142 @@
+-- `clear_row` meets its contract. The invariant: what is left of the column pass from the present state is the whole pass from the start. The
+-- measure is how many columns are left. Assumes nothing.
+use mathlib.Core.Path.{_≡_, _∙_}
+use Prim.Native.Nat.{_-_}
+use native.Mathlib.Omega.{arith}
+use mir.Syntax.{w64}
+use Rattle.integers.specs.Division.{floor}
+use Rattle.lines.specs.Matrices.{contents}
+use Rattle.lines.proofs.Words.{read}
+use Rattle.passes.proofs.States.{held-matrix, operated-done, operated-wide}
+use Rattle.passes.proofs.Words.{quotient-small, quotient-asks, quotient-read}
+use Rattle.passes.proofs.Passes.{pass-refused, column-zero, ColumnPassing, columns-start, columns-next, columns-wide, columns-end}
+use Rattle.passes.proofs.pass.clear_row.Statement.{statement}
+use Rattle.passes.proofs.pass.clear_row.Tie as tie
+
+abbrev Inv-loop : tie.InvT-loop
+Inv-loop W w₀ k m columns j₀ w j = ColumnPassing W k w₀ j w
+
+abbrev μ-loop : tie.MeasureT-loop
+μ-loop W w₀ k m columns j₀ w j = W .matrix .width - j
+
+-- a turn of the loop, after its two entries were read
+module _ (c : tie.After-entry2 Inv-loop μ-loop) where
+  abbrev turn : tie.In-loop Inv-loop μ-loop
+  turn = c .before .before .before .before
+
+  abbrev head : tie.At-loop Inv-loop μ-loop
+  head = turn .before
+
+  abbrev start : tie.Start Inv-loop μ-loop
+  start = head .before .before
+
+-- the quotient as the machine reads it
+taken :
+    (c : tie.After-quotient Inv-loop μ-loop)
+    → (let A = contents (start (c .before) .args .layout .matrix) (head (c .before) .loop .w) in
+    read w64 (c .quotient .result) ≡ floor (A (start (c .before) .args .k) (head (c .before) .loop .j)) (A (start (c .before) .args .k) (start (c .before) .args .k)))
+taken c =
+    let e = c .before in
+    let h = head e .loop .inv .clear in
+    quotient-read (start e .args .layout) (start e .args .k) (head e .loop .w) (h .small) (h .ready .ready) (start e .args .k) (head e .loop .j)
+    (e .before .before .entry .ensures) (e .entry2 .ensures) (c .quotient .ensures)
+
+add-j : tie.Need-add-j Inv-loop μ-loop
+add-j c = omega (arith, c .before .pre .ready .ready .column, c .before .fits .k)
+
+loop-holds : tie.Need-loop-holds Inv-loop μ-loop
+loop-holds c = columns-start (c .before .pre)
+
+entry-requires : tie.Need-entry-requires Inv-loop μ-loop
+entry-requires c κs =
+    let h = c .before .before .loop .inv .clear in
+    (held-matrix (h .laid), (h .ready .ready .row, c .before .loop-test .taken))
+
+entry-requires-2 : tie.Need-entry-requires-2 Inv-loop μ-loop
+entry-requires-2 c κs =
+    let h = c .before .before .before .before .loop .inv .clear in
+    (held-matrix (h .laid), (h .ready .ready .row, h .ready .ready .column))
+
+quotient-requires : tie.Need-quotient-requires Inv-loop μ-loop
+quotient-requires c κs =
+    let h = head c .loop .inv .clear in
+    quotient-asks (start c .args .layout) (start c .args .k) (head c .loop .w) (h .small) (h .ready .ready) (start c .args .k) (head c .loop .j) (c .before .before .entry .ensures) (c .entry2 .ensures)
+
+subtract-column-requires : tie.Need-subtract-column-requires Inv-loop μ-loop
+subtract-column-requires c κs =
+    let e = c .before .before in
+    let inv = head e .loop .inv in
+    let small-quotient = quotient-small (c .before .quotient .result) (c .before .quotient .ensures .1) in
+    let h = inv .clear in (
+      h .laid,
+      (h .small, ((h .ready .ready .row, turn e .loop-test .taken, h .ready .ready .column, (λ same. omega (arith, inv .from)), small-quotient), column-zero h)),
+    )
+
+enum-told : tie.Need-enum-told Inv-loop μ-loop
+enum-told c = c .match .keys1
+
+enum-told-2 : tie.Need-enum-told-2 Inv-loop μ-loop
+enum-told-2 c = c .match .keys2
+
+clear-requires : tie.Need-clear-requires Inv-loop μ-loop
+clear-requires c κs = tt
+
+same-length : tie.Need-same-length Inv-loop μ-loop
+same-length c =
+    let called = c .before .before .before .before .before .before in
+    c .before .clear .kept .0 ∙ called .subtract-column .kept .1 .0 ∙ head (called .before .before .before) .loop .inv .same-length
+
+returns : tie.Need-returns Inv-loop μ-loop
+returns c =
+    let called = c .before .before .before .before .before .before in
+    let quotient = called .before .before in
+    let inv = head (quotient .before) .loop .inv in
+    pass-refused (called .subtract-column .last .1 .0)
+    (columns-wide inv (turn (quotient .before) .loop-test .taken) (taken quotient) (operated-wide (called .subtract-column .ensures) (c .before .before .before .enum-told2 .given .1)))
+    (c .before .clear .ensures) (called .subtract-column .kept .1 .0 ∙ inv .same-length)
+
+add-j-2 : tie.Need-add-j-2 Inv-loop μ-loop
+add-j-2 c =
+    let e = c .before .before .before .before .before .before in
+    omega (arith, turn e .loop-test .taken, start e)
+
+loop-less : tie.Need-loop-less Inv-loop μ-loop
+loop-less c =
+    let e = c .before .before .before .before .before .before in
+    omega (arith, turn e .loop-test .taken)
+
+loop-again : tie.Need-loop-again Inv-loop μ-loop
+loop-again c =
+    let called = c .before .before .before .subtract-column in
+    let quotient = c .before .before .before .before .before in
+    columns-next (head (quotient .before) .loop .inv) (turn (quotient .before) .loop-test .taken) (taken quotient) (called .kept .1 .0) (called .ensures .small)
+    (operated-done (called .ensures) (c .enum-told .given .1))
+
+same-length-2 : tie.Need-same-length-2 Inv-loop μ-loop
+same-length-2 c = c .before .loop .inv .same-length
+
+returns-2 : tie.Need-returns-2 Inv-loop μ-loop
+returns-2 c = columns-end (c .before .loop .inv) (c .loop-test .left)
+
+pub clear-row-spec : {M : Type 1} → statement M
+clear-row-spec =
+    tie.close
+    (tie.spec
+    Inv-loop
+    μ-loop
+    add-j
+    loop-holds
+    entry-requires
+    entry-requires-2
+    quotient-requires
+    subtract-column-requires
+    enum-told
+    enum-told-2
+    clear-requires
+    same-length
+    returns
+    add-j-2
+    loop-less
+    loop-again
+    same-length-2
+    returns-2)

@@ -1,0 +1,36 @@
+// Step b. An operation that goes too wide ends the call there: the slice is cleared.
+ghost use Prim.Native.Nat.{_<_};
+ghost use lib.ListN.{length};
+ghost use Rattle.lines.specs.Slice.{Small};
+ghost use Rattle.operations.specs.Laid.{Laid};
+ghost use Rattle.passes.specs.Answer.{bringOf, Passed};
+use crate::pass::Pass;
+use lines::line::Effect;
+use lines::line::clear;
+use operations::layout::Layout;
+use refusal::Refusal;
+
+// Swaps the entry at (i, j) to place (k, k), and negates row k where that is negative.
+pub fn bring_pivot(layout: Layout, w: &mut [i32], k: usize, i: usize, j: usize) -> Pass
+    requires { ⌜ Laid (length (now w)) layout ⌝ }
+    requires { ⌜ Small (now w) ⌝ }
+    requires { ⌜ (k < layout .matrix .lines) × (k < layout .matrix .width) × (i < layout .matrix .lines) × (j < layout .matrix .width) ⌝ }
+    ensures { λ r. ⌜ Passed layout (bringOf layout k i j (now (w .entry))) (length (now (w .entry))) r (now (w .exit)) ⌝ }
+{
+    let Effect::Done = layout.swap_rows(w, i, k) else {
+        clear(w);
+        return Pass::Refused(Refusal::TooWide);
+    };
+    let Effect::Done = layout.swap_columns(w, j, k) else {
+        clear(w);
+        return Pass::Refused(Refusal::TooWide);
+    };
+    let m = layout.matrix;
+    if m.entry(w, k, k) < 0 {
+        let Effect::Done = layout.negate_row(w, k) else {
+            clear(w);
+            return Pass::Refused(Refusal::TooWide);
+        };
+    }
+    Pass::Made
+}

@@ -1,0 +1,51 @@
+// The passes of steps c and d. An operation that goes too wide ends the call there: the slice is cleared.
+ghost use lib.ListN.{length};
+ghost use Rattle.passes.specs.Answer.{Placed, ColumnClear, rowPassOf, columnPassOf, Passed};
+use lines::line::Effect;
+use lines::line::clear;
+use operations::layout::Layout;
+use operations::quotient::quotient;
+use refusal::Refusal;
+
+pub enum Pass {
+    Made,
+    Refused(Refusal),
+}
+
+// Step c: for each lower row in rising order, subtracts quotient times row k.
+pub fn clear_column(layout: Layout, w: &mut [i32], k: usize) -> Pass
+    requires { ⌜ Placed layout k (now w) ⌝ }
+    ensures { λ r. ⌜ Passed layout (rowPassOf layout k (now (w .entry))) (length (now (w .entry))) r (now (w .exit)) ⌝ }
+{
+    let m = layout.matrix;
+    let rows = m.lines;
+    let mut i = k + 1;
+    while i < rows {
+        let q = quotient(m.entry(w, i, k), m.entry(w, k, k));
+        let Effect::Done = layout.subtract_row(w, i, k, q) else {
+            clear(w);
+            return Pass::Refused(Refusal::TooWide);
+        };
+        i = i + 1;
+    }
+    Pass::Made
+}
+
+// Step d: for each later column in rising order, subtracts quotient times column k, whose one nonzero entry is the pivot.
+pub fn clear_row(layout: Layout, w: &mut [i32], k: usize) -> Pass
+    requires { ⌜ ColumnClear layout k (now w) ⌝ }
+    ensures { λ r. ⌜ Passed layout (columnPassOf layout k (now (w .entry))) (length (now (w .entry))) r (now (w .exit)) ⌝ }
+{
+    let m = layout.matrix;
+    let columns = m.width;
+    let mut j = k + 1;
+    while j < columns {
+        let q = quotient(m.entry(w, k, j), m.entry(w, k, k));
+        let Effect::Done = layout.subtract_column(w, j, k, q) else {
+            clear(w);
+            return Pass::Refused(Refusal::TooWide);
+        };
+        j = j + 1;
+    }
+    Pass::Made
+}
