@@ -47,7 +47,7 @@ static void hold_answers(const char *name) {
 /* The line of the sheet that is loaded. */
 static void show(const char *name) {
     static char family[64];
-    static double earlier_time, earlier_cells;
+    static double last_time, last_cells;
     double check = INFINITY, whole = INFINITY, cycle = INFINITY, before = INFINITY;
     for (int i = 0; i < 100; i++) {
         measure(&check, checks);
@@ -58,11 +58,11 @@ static void show(const char *name) {
     printf("%-18s %5u %9.3f %10.3f %14.3f %9.3f %10.2f", name, cells(), check, whole, cycle, before, before / cycle);
     size_t n = strcspn(name, "-");
     if (strncmp(family, name, n) == 0 && family[n] == 0)
-        printf(" %8.2f", log(whole / earlier_time) / log(cells() / earlier_cells));
+        printf(" %8.2f", log(whole / last_time) / log(cells() / last_cells));
     printf("\n");
     snprintf(family, sizeof family, "%.*s", (int)n, name);
-    earlier_time = whole;
-    earlier_cells = cells();
+    last_time = whole;
+    last_cells = cells();
 }
 
 int main(int argc, char **argv) {
