@@ -1,12 +1,8 @@
--- Signed words: signs (`signs`, `sign-entry`), the tests of a limit (`beyond-low`, `beyond-high`, `within`), and a sum to which a signed term
--- is added (`sum-is`).
+-- Signed words: signs (`signs`, `sign-entry`), and a sum to which a signed term is added (`sum-is`).
 use mathlib.Core.Path.{_≡_, refl, ap, _∙_}
-use mathlib.Core.Bool.{true, false, false≢true}
-use Prim.Native.Nat.{ℕ, zero, suc, _^_, _%_, _<_, _≤_}
+use Prim.Native.Nat.{ℕ, zero, suc, _^_, _%_, _≤_}
 use native.Mathlib.Omega.{arith}
-use borrow.Author.Tests.{ltb-true, ltb-false}
 use lib.IntN.{ℤ, pos, negsuc, negℤ, natAbs, _+ℤ_, _*ℤ_}
-use lib.Signed.{ltZ}
 use mir.Syntax.{w32, w64}
 use mir.Val.{SFits}
 use mir.Facts.{toZ-ofZ}
@@ -38,20 +34,6 @@ sign-cast r t e = rw (read-wide r (sign-small r t e)) (entry-fits r (sign-small 
 
 pub sign-entry : (r : ℤ) (t : ℕ) → r ≡ sign t → read w32 (read w64 r) ≡ sign t
 sign-entry r t e = rw (read-wide r (sign-small r t e), read-entry r (sign-small r t e)) e
-
--- ---- the tests of a limit
-
-pub beyond-low : (m : ℕ) (v : ℤ) → ltZ v (negsuc m) ≡ true → suc m < natAbs v
-beyond-low m (pos n) e = absurd (false≢true e)
-beyond-low m (negsuc n) e = omega (arith, ltb-true m n e)
-
-pub beyond-high : (m : ℕ) (v : ℤ) → ltZ (pos m) v ≡ true → m < natAbs v
-beyond-high m (pos n) e = ltb-true m n e
-beyond-high m (negsuc n) e = absurd (false≢true e)
-
-pub within : (m : ℕ) (v : ℤ) → ltZ v (negsuc m) ≡ false → ltZ (pos (suc m)) v ≡ false → natAbs v ≤ suc m
-within m (pos n) e f = ltb-false (suc m) n f
-within m (negsuc n) e f = omega (arith, ltb-false m n e)
 
 -- ---- a sum to which y times a sign is added
 

@@ -18,7 +18,7 @@ use Rattle.sheet_format.specs.CheckLaws.{some-at, some-false}
 use Rattle.reports.specs.Call.{coefficientExceeds}
 use Rattle.limits.specs.Limits.{coefficientLimit}
 use Rattle.lines.proofs.Words.{read}
-use Rattle.faces.proofs.Words.{beyond-low, beyond-high, within}
+use Rattle.chains.proofs.Limits.{beyond-low, beyond-high, within}
 use Rattle.chains.proofs.chain.coefficient_exceeds.Statement.{statement}
 use Rattle.chains.proofs.chain.coefficient_exceeds.Tie as tie
 

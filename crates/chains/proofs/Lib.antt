@@ -1,0 +1,2 @@
+-- Lemmas for the proofs of this crate: the tests of a limit.
+mod Limits
