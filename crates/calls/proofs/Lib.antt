@@ -1,6 +1,6 @@
 -- What the proofs of the crate share: where the matrices stand (`Places`), the sheet (`Sheet`), the start of the first
 -- reduction (`Filling`) and of the second (`Between`), what the two come to (`Outcomes`) and that it can be written (`Writing`), the refusals before
--- them (`Refusals`), and what the calls answer (`Answering`, `ReportAnswers`, `CoordinateAnswers`).
+-- them (`Refusals`), what `admit` answered (`Admitting`), and what the calls answer (`Answering`, `ReportAnswers`, `CoordinateAnswers`).
 mod Places
 mod Sheet
 mod Filling
@@ -8,6 +8,7 @@ mod Between
 mod Outcomes
 mod Writing
 mod Refusals
+mod Admitting
 mod Answering
 mod ReportAnswers
 mod CoordinateAnswers

@@ -1,5 +1,5 @@
--- What the sheet gives the calls: rows-none, rows-section and rows-before, the rows of a boundary matrix; counted, the three counts that a
--- dimension has; accepted-library, a sheet that is accepted at a lower limit is accepted at the library's; sheet-complex.
+-- What the sheet gives the calls: rows-none, rows-section and rows-before, the rows of a boundary matrix; sizes-read, the sizes of a
+-- dimension, and what follows from them; accepted-library, a sheet that is accepted at a lower limit is accepted at the library's; sheet-complex.
 use mathlib.Core.Path.{_≡_, refl, sym, _∙_, ap}
 use mathlib.Core.Logic.{_≢_}
 use mathlib.Core.List.{List}
@@ -21,6 +21,8 @@ use Rattle.reports.specs.Call.{workSlots}
 use Rattle.limits.specs.Limits.{libraryLimit}
 use Rattle.faces.specs.Face.{Accepted}
 use Rattle.operations.specs.Layouts.{firstLayout, secondLayout}
+use Rattle.calls.specs.Admission.{SizesRead}
+use Rattle.calls.specs.declared.admission.Sizes.{Sizes}
 use Rattle.calls.specs.Slices.{firstLayoutOf, secondLayoutOf}
 
 pub rows-none : (b : List ℕ) (p : ℕ) → p ≡ 0 → countBelow (sectionsOf b) p ≡ 0
@@ -55,26 +57,29 @@ accepted-library {limit} {b} h e = record {
 pub sheet-complex : {b : List ℕ} → Bytes b → Accepted b → Complex top libraryLimit (sectionsOf b)
 sheet-complex {b} bytes h = accepted-complex libraryLimit b bytes (h .none-applies)
 
--- the numbers of cells, rows and columns are those of dimension p
-pub record ReducedWith (b : List ℕ) (p cells rows columns : ℕ) : Type 0 where
-  pub cells-are : cells ≡ count (sectionsOf b) p
-  pub rows-are : rows ≡ countBelow (sectionsOf b) p
-  pub columns-are : columns ≡ count (sectionsOf b) (suc p)
-
-pub counted : {b : List ℕ} {p cells rows columns : ℕ} → ReadsBelow 65536 (countField b p) cells → ReadsBelow 65536 (countBelow (sectionsOf b) p) rows
-    → ReadsBelow 65536 (countField b (p + 1)) columns → ReducedWith b p cells rows columns
-counted {b} {p} c r d = record {
-  cells-are = c .is ∙ sym (count-sectionsOf b p);
-  rows-are = r .is;
-  columns-are = d .is ∙ ap (countField b) (add-one p) ∙ sym (count-sectionsOf b (suc p));
+pub sizes-read : {b : List ℕ} {p cells rows columns : ℕ} → ReadsBelow 65536 (countField b p) cells → ReadsBelow 65536 (countBelow (sectionsOf b) p) rows
+    → ReadsBelow 65536 (countField b (p + 1)) columns → SizesRead b p (record { cells = cells; rows = rows; columns = columns })
+sizes-read {b} {p} c r d = record {
+  is =
+      cc (
+        c .is ∙ sym (count-sectionsOf b p),
+        r .is,
+        d .is ∙ ap (countField b) (add-one p) ∙ sym (count-sectionsOf b (suc p)),
+      );
+  cells-below = c .below;
+  rows-below = r .below;
+  columns-below = d .below;
 }
 
-module _ {b : List ℕ} {p cells rows columns : ℕ} (c : ReducedWith b p cells rows columns) where
-  pub first-of : firstLayout cells rows columns ≡ firstLayoutOf b p
-  first-of = rw (c .cells-are, c .rows-are, c .columns-are)
+module _ {b : List ℕ} {p : ℕ} {n : Sizes} (h : SizesRead b p n) where
+  pub cells-of : n .cells ≡ count (sectionsOf b) p
+  cells-of = ap (λ (k : Sizes). k .cells) (h .is)
 
-  pub second-of : (rank : ℕ) → secondLayout cells rows columns rank ≡ secondLayoutOf b p rank
-  second-of rank = rw (c .cells-are, c .rows-are, c .columns-are)
+  pub first-of : firstLayout (n .cells) (n .rows) (n .columns) ≡ firstLayoutOf b p
+  first-of = ap (λ (k : Sizes). firstLayout (k .cells) (k .rows) (k .columns)) (h .is)
 
-  pub slots-of : cells * (2 * cells + max rows columns) ≡ workSlots (sectionsOf b) p
-  slots-of = rw (c .cells-are, c .rows-are, c .columns-are)
+  pub second-of : (rank : ℕ) → secondLayout (n .cells) (n .rows) (n .columns) rank ≡ secondLayoutOf b p rank
+  second-of rank = ap (λ (k : Sizes). secondLayout (k .cells) (k .rows) (k .columns) rank) (h .is)
+
+  pub slots-of : n .cells * (2 * n .cells + max (n .rows) (n .columns)) ≡ workSlots (sectionsOf b) p
+  slots-of = ap (λ (k : Sizes). k .cells * (2 * k .cells + max (k .rows) (k .columns))) (h .is)

@@ -3,18 +3,16 @@ ghost use Prim.Native.Nat.{_≤_};
 ghost use Rattle.reports.specs.Call.{coordinateCall};
 ghost use Rattle.limits.specs.Limits.{libraryLimit};
 ghost use Rattle.calls.specs.Answer.{CallAnswers};
+use crate::admission::Admission;
+use crate::admission::Request;
+use crate::admission::admit;
 use crate::answer::Answer;
 use crate::reductions::Reductions;
 use crate::reductions::reduce_twice;
-use crate::reductions::rows_of;
 use chains::chain::boundary_not_zero;
 use chains::chain::coefficient_exceeds;
-use fields::field::TOP;
-use fields::field::count;
 use lines::line::clear;
-use operations::layout::Layout;
 use refusal::Refusal;
-use sheet::reader::Reading;
 use sheet::reader::Sheet;
 use writers::coordinates::write_coordinates;
 
@@ -34,21 +32,19 @@ pub fn coordinates_at(
         r (now (coordinates .exit)) (now (work .exit))
         ⌝ }
 {
-    if let Reading::Refused(refusal) = sheet.read(s) {
-        return Answer::Refused(refusal);
-    }
+    let sizes = match admit(
+        sheet,
+        s,
+        dimension,
+        Request::Coordinates,
+        coordinates.len(),
+        work.len(),
+    ) {
+        Admission::Refused(refusal) => return Answer::Refused(refusal),
+        Admission::Admitted(sizes) => sizes,
+    };
     let p = dimension as usize;
-    if TOP < p {
-        return Answer::Refused(Refusal::DimensionExceedsTop);
-    }
-    let cells = count(s, p);
-    if coordinates.len() < cells {
-        return Answer::Refused(Refusal::SliceTooShort);
-    }
-    if work.len() < Layout::work_slots(cells, rows_of(s, p), count(s, p + 1)) {
-        return Answer::Refused(Refusal::SliceTooShort);
-    }
-    if chain.len() != cells {
+    if chain.len() != sizes.cells {
         return Answer::Refused(Refusal::ChainLengthDiffers);
     }
     if coefficient_exceeds(chain) {
@@ -57,7 +53,7 @@ pub fn coordinates_at(
     if boundary_not_zero(s, p, chain) {
         return Answer::Refused(Refusal::BoundaryNotZero);
     }
-    let Reductions::Done(reduced) = reduce_twice(s, p, work) else {
+    let Reductions::Done(reduced) = reduce_twice(s, p, sizes, work) else {
         return Answer::Refused(Refusal::TooWide);
     };
     let counts = write_coordinates(reduced, work, chain, coordinates);

@@ -1,4 +1,5 @@
 // The library's calls: the report of a dimension and the coordinates of a cycle.
+pub mod admission;
 pub mod answer;
 pub mod coordinates;
 pub mod reductions;

@@ -2,13 +2,13 @@
 ghost use mathlib.Core.Path.{_≡_};
 ghost use Prim.Native.Nat.{_≤_};
 ghost use lib.ListN.{length};
-ghost use Rattle.complexes.specs.Boundary.{countBelow};
-ghost use Rattle.fields.specs.Read.{ReadsBelow};
 ghost use Rattle.sheet_format.specs.Layout.{top};
 ghost use Rattle.sheet_format.specs.Check.{sectionsOf};
 ghost use Rattle.reports.specs.Call.{workSlots, reductionsOf};
 ghost use Rattle.faces.specs.Face.{Accepted};
+ghost use Rattle.calls.specs.Admission.{SizesRead};
 ghost use Rattle.calls.specs.Slices.{firstLayoutOf, Filled, TwiceReduced};
+use crate::admission::Sizes;
 use boundaries::fill::fill_boundary;
 use boundaries::fill::fill_identity;
 use boundaries::product::multiply;
@@ -24,13 +24,6 @@ use writers::reduced::Reduced;
 pub enum Reductions {
     Done(Reduced),
     Refused(Refusal),
-}
-
-// The number of rows of the boundary matrix of dimension p.
-pub fn rows_of(s: &[u8], p: usize) -> usize
-    ensures { λ r. ⌜ ReadsBelow 65536 (countBelow (sectionsOf (now (s .entry))) p) r ⌝ }
-{
-    if p == 0 { 0 } else { count(s, p - 1) }
 }
 
 // Sets up the first reduction: the boundary matrix of dimension p, V and its inverse.
@@ -49,20 +42,18 @@ fn fill_first(s: &[u8], p: usize, layout: Layout, w: &mut [i32])
 }
 
 // Reduces the boundary matrix of dimension p, then Q times the one of p + 1.
-pub fn reduce_twice(s: &[u8], p: usize, w: &mut [i32]) -> Reductions
+pub fn reduce_twice(s: &[u8], p: usize, sizes: Sizes, w: &mut [i32]) -> Reductions
     requires { ⌜ Accepted (now s) × (p ≤ top) ⌝ }
     requires { ⌜ workSlots (sectionsOf (now s)) p ≤ length (now w) ⌝ }
+    requires { ⌜ SizesRead (now s) p sizes ⌝ }
     ensures { λ r. ⌜ TwiceReduced (now (s .entry)) p (reductionsOf (now (s .entry)) p) (length (now (w .entry))) r (now (w .exit)) ⌝ }
 {
-    let cells = count(s, p);
-    let rows = rows_of(s, p);
-    let columns = count(s, p + 1);
-    let first = Layout::first(cells, rows, columns);
+    let first = Layout::first(sizes.cells, sizes.rows, sizes.columns);
     fill_first(s, p, first, w);
     let Reduction::Done(rank) = reduce_matrix(first, w) else {
         return Reductions::Refused(Refusal::TooWide);
     };
-    let second = Layout::second(cells, rows, columns, rank);
+    let second = Layout::second(sizes.cells, sizes.rows, sizes.columns, rank);
     let Effect::Done = multiply(s, p, second.row_follower, second.matrix, w) else {
         clear(w);
         return Reductions::Refused(Refusal::TooWide);

@@ -3,16 +3,14 @@ ghost use Prim.Native.Nat.{_≤_};
 ghost use Rattle.reports.specs.Call.{reportCall};
 ghost use Rattle.limits.specs.Limits.{libraryLimit};
 ghost use Rattle.calls.specs.Answer.{CallAnswers};
+use crate::admission::Admission;
+use crate::admission::Request;
+use crate::admission::admit;
 use crate::answer::Answer;
 use crate::reductions::Reductions;
 use crate::reductions::reduce_twice;
-use crate::reductions::rows_of;
-use fields::field::TOP;
-use fields::field::count;
 use lines::line::clear;
-use operations::layout::Layout;
 use refusal::Refusal;
-use sheet::reader::Reading;
 use sheet::reader::Sheet;
 use writers::report::write_report;
 
@@ -30,21 +28,19 @@ pub fn report_at(
         (now (report .exit)) (now (work .exit))
         ⌝ }
 {
-    if let Reading::Refused(refusal) = sheet.read(s) {
-        return Answer::Refused(refusal);
-    }
+    let sizes = match admit(
+        sheet,
+        s,
+        dimension,
+        Request::Report,
+        report.len(),
+        work.len(),
+    ) {
+        Admission::Refused(refusal) => return Answer::Refused(refusal),
+        Admission::Admitted(sizes) => sizes,
+    };
     let p = dimension as usize;
-    if TOP < p {
-        return Answer::Refused(Refusal::DimensionExceedsTop);
-    }
-    let cells = count(s, p);
-    if report.len() < 2 + cells + cells * cells {
-        return Answer::Refused(Refusal::SliceTooShort);
-    }
-    if work.len() < Layout::work_slots(cells, rows_of(s, p), count(s, p + 1)) {
-        return Answer::Refused(Refusal::SliceTooShort);
-    }
-    let Reductions::Done(reduced) = reduce_twice(s, p, work) else {
+    let Reductions::Done(reduced) = reduce_twice(s, p, sizes, work) else {
         return Answer::Refused(Refusal::TooWide);
     };
     let counts = write_report(reduced, work, report);

@@ -1,295 +1,218 @@
--- `coordinates::coordinates_at` meets its contract: each return is one case of the definition of the coordinate call (`Refusals`,
+-- `coordinates::coordinates_at` meets its contract: each return is one case of the definition of the coordinate call (`Admitting`, `Refusals`,
 -- `CoordinateAnswers`).
 -- Assumes nothing.
-use mathlib.Core.Path.{_≡_, sym, _∙_, ap}
+use mathlib.Core.Path.{_≡_, sym, _∙_}
 use mathlib.Core.Bool.{false}
+use Prim.Native.Nat.{ℕ, _≤_}
 use borrow.Author.Needs.{needs}
 use denote.Ref.{now}
-use lib.ListN.{length}
+use lib.IntN.{pos, natAbs}
+use lib.ListN.{length, getD}
 use Rattle.complexes.specs.Complex.{Complex, count}
 use Rattle.sheet_format.specs.Layout.{top}
-use Rattle.sheet_format.specs.Check.{sectionsOf, first, refusal}
-use Rattle.sheet_format.specs.SheetLaws.{count-sectionsOf}
-use Rattle.sheet.specs.Number.{readingNumber}
-use Rattle.reports.specs.Call.{coordinateSlots, workSlots, reductionsOf, coefficientExceeds, chainChecks}
-use Rattle.limits.specs.Limits.{libraryLimit}
-use Rattle.reports.specs.RefusalLaws.{Passed}
+use Rattle.sheet_format.specs.Check.{sectionsOf, first}
+use Rattle.reports.specs.Call.{reductionsOf, coefficientExceeds, chainChecks}
+use Rattle.limits.specs.Limits.{libraryLimit, coefficientLimit}
 use Rattle.faces.specs.Face.{Accepted}
 use Rattle.calls.specs.Slices.{ReducedTwice}
-use Rattle.calls.proofs.Sheet.{counted, sheet-complex, accepted-library, slots-of}
+use Rattle.calls.specs.declared.admission.Request.the-variants.{Coordinates}
+use Rattle.calls.proofs.Sheet.{sheet-complex, accepted-library, cells-of}
 use Rattle.calls.proofs.Outcomes.{twice-done, twice-refused}
-use Rattle.calls.proofs.Refusals.{sheet-refused, dimension-refused, output-short, work-short, length-differs, coefficient-beyond, boundary-nonzero, chain-passed, coefficients-small}
+use Rattle.calls.proofs.Admitting.{admit-refused, Granted, admit-granted}
+use Rattle.calls.proofs.Refusals.{length-differs, coefficient-beyond, boundary-nonzero, chain-passed, coefficients-small}
 use Rattle.calls.proofs.Writing.{can-coordinate}
 use Rattle.calls.proofs.CoordinateAnswers.{coordinates-refuse, chain-refuses, coordinates-wide, coordinates-done}
 use Rattle.calls.proofs.coordinates.coordinates_at.Statement.{statement}
 use Rattle.calls.proofs.coordinates.coordinates_at.Tie as tie
 
--- ---- the sheet
+-- ---- the checks 1 to 9
 
-read-requires : tie.Need-read-requires
-read-requires c κs = search needs
+admit-requires : tie.Need-admit-requires
+admit-requires c κs = search needs
 
 enum-known-refusal : tie.Need-enum-known-refusal
 enum-known-refusal c = c .match .keys1
 
 returns : tie.Need-returns
 returns c =
-    let a = c .before .before .before .before .before .args in
-    let x = c .before .refusal .given .0 .0 in
-    let told : refusal (a .sheet .limit) (now (a .s)) ≡ _ = sym (c .before .before .before .read .ensures .number) ∙ ap readingNumber (c .before .refusal .given .1) in
+    let called = c .before .before .before in
+    let a = called .before .before .args in
     coordinates-refuse (a .sheet .limit) (now (a .s)) (a .dimension) (now (a .chain)) (now (a .coordinates)) (now (a .work))
-    (sheet-refused (a .sheet .limit) (now (a .s)) (a .dimension) coordinateSlots (length (now (a .coordinates))) (length (now (a .work))) x told)
+    (admit-refused (a .sheet .limit) (now (a .s)) (a .dimension) Coordinates (length (now (a .coordinates))) (length (now (a .work))) (called .admit .result)
+    (called .admit .ensures) (c .before .refusal .given .1))
 
-enum-told : tie.Need-enum-told
-enum-told c = c .match .keys2
+enum-known-sizes : tie.Need-enum-known-sizes
+enum-known-sizes c = c .match .keys2
 
-module _ (c : tie.After-enum-told) where
-  abbrev start : tie.Start
-  start = c .before .before .before .before
+module _ (c : tie.After-sizes) where
+  abbrev entered : tie.Start
+  entered = c .before .before .before .before
 
-  accepted : refusal (start .args .sheet .limit) (now (start .args .s)) ≡ 0
-  accepted = sym (c .before .before .read .ensures .number) ∙ ap readingNumber (c .enum-told .given .1)
+  granted : let a = entered .args in
+      Granted (a .sheet .limit) (now (a .s)) (a .dimension) Coordinates (length (now (a .coordinates))) (length (now (a .work))) (c .sizes .given .0 .0)
+  granted =
+      let called = c .before .before in
+      let a = entered .args in
+      admit-granted (a .sheet .limit) (now (a .s)) (a .dimension) Coordinates (length (now (a .coordinates))) (length (now (a .work)))
+      (called .admit .result) (called .admit .ensures) (c .sizes .given .1)
 
--- ---- the dimension
+  library : Accepted (now (entered .args .s))
+  library = accepted-library (entered .pre) (granted .passed .accepted)
 
-returns-2 : tie.Need-returns-2
-returns-2 c =
-    let a = start (c .before) .args in
-    coordinates-refuse (a .sheet .limit) (now (a .s)) (a .dimension) (now (a .chain)) (now (a .coordinates)) (now (a .work))
-    (dimension-refused (a .sheet .limit) (now (a .s)) (a .dimension) coordinateSlots (length (now (a .coordinates))) (length (now (a .work)))
-    (accepted (c .before)) (c .if1 .taken))
-
-count-requires : tie.Need-count-requires
-count-requires c κs = search needs
-
--- ---- the slices
-
-module _ (c : tie.After-count) where
-  abbrev told : tie.After-enum-told
-  told = c .before .before
-
-  cells-are : c .count .result ≡ count (sectionsOf (now (start told .args .s))) (start told .args .dimension)
-  cells-are = c .count .ensures .is ∙ sym (count-sectionsOf (now (start told .args .s)) (start told .args .dimension))
-
-returns-3 : tie.Need-returns-3
-returns-3 c =
-    let a = start (told (c .before)) .args in
-    coordinates-refuse (a .sheet .limit) (now (a .s)) (a .dimension) (now (a .chain)) (now (a .coordinates)) (now (a .work))
-    (output-short (a .sheet .limit) (now (a .s)) (a .dimension) coordinateSlots (length (now (a .coordinates))) (length (now (a .work)))
-    (accepted (told (c .before))) (c .before .before .if1 .left) (rw (← cells-are (c .before)) (c .if2 .taken)))
-
-rows-of-requires : tie.Need-rows-of-requires
-rows-of-requires c κs = search needs
-
-add-count : tie.Need-add-count
-add-count c = search needs
-
-count-requires-2 : tie.Need-count-requires-2
-count-requires-2 c κs = search needs
-
-work-slots-requires : tie.Need-work-slots-requires
-work-slots-requires c κs = search needs
-
-module _ (c : tie.After-work-slots) where
-  abbrev first-count : tie.After-count
-  first-count = c .before .before .before .before
-
-  slots-are : c .work-slots .result ≡ workSlots (sectionsOf (now (start (told first-count) .args .s))) (start (told first-count) .args .dimension)
-  slots-are = c .work-slots .ensures ∙ slots-of (counted (first-count .count .ensures) (c .before .before .rows-of .ensures) (c .before .count2 .ensures))
-
-returns-4 : tie.Need-returns-4
-returns-4 c =
-    let first = first-count (c .before) in
-    let a = start (told first) .args in
-    coordinates-refuse (a .sheet .limit) (now (a .s)) (a .dimension) (now (a .chain)) (now (a .coordinates)) (now (a .work))
-    (work-short (a .sheet .limit) (now (a .s)) (a .dimension) coordinateSlots (length (now (a .coordinates))) (length (now (a .work)))
-    (accepted (told first)) (first .before .if1 .left) (rw (← slots-are (c .before)) (c .if3 .taken)))
+  complex : Complex top libraryLimit (sectionsOf (now (entered .args .s)))
+  complex = sheet-complex (record { small = λ i. c .before .before .before .shared-slice-known .given i .fits }) library
 
 -- ---- the chain
 
-module _ (c : tie.Else3) where
-  abbrev counted-first : tie.After-count
-  counted-first = first-count (c .before)
-
-  abbrev entered : tie.Start
-  entered = start (told (first-count (c .before)))
-
-  passed : let a = entered .args in
-      Passed (a .sheet .limit) (now (a .s)) (a .dimension) coordinateSlots (length (now (a .coordinates))) (length (now (a .work)))
-  passed = record {
-    accepted = accepted (told counted-first);
-    dimension = counted-first .before .if1 .left;
-    output-slots = rw (← cells-are counted-first) (c .before .before .before .before .if2 .left);
-    work-slots = rw (← slots-are (c .before)) (c .if3 .left);
-  }
-
-  library : Accepted (now (entered .args .s))
-  library = accepted-library (entered .pre) (accepted (told counted-first))
-
-  complex : Complex top libraryLimit (sectionsOf (now (entered .args .s)))
-  complex = sheet-complex (record { small = λ i. told counted-first .before .before .before .shared-slice-known .given i .fits }) library
-
-returns-5 : tie.Need-returns-5
-returns-5 c =
-    let checked = c .before in
-    let a = entered checked .args in
-    chain-refuses (a .sheet .limit) (now (a .s)) (a .dimension) (now (a .chain)) (now (a .coordinates)) (now (a .work)) (passed checked)
-    (length-differs (now (a .s)) (a .dimension) (now (a .chain)) (λ e. c .if4 .taken (e ∙ sym (cells-are (counted-first checked)))))
+returns-2 : tie.Need-returns-2
+returns-2 c =
+    let sized = c .before .before .before in
+    let a = entered sized .args in
+    chain-refuses (a .sheet .limit) (now (a .s)) (a .dimension) (now (a .chain)) (now (a .coordinates)) (now (a .work)) (granted sized .passed)
+    (length-differs (now (a .s)) (a .dimension) (now (a .chain)) (λ e. c .if1 .taken (e ∙ sym (cells-of (granted sized .sizes)))))
 
 coefficient-exceeds-requires : tie.Need-coefficient-exceeds-requires
 coefficient-exceeds-requires c κs = search needs
 
-size : (c : tie.Else4) →
-    let a = entered (c .before) .args in length (now (a .chain)) ≡ count (sectionsOf (now (a .s))) (a .dimension)
-size c = c .if4 .left ∙ cells-are (counted-first (c .before))
+module _ (c : tie.Else1) where
+  abbrev admitted : tie.After-sizes
+  admitted = c .before .before .before
 
-returns-6 : tie.Need-returns-6
-returns-6 c =
+  size : let a = entered admitted .args in length (now (a .chain)) ≡ count (sectionsOf (now (a .s))) (a .dimension)
+  size = c .if1 .left ∙ cells-of (granted admitted .sizes)
+
+returns-3 : tie.Need-returns-3
+returns-3 c =
     let sized = c .before .before in
-    let checked = sized .before in
-    let a = entered checked .args in
-    chain-refuses (a .sheet .limit) (now (a .s)) (a .dimension) (now (a .chain)) (now (a .coordinates)) (now (a .work)) (passed checked)
-    (coefficient-beyond (now (a .s)) (a .dimension) (now (a .chain)) (size sized) (sym (c .before .coefficient-exceeds .ensures) ∙ c .if5 .taken))
+    let a = entered (admitted sized) .args in
+    chain-refuses (a .sheet .limit) (now (a .s)) (a .dimension) (now (a .chain)) (now (a .coordinates)) (now (a .work)) (granted (admitted sized) .passed)
+    (coefficient-beyond (now (a .s)) (a .dimension) (now (a .chain)) (size sized) (sym (c .before .coefficient-exceeds .ensures) ∙ c .if2 .taken))
 
-module _ (c : tie.Else5) where
-  abbrev sized : tie.Else4
+module _ (c : tie.Else2) where
+  abbrev sized : tie.Else1
   sized = c .before .before
 
-  narrow : coefficientExceeds (now (entered (sized .before) .args .chain)) ≡ false
-  narrow = sym (c .before .coefficient-exceeds .ensures) ∙ c .if5 .left
+  narrow : coefficientExceeds (now (entered (admitted sized) .args .chain)) ≡ false
+  narrow = sym (c .before .coefficient-exceeds .ensures) ∙ c .if2 .left
+
+  small : (j : ℕ) → natAbs (getD (now (entered (admitted sized) .args .chain)) j (pos 0)) ≤ coefficientLimit
+  small = let a = entered (admitted sized) .args in coefficients-small (now (a .s)) (a .dimension) (now (a .chain)) (size sized) narrow
 
 boundary-not-zero-requires : tie.Need-boundary-not-zero-requires
 boundary-not-zero-requires c κs =
-    let checked = sized c .before in
-    let a = entered checked .args in (
-      library checked,
-      (
-        (passed checked .dimension, size (sized c)),
-        coefficients-small (now (a .s)) (a .dimension) (now (a .chain)) (size (sized c)) (narrow c),
-      ),
-    )
+    let s = admitted (sized c) in (library s, ((granted s .passed .dimension, size (sized c)), small c))
 
-returns-7 : tie.Need-returns-7
-returns-7 c =
-    let fifth = c .before .before in
-    let checked = sized fifth .before in
-    let a = entered checked .args in
-    chain-refuses (a .sheet .limit) (now (a .s)) (a .dimension) (now (a .chain)) (now (a .coordinates)) (now (a .work)) (passed checked)
-    (boundary-nonzero (now (a .s)) (a .dimension) (now (a .chain)) (size (sized fifth)) (narrow fifth)
-    (sym (c .before .boundary-not-zero .ensures) ∙ c .if6 .taken))
+returns-4 : tie.Need-returns-4
+returns-4 c =
+    let second = c .before .before in
+    let s = admitted (sized second) in
+    let a = entered s .args in
+    chain-refuses (a .sheet .limit) (now (a .s)) (a .dimension) (now (a .chain)) (now (a .coordinates)) (now (a .work)) (granted s .passed)
+    (boundary-nonzero (now (a .s)) (a .dimension) (now (a .chain)) (size (sized second)) (narrow second)
+    (sym (c .before .boundary-not-zero .ensures) ∙ c .if3 .taken))
 
-module _ (c : tie.Else6) where
-  abbrev fifth : tie.Else5
-  fifth = c .before .before
+module _ (c : tie.Else3) where
+  abbrev second : tie.Else2
+  second = c .before .before
 
-  abbrev checked : tie.Else3
-  checked = sized fifth .before
+  abbrev checked : tie.After-sizes
+  checked = admitted (sized second)
 
-  chain : first (chainChecks (now (entered checked .args .s)) (entered checked .args .dimension) (now (entered checked .args .chain))) ≡ 0
+  chain : let a = entered checked .args in first (chainChecks (now (a .s)) (a .dimension) (now (a .chain))) ≡ 0
   chain =
       let a = entered checked .args in
-      chain-passed (now (a .s)) (a .dimension) (now (a .chain)) (size (sized fifth)) (narrow fifth)
-      (sym (c .before .boundary-not-zero .ensures) ∙ c .if6 .left)
+      chain-passed (now (a .s)) (a .dimension) (now (a .chain)) (size (sized second)) (narrow second)
+      (sym (c .before .boundary-not-zero .ensures) ∙ c .if3 .left)
 
 -- ---- the reductions
 
 reduce-twice-requires : tie.Need-reduce-twice-requires
 reduce-twice-requires c κs =
-    let third = checked (c .before) in
-    ((library third, passed third .dimension), passed third .work-slots)
+    let s = checked (c .before) in
+    let g = granted s in ((library s, g .passed .dimension), (g .passed .work-slots, g .sizes))
 
 enum-known-reduced : tie.Need-enum-known-reduced
 enum-known-reduced c = c .match2 .keys1
 
-enum-told-2 : tie.Need-enum-told-2
-enum-told-2 c = c .match2 .keys2
+enum-told : tie.Need-enum-told
+enum-told c = c .match2 .keys2
 
-returns-8 : tie.Need-returns-8
-returns-8 c =
+returns-5 : tie.Need-returns-5
+returns-5 c =
     let called = c .before .before .before in
-    let sixth = called .before .before in
-    let a = entered (checked sixth) .args in
-    coordinates-wide (a .sheet .limit) (now (a .s)) (a .dimension) (now (a .chain)) (now (a .coordinates)) (now (a .work)) (passed (checked sixth))
-    (chain sixth)
-    (twice-refused (now (a .s)) (a .dimension) (reductionsOf (now (a .s)) (a .dimension)) (called .reduce-twice .result) (c .enum-told2 .given .1)
+    let third = called .before .before in
+    let a = entered (checked third) .args in
+    coordinates-wide (a .sheet .limit) (now (a .s)) (a .dimension) (now (a .chain)) (now (a .coordinates)) (now (a .work))
+    (granted (checked third) .passed) (chain third)
+    (twice-refused (now (a .s)) (a .dimension) (reductionsOf (now (a .s)) (a .dimension)) (called .reduce-twice .result) (c .enum-told .given .1)
     (called .reduce-twice .ensures))
 
 same-length : tie.Need-same-length
-same-length c = c .before .before .before .reduce-twice .kept .1 .1 .0
+same-length c = c .before .before .before .reduce-twice .kept .1 .1 .1 .0
 
 -- ---- the coordinates
 
-module _ (c : tie.After-known-told2) where
+module _ (c : tie.After-known-told3) where
   abbrev called : tie.After-reduce-twice
   called = c .before .before .before .before
 
-  abbrev sixth : tie.Else6
-  sixth = called .before .before
+  abbrev third : tie.Else3
+  third = called .before .before
 
-  twice : let a = entered (checked sixth) .args in
+  twice : let a = entered (checked third) .args in
       ReducedTwice (now (a .s)) (a .dimension) (reductionsOf (now (a .s)) (a .dimension)) (length (now (a .work))) (c .before .reduced .given .0 .0)
-      (called .reduce-twice .last .1 .1 .0)
+      (called .reduce-twice .last .1 .1 .1 .0)
   twice =
-      let a = entered (checked sixth) .args in
+      let a = entered (checked third) .args in
       twice-done (now (a .s)) (a .dimension) (reductionsOf (now (a .s)) (a .dimension)) (called .reduce-twice .result) (c .before .reduced .given .1)
       (called .reduce-twice .ensures)
 
 write-coordinates-requires : tie.Need-write-coordinates-requires
 write-coordinates-requires c κs =
     let told = c .before .before in
-    let third = checked (sixth told) in
-    let a = entered third .args in
-    let p = passed third in
-    can-coordinate (complex third) (p .work-slots) (twice told) (p .output-slots) (size (sized (fifth (sixth told))))
-    (coefficients-small (now (a .s)) (a .dimension) (now (a .chain)) (size (sized (fifth (sixth told)))) (narrow (fifth (sixth told))))
+    let s = checked (third told) in
+    let p = granted s .passed in
+    can-coordinate (complex s) (p .work-slots) (twice told) (p .output-slots) (size (sized (second (third told)))) (small (second (third told)))
 
 clear-requires : tie.Need-clear-requires
 clear-requires c κs = search needs
 
-returns-9 : tie.Need-returns-9
-returns-9 c =
+returns-6 : tie.Need-returns-6
+returns-6 c =
     let wrote = c .before .before .before .before in
     let told = wrote .before .before .before in
-    let third = checked (sixth told) in
-    let a = entered third .args in
-    coordinates-done (a .sheet .limit) (now (a .s)) (a .dimension) (now (a .chain)) (now (a .coordinates)) (now (a .work)) (passed third)
-    (chain (sixth told)) (complex third) (twice told) (wrote .write-coordinates .ensures) (c .before .clear .ensures)
+    let s = checked (third told) in
+    let a = entered s .args in
+    coordinates-done (a .sheet .limit) (now (a .s)) (a .dimension) (now (a .chain)) (now (a .coordinates)) (now (a .work)) (granted s .passed)
+    (chain (third told)) (complex s) (twice told) (wrote .write-coordinates .ensures) (c .before .clear .ensures)
 
 same-length-2 : tie.Need-same-length-2
 same-length-2 c = c .before .before .before .before .write-coordinates .kept .1 .1 .1 .0
 
 same-length-3 : tie.Need-same-length-3
 same-length-3 c =
-    c .before .clear .kept .0 ∙ called (c .before .before .before .before .before .before .before) .reduce-twice .kept .1 .1 .0
+    c .before .clear .kept .0 ∙ called (c .before .before .before .before .before .before .before) .reduce-twice .kept .1 .1 .1 .0
 
 pub coordinates-at-spec : {M : Type 1} → statement M
 coordinates-at-spec =
     tie.close
     (tie.spec
-    read-requires
+    admit-requires
     enum-known-refusal
     returns
-    enum-told
+    enum-known-sizes
     returns-2
-    count-requires
-    returns-3
-    rows-of-requires
-    add-count
-    count-requires-2
-    work-slots-requires
-    returns-4
-    returns-5
     coefficient-exceeds-requires
-    returns-6
+    returns-3
     boundary-not-zero-requires
-    returns-7
+    returns-4
     reduce-twice-requires
     enum-known-reduced
-    enum-told-2
+    enum-told
     same-length
-    returns-8
+    returns-5
     write-coordinates-requires
     clear-requires
     same-length-2
     same-length-3
-    returns-9)
+    returns-6)

@@ -1,11 +1,11 @@
--- `reductions::rows_of` meets its contract: dimension 0 has no rows. Assumes nothing.
+-- `admission::rows_of` meets its contract: dimension 0 has no rows. Assumes nothing.
 use mathlib.Core.Path.{sym, _∙_}
 use native.Mathlib.Omega.{arith}
 use borrow.Author.Needs.{needs}
 use denote.Ref.{now}
 use Rattle.calls.proofs.Sheet.{rows-none, rows-before}
-use Rattle.calls.proofs.reductions.rows_of.Statement.{statement}
-use Rattle.calls.proofs.reductions.rows_of.Tie as tie
+use Rattle.calls.proofs.admission.rows_of.Statement.{statement}
+use Rattle.calls.proofs.admission.rows_of.Tie as tie
 
 sub-count : tie.Need-sub-count
 sub-count c = search needs

@@ -1,0 +1,37 @@
+-- `Request::output_slots` meets its contract: by cases on what is asked, and a count is below 65536. Assumes nothing.
+use mathlib.Core.Path.{_≡_, sym, ap}
+use Prim.Native.Nat.{_*_, _^_, _≤_}
+use native.Mathlib.Omega.{arith}
+use borrow.Author.Needs.{needs}
+use Rattle.operations.proofs.Room.{product-below}
+use Rattle.calls.specs.Admission.{slotsFor}
+use Rattle.calls.specs.declared.admission.Request.{Request}
+use Rattle.calls.proofs.admission.Request.output_slots.Statement.{statement}
+use Rattle.calls.proofs.admission.Request.output_slots.Tie as tie
+
+square-below : (c : tie.Start) → c .args .sizes .cells * c .args .sizes .cells ≤ 2 ^ 32
+square-below c = product-below (c .pre) (c .pre)
+
+enum-told : tie.Need-enum-told
+enum-told c = search needs
+
+add-result : tie.Need-add-result
+add-result c = search needs
+
+mul-result : tie.Need-mul-result
+mul-result c = omega (arith, square-below (c .before .before))
+
+add-result-2 : tie.Need-add-result-2
+add-result-2 c = omega (arith, square-below (c .before .before), c .before .before .pre)
+
+enum-told-2 : tie.Need-enum-told-2
+enum-told-2 c = search needs
+
+returns : tie.Need-returns
+returns c = let a = c .before .before .args in ap (λ (x : Request). slotsFor x (a .sizes)) (sym (c .enum-told .given .1))
+
+returns-2 : tie.Need-returns-2
+returns-2 c = search needs
+
+pub output-slots-spec : {M : Type 1} → statement M
+output-slots-spec = tie.close (tie.spec enum-told add-result mul-result add-result-2 enum-told-2 returns returns-2)

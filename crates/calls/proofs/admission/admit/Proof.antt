@@ -1,0 +1,120 @@
+-- `admission::admit` meets its contract: each refusal is the first of the checks 1 to 9 that applies (`Refusals`). Assumes nothing.
+use mathlib.Core.Path.{_≡_, sym, _∙_, ap}
+use Prim.Native.Nat.{ℕ}
+use borrow.Author.Needs.{needs}
+use denote.Ref.{now}
+use Rattle.complexes.specs.Complex.{Sections}
+use Rattle.sheet_format.specs.Check.{sectionsOf, refusal}
+use Rattle.sheet.specs.Number.{readingNumber}
+use Rattle.reports.specs.Call.{workSlots}
+use Rattle.reports.specs.RefusalLaws.{callChecks-zero}
+use Rattle.calls.specs.Admission.{slotsFor}
+use Rattle.calls.proofs.Sheet.{slots-of}
+use Rattle.calls.proofs.Refusals.{sheet-refused, dimension-refused, output-short, work-short}
+use Rattle.calls.proofs.Admitting.{slotsAsked}
+use Rattle.calls.proofs.admission.admit.Statement.{statement}
+use Rattle.calls.proofs.admission.admit.Tie as tie
+
+abbrev slots : tie.Start → Sections → ℕ → ℕ
+slots s = slotsAsked (s .args .request)
+
+-- ---- the sheet
+
+read-requires : tie.Need-read-requires
+read-requires c κs = search needs
+
+enum-known-refusal : tie.Need-enum-known-refusal
+enum-known-refusal c = c .match .keys1
+
+returns : tie.Need-returns
+returns c =
+    let s = c .before .before .before .before .before in
+    let a = s .args in
+    sheet-refused (a .sheet .limit) (now (a .s)) (a .dimension) (slots s) (a .output) (a .work) (c .before .refusal .given .0 .0)
+    (sym (c .before .before .before .read .ensures .number) ∙ ap readingNumber (c .before .refusal .given .1))
+
+enum-told : tie.Need-enum-told
+enum-told c = c .match .keys2
+
+module _ (c : tie.After-enum-told) where
+  abbrev start : tie.Start
+  start = c .before .before .before .before
+
+  accepted : refusal (start .args .sheet .limit) (now (start .args .s)) ≡ 0
+  accepted = sym (c .before .before .read .ensures .number) ∙ ap readingNumber (c .enum-told .given .1)
+
+-- ---- the dimension
+
+returns-2 : tie.Need-returns-2
+returns-2 c =
+    let a = start (c .before) .args in
+    dimension-refused (a .sheet .limit) (now (a .s)) (a .dimension) (slots (start (c .before))) (a .output) (a .work) (accepted (c .before)) (c .if1 .taken)
+
+sizes-of-requires : tie.Need-sizes-of-requires
+sizes-of-requires c κs = search needs
+
+-- ---- the slices
+
+output-slots-requires : tie.Need-output-slots-requires
+output-slots-requires c κs = c .sizes-of .ensures .cells-below
+
+module _ (c : tie.After-output-slots) where
+  abbrev told : tie.After-enum-told
+  told = c .before .before .before
+
+  output-is : c .output-slots .result ≡ slots (start told) (sectionsOf (now (start told .args .s))) (start told .args .dimension)
+  output-is = c .output-slots .ensures ∙ ap (slotsFor (start told .args .request)) (c .before .sizes-of .ensures .is)
+
+returns-3 : tie.Need-returns-3
+returns-3 c =
+    let t = told (c .before) in
+    let a = start t .args in
+    output-short (a .sheet .limit) (now (a .s)) (a .dimension) (slots (start t)) (a .output) (a .work) (accepted t) (c .before .before .before .if1 .left)
+    (rw (← output-is (c .before)) (c .if2 .taken))
+
+work-slots-requires : tie.Need-work-slots-requires
+work-slots-requires c κs = search needs
+
+module _ (c : tie.After-work-slots) where
+  abbrev asked : tie.After-output-slots
+  asked = c .before .before
+
+  work-is : c .work-slots .result ≡ workSlots (sectionsOf (now (start (told asked) .args .s))) (start (told asked) .args .dimension)
+  work-is = c .work-slots .ensures ∙ slots-of (asked .before .sizes-of .ensures)
+
+returns-4 : tie.Need-returns-4
+returns-4 c =
+    let t = told (asked (c .before)) in
+    let a = start t .args in
+    work-short (a .sheet .limit) (now (a .s)) (a .dimension) (slots (start t)) (a .output) (a .work) (accepted t)
+    (asked (c .before) .before .before .if1 .left) (rw (← work-is (c .before)) (c .if3 .taken))
+
+returns-5 : tie.Need-returns-5
+returns-5 c =
+    let o = asked (c .before) in
+    let t = told o in
+    let a = start t .args in (
+      callChecks-zero (a .sheet .limit) (now (a .s)) (a .dimension) (slots (start t)) (a .output) (a .work) .1 (record {
+        accepted = accepted t;
+        dimension = o .before .before .if1 .left;
+        output-slots = rw (← output-is o) (c .before .before .if2 .left);
+        work-slots = rw (← work-is (c .before)) (c .if3 .left);
+      }),
+      o .before .sizes-of .ensures,
+    )
+
+pub admit-spec : {M : Type 1} → statement M
+admit-spec =
+    tie.close
+    (tie.spec
+    read-requires
+    enum-known-refusal
+    returns
+    enum-told
+    returns-2
+    sizes-of-requires
+    output-slots-requires
+    returns-3
+    work-slots-requires
+    returns-4
+    returns-5)

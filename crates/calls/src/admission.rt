@@ -1,0 +1,94 @@
+// The checks 1 to 9, which come before the work of every call on a dimension.
+ghost use mathlib.Core.Path.{_≡_};
+ghost use Prim.Native.Nat.{_<_, _≤_};
+ghost use Rattle.complexes.specs.Boundary.{countBelow};
+ghost use Rattle.fields.specs.Read.{ReadsBelow};
+ghost use Rattle.sheet_format.specs.Layout.{top};
+ghost use Rattle.sheet_format.specs.Check.{sectionsOf};
+ghost use Rattle.calls.specs.Admission.{SizesRead, slotsFor, Admits};
+use fields::field::TOP;
+use fields::field::count;
+use operations::layout::Layout;
+use refusal::Refusal;
+use sheet::reader::Reading;
+use sheet::reader::Sheet;
+
+// The counts that a dimension p works with: n_p cells, n_(p-1) rows of its boundary matrix, n_(p+1) columns of the next.
+pub struct Sizes {
+    pub cells: usize,
+    pub rows: usize,
+    pub columns: usize,
+}
+
+// What a call asks of a dimension.
+pub enum Request {
+    Report,
+    Coordinates,
+}
+
+// The dimension may be worked on, or the call is refused.
+pub enum Admission {
+    Admitted(Sizes),
+    Refused(Refusal),
+}
+
+// The number of rows of the boundary matrix of dimension p.
+fn rows_of(s: &[u8], p: usize) -> usize
+    ensures { λ r. ⌜ ReadsBelow 65536 (countBelow (sectionsOf (now (s .entry))) p) r ⌝ }
+{
+    if p == 0 { 0 } else { count(s, p - 1) }
+}
+
+// The sizes of dimension p.
+fn sizes_of(s: &[u8], p: usize) -> Sizes
+    requires { ⌜ p ≤ top ⌝ }
+    ensures { λ r. ⌜ SizesRead (now (s .entry)) p r ⌝ }
+{
+    Sizes {
+        cells: count(s, p),
+        rows: rows_of(s, p),
+        columns: count(s, p + 1),
+    }
+}
+
+impl Request {
+    // The slots that the output must have.
+    fn output_slots(self, sizes: Sizes) -> usize
+        requires { ⌜ sizes .cells < 65536 ⌝ }
+        ensures { λ r. ⌜ r ≡ slotsFor self sizes ⌝ }
+    {
+        let cells = sizes.cells;
+        match self {
+            Request::Report => 2 + cells + cells * cells,
+            Request::Coordinates => cells,
+        }
+    }
+}
+
+// The sizes of the dimension, or the first of the checks 1 to 9 that applies; `output` and `work` are the lengths of the slices lent.
+pub fn admit(
+    sheet: Sheet,
+    s: &[u8],
+    dimension: u32,
+    request: Request,
+    output: usize,
+    work: usize,
+) -> Admission
+    ensures { λ r. ⌜ Admits (sheet .limit) (now (s .entry)) dimension request output work r ⌝ }
+{
+    if let Reading::Refused(refusal) = sheet.read(s) {
+        return Admission::Refused(refusal);
+    }
+    let p = dimension as usize;
+    if TOP < p {
+        return Admission::Refused(Refusal::DimensionExceedsTop);
+    }
+    let sizes = sizes_of(s, p);
+    if output < request.output_slots(sizes) {
+        return Admission::Refused(Refusal::SliceTooShort);
+    }
+    if work < Layout::work_slots(sizes.cells, sizes.rows, sizes.columns) {
+        return Admission::Refused(Refusal::SliceTooShort);
+    }
+    Admission::Admitted(sizes)
+}
