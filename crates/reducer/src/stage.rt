@@ -8,6 +8,7 @@ use crate::pass::clear_column;
 use crate::pass::clear_row;
 use lines::line::Effect;
 use lines::line::clear;
+use lines::operation::Operation;
 use operations::layout::Layout;
 use operations::pivot::Pivot;
 use operations::pivot::find_pivot;
@@ -76,7 +77,7 @@ fn column_pass(layout: Layout, w: &mut [i32], k: usize, rounds: usize) -> Stage
     let Indivisible::Row(i) = first_indivisible(layout.matrix, w, k) else {
         return Stage::Cleared;
     };
-    let Effect::Done = layout.subtract_row(w, k, i, -1) else {
+    let Effect::Done = layout.on_rows(w, Operation::Subtract(k, i, -1)) else {
         clear(w);
         return Stage::Refused(Refusal::TooWide);
     };
