@@ -1,15 +1,19 @@
 -- What the operations on lines make of a matrix, in the words of the theory: `subtract-lines`, `negate-line`, `swap-lines`. `fits-case`,
--- `became-case`: an operation that turned out to be o. `Fits-inverse`: an operation's inverse fits where it does.
+-- `became-case`: an operation that turned out to be o. `Fits-inverse`: an operation's inverse fits where it does. `upTo`: lines below i changed.
 use mathlib.Core.Path.{_≡_, sym, subst}
+use mathlib.Core.Bool.{cond}
 use mathlib.Core.List.{List}
-use Prim.Native.Nat.{ℕ, _+_, _≤_}
-use lib.IntN.{ℤ, natAbs}
+use Prim.Native.Nat.{ℕ, _+_, _<_, _≤_}
+use lib.Dec.{ltb}
+use lib.IntN.{ℤ}
+use borrow.Author.Tests.{lt-ltb, le-ltb}
 use Rattle.integers.specs.Order.{natAbs-neg}
+use Rattle.matrices.specs.Matrix as theory
+use Rattle.matrices.specs.Operation as definitions
 use Rattle.matrices.specs.Operation.{subtract, swap, negate, onRows, inverse}
-use Rattle.matrices.specs.Operation as theory
 use Rattle.matrices.specs.OperationLaws.{onRows-subtract-at, onRows-subtract-other, onRows-swap-first, onRows-swap-second, onRows-swap-other, onRows-negate-at, onRows-negate-other}
 use Rattle.matrices.specs.Within.{Within-inverse}
-use Rattle.lines.specs.Slice.{limit, Subtracted, Negated, Swapped}
+use Rattle.lines.specs.Slice.{Subtracted, Negated, Swapped}
 use Rattle.lines.specs.Matrices.{contents, Became}
 use Rattle.lines.specs.Operations.{operationOf, FactorWithin, Fits}
 use Rattle.lines.specs.declared.matrix.Matrix.{Matrix}
@@ -53,11 +57,23 @@ module _ {op o : Operation} (e : op ≡ o) where
 
 -- ---- inverses
 
-factor-inverse : (op : theory.Operation) → FactorWithin op → FactorWithin (inverse op)
+factor-inverse : (op : definitions.Operation) → FactorWithin op → FactorWithin (inverse op)
 unfolding inverse
 factor-inverse (subtract i k q) l = rw (natAbs-neg q) l
 factor-inverse (swap i k) l = tt
 factor-inverse (negate k) l = tt
 
-pub Fits-inverse : {n : ℕ} (op : theory.Operation) → Fits n op → Fits n (inverse op)
+pub Fits-inverse : {n : ℕ} (op : definitions.Operation) → Fits n op → Fits n (inverse op)
 Fits-inverse {n} op f = record { within = Within-inverse n op (f .within); factor = factor-inverse op (f .factor) }
+
+-- ---- a change made line by line
+
+-- A on the lines below i, B on the others
+abbrev pub upTo : ℕ → theory.Matrix → theory.Matrix → theory.Matrix
+upTo i A B a b = cond (ltb a i) (A a b) (B a b)
+
+pub upTo-below : (i : ℕ) (A B : theory.Matrix) (a b : ℕ) → a < i → upTo i A B a b ≡ A a b
+upTo-below i A B a b l = rw (lt-ltb a i l)
+
+pub upTo-from : (i : ℕ) (A B : theory.Matrix) (a b : ℕ) → i ≤ a → upTo i A B a b ≡ B a b
+upTo-from i A B a b l = rw (le-ltb a i l)

@@ -1,15 +1,12 @@
 -- An operation on the places of a line. They are the lines of the matrix `placesOf`, so that it is an operation on lines there. Main results:
 -- `subtract-places`, where line k alone has a nonzero entry at place k, and `places-next`, `places-exceed` for one line after another.
 use mathlib.Core.Path.{_≡_, refl, sym, ap, subst, _∙_}
-use mathlib.Core.Bool.{cond}
 use mathlib.Core.Logic.{inl, inr, ⊎-elim, _≢_}
 use mathlib.Core.List.{List}
-use Prim.Native.Nat.{ℕ, _+_, _<_, _≤_}
+use Prim.Native.Nat.{ℕ, _+_, _<_}
 use native.Mathlib.Omega.{arith}
 use native.Mathlib.Decide.{ℕ-discrete, decLt}
-use lib.Dec.{ltb}
 use lib.IntN.{ℤ, natAbs}
-use borrow.Author.Tests.{lt-ltb, le-ltb}
 use Rattle.integers.specs.Ring.{mul-zero, add-zero}
 use Rattle.matrices.specs.Matrix.{transpose}
 use Rattle.matrices.specs.Matrix as theory
@@ -27,7 +24,7 @@ use Rattle.lines.specs.declared.operation.Operation as code
 use Rattle.lines.specs.declared.operation.Operation.the-variants.{Subtract}
 use Rattle.lines.proofs.Spans.{Span, line-span, span-inside, span-off, span-outside}
 use Rattle.lines.proofs.Holding.{holds-trans}
-use Rattle.lines.proofs.Operations.{fits-case}
+use Rattle.lines.proofs.Operations.{fits-case, upTo, upTo-below, upTo-from}
 
 -- ---- the places of a line
 
@@ -145,16 +142,6 @@ module _ {op : code.Operation} {j k : ℕ} {q : ℤ} (e : op ≡ Subtract j k q)
       (subtract-places M w j k q (fits-case e f .within) alone-line r w′ (became-places M k p (subtract j k q) w w′ r h))
 
 -- ---- one line after another
-
--- A on the lines below i, B on the others
-abbrev pub upTo : ℕ → theory.Matrix → theory.Matrix → theory.Matrix
-upTo i A B a b = cond (ltb a i) (A a b) (B a b)
-
-pub upTo-below : (i : ℕ) (A B : theory.Matrix) (a b : ℕ) → a < i → upTo i A B a b ≡ A a b
-upTo-below i A B a b l = rw (lt-ltb a i l)
-
-pub upTo-from : (i : ℕ) (A B : theory.Matrix) (a b : ℕ) → i ≤ a → upTo i A B a b ≡ B a b
-upTo-from i A B a b l = rw (le-ltb a i l)
 
 module _ (M : Matrix) (op : Operation) (f : Within (M .width) op) (w₀ w : List ℤ) (i : ℕ) (below : i < M .lines)
     (before : Holds M w₀ (upTo i (onColumns op (contents M w₀)) (contents M w₀)) w) where

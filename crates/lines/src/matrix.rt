@@ -1,7 +1,7 @@
 // A matrix that stands by lines in a slice of signed 32-bit numbers: line i has `width` entries from `at + i * width` on.
 ghost use mathlib.Core.Path.{_≡_};
 ghost use Prim.Native.Nat.{_+_, _*_, _^_, _<_, _≤_};
-ghost use lib.ListN.{length, getD};
+ghost use lib.ListN.{length};
 ghost use Rattle.matrices.specs.Operation.{onRows, onColumns};
 ghost use Rattle.lines.specs.Slice.{Small, lineAt};
 ghost use Rattle.lines.specs.Matrices.{end, Held, contents, Became, placesOf};

@@ -13,7 +13,7 @@ use Rattle.matrices.specs.Product.{identity-at, identity-other}
 use Rattle.lines.specs.Slice.{Small}
 use Rattle.lines.specs.Matrices.{contents, Holds}
 use Rattle.lines.specs.declared.matrix.Matrix.{Matrix}
-use Rattle.lines.proofs.Places.{upTo, upTo-below, upTo-from}
+use Rattle.lines.proofs.Operations.{upTo, upTo-below, upTo-from}
 use Rattle.boundaries.proofs.Store.{Place, place-inside, entry-set, holds-set}
 use Rattle.boundaries.proofs.fill.fill_identity.Statement.{statement}
 use Rattle.boundaries.proofs.fill.fill_identity.Tie as tie

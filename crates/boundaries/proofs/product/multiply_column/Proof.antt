@@ -22,7 +22,7 @@ use Rattle.lines.specs.Slice.{limit, at, lineAt, Small}
 use Rattle.lines.specs.Matrices.{Held, contents, end}
 use Rattle.lines.specs.declared.matrix.Matrix.{Matrix}
 use Rattle.lines.proofs.Spans.{line-span, span-inside}
-use Rattle.lines.proofs.Places.{upTo, upTo-below, upTo-from}
+use Rattle.lines.proofs.Operations.{upTo, upTo-below, upTo-from}
 use Rattle.lines.proofs.Words.{read, read-entry, entry-fits, beyond-low, beyond-high, within}
 use Rattle.boundaries.specs.Face.{AreFaces, ColumnFilled, ColumnExceeds}
 use Rattle.boundaries.proofs.Sheet.{complex}

@@ -14,8 +14,8 @@ use Rattle.lines.specs.Operations.{operationOf, AloneAt}
 use Rattle.lines.specs.declared.matrix.Matrix.{Matrix}
 use Rattle.lines.specs.declared.line.Effect.{Effect}
 use Rattle.lines.specs.declared.line.Effect.the-variants.{Done, TooWide}
-use Rattle.lines.proofs.Operations.{fits-case}
-use Rattle.lines.proofs.Places.{upTo, upTo-below, upTo-from, became-places, places-ready, alone-line, subtract-became, places-next, places-exceed}
+use Rattle.lines.proofs.Operations.{fits-case, upTo, upTo-below, upTo-from}
+use Rattle.lines.proofs.Places.{became-places, places-ready, alone-line, subtract-became, places-next, places-exceed}
 use Rattle.lines.proofs.matrix.Matrix.on_places.Statement.{statement}
 use Rattle.lines.proofs.matrix.Matrix.on_places.Tie as tie
 

@@ -2,7 +2,6 @@
 use mathlib.Core.Path.{ap}
 use Prim.Native.Nat.{ℕ}
 use borrow.Author.Needs.{needs}
-use Rattle.lines.specs.declared.matrix.Matrix.{Matrix}
 use Rattle.lines.proofs.matrix.Matrix.places.Statement.{statement}
 use Rattle.lines.proofs.matrix.Matrix.places.Tie as tie
 

@@ -2,13 +2,12 @@
 use mathlib.Core.Path.{_≡_, sym, subst}
 use mathlib.Core.Bool.{Bool, false, true≢false, false≢true}
 use lib.Dec.{eqb}
-use lib.IntN.{ℤ, pos}
+use lib.IntN.{ℤ}
 use mir.Syntax.{w64}
 use mir.Val.{SFits, ofZ}
 use borrow.Author.Needs.{needs}
 use borrow.Author.Tests.{eqb-true}
-use Rattle.matrices.specs.Operation as theory
-use Rattle.lines.specs.Operations.{operationOf, Identity, IdentityTest}
+use Rattle.lines.specs.Operations.{operationOf, IdentityTest}
 use Rattle.lines.specs.declared.operation.Operation.{Operation}
 use Rattle.lines.proofs.Words.{zero-of-bits}
 use Rattle.lines.proofs.operation.Operation.is_identity.Statement.{statement}
