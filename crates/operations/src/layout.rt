@@ -111,40 +111,6 @@ impl Layout {
 }
 
 impl Layout {
-    // The matrix undergoes the operation on its rows, the row follower too, and the row inverse its inverse.
-    fn change_rows(self, w: &mut [i32], op: Operation) -> Effect
-        requires { ⌜ Laid (length (now w)) self ⌝ }
-        requires { ⌜ Small (now w) ⌝ }
-        requires { ⌜ Fits (self .matrix .lines) (operationOf op) ⌝ }
-        ensures { λ r. ⌜ Operated self (onRow limit (sizesOf self) (operationOf op) (stateOf self (now (w .entry)))) r (now (w .exit)) ⌝ }
-    {
-        let inverse = op.inverse();
-        let Effect::Done = self.matrix.on_lines(w, op) else {
-            return Effect::TooWide;
-        };
-        let Effect::Done = self.row_follower.on_lines(w, op) else {
-            return Effect::TooWide;
-        };
-        self.row_inverse.on_lines(w, inverse)
-    }
-
-    // The same on columns.
-    fn change_columns(self, w: &mut [i32], op: Operation) -> Effect
-        requires { ⌜ Laid (length (now w)) self ⌝ }
-        requires { ⌜ Small (now w) ⌝ }
-        requires { ⌜ Fits (self .matrix .width) (operationOf op) × Alone (self .matrix) (now w) (operationOf op) ⌝ }
-        ensures { λ r. ⌜ Operated self (onColumn limit (sizesOf self) (operationOf op) (stateOf self (now (w .entry)))) r (now (w .exit)) ⌝ }
-    {
-        let inverse = op.inverse();
-        let Effect::Done = self.matrix.on_places(w, op) else {
-            return Effect::TooWide;
-        };
-        let Effect::Done = self.column_follower.on_lines(w, op) else {
-            return Effect::TooWide;
-        };
-        self.column_inverse.on_lines(w, inverse)
-    }
-
     // Does the operation to the rows of the matrix, and so to its companions.
     pub fn on_rows(self, w: &mut [i32], op: Operation) -> Effect
         requires { ⌜ Laid (length (now w)) self ⌝ }
@@ -155,7 +121,14 @@ impl Layout {
         if op.is_identity() {
             return Effect::Done;
         }
-        self.change_rows(w, op)
+        let inverse = op.inverse();
+        let Effect::Done = self.matrix.on_lines(w, op) else {
+            return Effect::TooWide;
+        };
+        let Effect::Done = self.row_follower.on_lines(w, op) else {
+            return Effect::TooWide;
+        };
+        self.row_inverse.on_lines(w, inverse)
     }
 
     // The same on columns. Where column k is subtracted, its one nonzero entry stands in row k: the matrix changes in that row alone.
@@ -168,6 +141,13 @@ impl Layout {
         if op.is_identity() {
             return Effect::Done;
         }
-        self.change_columns(w, op)
+        let inverse = op.inverse();
+        let Effect::Done = self.matrix.on_places(w, op) else {
+            return Effect::TooWide;
+        };
+        let Effect::Done = self.column_follower.on_lines(w, op) else {
+            return Effect::TooWide;
+        };
+        self.column_inverse.on_lines(w, inverse)
     }
 }
