@@ -4,3 +4,4 @@ pub mod Store
 pub mod Spans
 pub mod Holding
 pub mod Operations
+pub mod Places

@@ -1,27 +1,27 @@
--- What the operations on lines and entries make of a matrix, in the words of the theory: `subtract-lines`, `negate-line`, `swap-lines`
--- on whole lines, `subtract-entries` and `swap-entries` on two entries of one line.
-use mathlib.Core.Path.{_≡_, sym, _∙_}
+-- What the operations on lines make of a matrix, in the words of the theory: `subtract-lines`, `negate-line`, `swap-lines`. `fits-case`,
+-- `became-case`: an operation that turned out to be o. `Fits-inverse`: an operation's inverse fits where it does. `upTo`: lines below i changed.
+use mathlib.Core.Path.{_≡_, sym, subst}
 use mathlib.Core.Bool.{cond}
-use mathlib.Core.Logic.{_⊎_, inl, inr, ⊎-elim, _≢_}
 use mathlib.Core.List.{List}
 use Prim.Native.Nat.{ℕ, _+_, _<_, _≤_}
-use native.Mathlib.Omega.{arith}
-use native.Mathlib.Decide.{ℕ-discrete, decLt}
 use lib.Dec.{ltb}
-use lib.IntN.{ℤ, pos}
+use lib.IntN.{ℤ}
 use borrow.Author.Tests.{lt-ltb, le-ltb}
-use Rattle.integers.specs.Ring.{mul-zero, add-zero}
-use Rattle.matrices.specs.Matrix.{transpose}
+use Rattle.integers.specs.Order.{natAbs-neg}
 use Rattle.matrices.specs.Matrix as theory
-use Rattle.matrices.specs.Operation.{subtract, swap, negate, onRows, onColumns}
+use Rattle.matrices.specs.Operation as definitions
+use Rattle.matrices.specs.Operation.{subtract, swap, negate, onRows, inverse}
 use Rattle.matrices.specs.OperationLaws.{onRows-subtract-at, onRows-subtract-other, onRows-swap-first, onRows-swap-second, onRows-swap-other, onRows-negate-at, onRows-negate-other}
-use Rattle.lines.specs.Slice.{Off, Subtracted, Negated, Swapped, LinesSwapped}
-use Rattle.lines.specs.Matrices.{contents, Holds, Became}
+use Rattle.matrices.specs.Within.{Within-inverse}
+use Rattle.lines.specs.Slice.{Subtracted, Negated, Swapped}
+use Rattle.lines.specs.Matrices.{contents, Became}
+use Rattle.lines.specs.Operations.{operationOf, FactorWithin, Fits}
 use Rattle.lines.specs.declared.matrix.Matrix.{Matrix}
 use Rattle.lines.specs.declared.line.Effect.{Effect}
 use Rattle.lines.specs.declared.line.Effect.the-variants.{Done, TooWide}
+use Rattle.lines.specs.declared.operation.Operation.{Operation}
 use Rattle.lines.proofs.Spans.{Span, off-line}
-use Rattle.lines.proofs.Holding.{subtracted-became, negated-became, swapped-holds, holds-trans}
+use Rattle.lines.proofs.Holding.{subtracted-became, negated-became, swapped-holds}
 
 -- ---- whole lines
 
@@ -45,31 +45,26 @@ swap-lines {M} {first} {second} {i} {k} s u w w′ Done h =
     (λ a b x y o p. onRows-swap-other i k (contents M w) a b (off-line (M .width) i a b y o) (off-line (M .width) k a b y p)) h
 swap-lines s u w w′ TooWide h = absurd h
 
--- ---- two entries of one line
+-- ---- by cases on the operation
 
--- the place of a span of one entry
-one : (j t : ℕ) → t < 1 → j + t ≡ j
-one j t l = omega arith
+module _ {op o : Operation} (e : op ≡ o) where
+  pub fits-case : {n : ℕ} → Fits n (operationOf op) → Fits n (operationOf o)
+  fits-case {n} = subst (λ (x : Operation). Fits n (operationOf x)) e
 
-off-one : (j b : ℕ) → Off j 1 b → b ≢ j
-off-one j b = ⊎-elim (λ h. λ e. omega arith) (λ h. λ e. omega arith)
+  pub became-case : (M : Matrix) (w w′ : List ℤ) (r : Effect)
+      → Became M w (onRows (operationOf o) (contents M w)) r w′ → Became M w (onRows (operationOf op) (contents M w)) r w′
+  became-case M w w′ r = subst (λ (x : Operation). Became M w (onRows (operationOf x) (contents M w)) r w′) (sym e)
 
-pub subtract-entries : {M : Matrix} {target source i j k : ℕ} → Span M target i j 1 → Span M source i k 1 → (w w′ : List ℤ) (q : ℤ)
-    → ((a : ℕ) → a < M .lines → a ≢ i → contents M w a k ≡ pos 0)
-    → (r : Effect) → Subtracted w target source 1 q r w′ → Became M w (onColumns (subtract j k q) (contents M w)) r w′
-unfolding onColumns
-subtract-entries {M} {target} {source} {i} {j} {k} s u w w′ q zero =
-    subtracted-became s u w w′ q (onColumns (subtract j k q) C)
-    (λ t l. rw (one j t l, one k t l) (onRows-subtract-at j k q (transpose C) i))
-    (λ a b x y o. pick a b x o (ℕ-discrete b j))
-  where
-    C : theory.Matrix
-    C = contents M w
+-- ---- inverses
 
-    pick : (a b : ℕ) → a < M .lines → (a ≢ i) ⊎ Off j 1 b → Dec (b ≡ j) → onRows (subtract j k q) (transpose C) b a ≡ C a b
-    pick a b x o (no d) = onRows-subtract-other j k q (transpose C) b a d
-    pick a b x (inr o) (yes e) = absurd (off-one j b o e)
-    pick a b x (inl d) (yes e) = rw e (onRows-subtract-at j k q (transpose C) a ∙ rw (zero a x d, mul-zero q, add-zero (C a j)))
+factor-inverse : (op : definitions.Operation) → FactorWithin op → FactorWithin (inverse op)
+unfolding inverse
+factor-inverse (subtract i k q) l = rw (natAbs-neg q) l
+factor-inverse (swap i k) l = tt
+factor-inverse (negate k) l = tt
+
+pub Fits-inverse : {n : ℕ} (op : definitions.Operation) → Fits n op → Fits n (inverse op)
+Fits-inverse {n} op f = record { within = Within-inverse n op (f .within); factor = factor-inverse op (f .factor) }
 
 -- ---- a change made line by line
 
@@ -82,46 +77,3 @@ upTo-below i A B a b l = rw (lt-ltb a i l)
 
 pub upTo-from : (i : ℕ) (A B : theory.Matrix) (a b : ℕ) → i ≤ a → upTo i A B a b ≡ B a b
 upTo-from i A B a b l = rw (le-ltb a i l)
-
-module _ {M : Matrix} {first second i j k : ℕ} {w w′ : List ℤ} (s : Span M first i j 1) (u : Span M second i k 1)
-    (before : Holds M w (upTo i (onColumns (swap j k) (contents M w)) (contents M w)) w′) where
-  abbrev old : theory.Matrix
-  old = contents M w
-
-  abbrev new : theory.Matrix
-  new = onColumns (swap j k) (contents M w)
-
-  -- line i is as it was
-  kept : (b : ℕ) → b < M .width → contents M w′ i b ≡ old i b
-  kept b l = before .on .at i b (s .line) l ∙ upTo-from i new old i b (omega arith)
-
-  pub swap-entries : {w″ : List ℤ} → LinesSwapped w′ first second 1 w″ → Holds M w (upTo (i + 1) new old) w″
-  unfolding onColumns
-  swap-entries h = holds-trans before (swapped-holds s u (upTo (i + 1) new old) on-first on-second same h)
-    where
-      on-first : (t : ℕ) → t < 1 → upTo (i + 1) new old i (j + t) ≡ contents M w′ i (k + t)
-      on-first t l =
-          rw (one j t l, one k t l)
-          (upTo-below (i + 1) new old i j (omega arith) ∙ onRows-swap-first j k (transpose old) i ∙ sym (kept k (omega (arith, u .within))))
-
-      on-second : (t : ℕ) → t < 1 → upTo (i + 1) new old i (k + t) ≡ contents M w′ i (j + t)
-      on-second t l =
-          rw (one j t l, one k t l)
-          (upTo-below (i + 1) new old i k (omega arith) ∙ onRows-swap-second j k (transpose old) i ∙ sym (kept j (omega (arith, s .within))))
-
-      other-line : (a b : ℕ) → a < M .lines → b < M .width → a ≢ i → Dec (a < i) → upTo (i + 1) new old a b ≡ contents M w′ a b
-      other-line a b x y d (yes l) =
-          upTo-below (i + 1) new old a b (omega arith) ∙ sym (before .on .at a b x y ∙ upTo-below i new old a b l)
-      other-line a b x y d (no l) =
-          upTo-from (i + 1) new old a b (omega arith) ∙ sym (before .on .at a b x y ∙ upTo-from i new old a b (omega arith))
-
-      same : (a b : ℕ) → a < M .lines → b < M .width → (a ≢ i) ⊎ Off j 1 b → (a ≢ i) ⊎ Off k 1 b → upTo (i + 1) new old a b ≡ contents M w′ a b
-      same a b x y (inl d) p = other-line a b x y d (decLt a i)
-      same a b x y (inr o) (inl d) = other-line a b x y d (decLt a i)
-      same a b x y (inr o) (inr p) = pick (ℕ-discrete a i)
-        where
-          pick : Dec (a ≡ i) → upTo (i + 1) new old a b ≡ contents M w′ a b
-          pick (no d) = other-line a b x y d (decLt a i)
-          pick (yes e) =
-              rw e (upTo-below (i + 1) new old i b (omega arith)
-              ∙ onRows-swap-other j k (transpose old) b i (off-one j b o) (off-one k b p) ∙ sym (kept b y))

@@ -1,5 +1,5 @@
 -- Signed words that hold small numbers. A machine operation reads a number z back from its bits, `read w z`, which is z where the word
--- holds it. Main results: `read-entry`, `read-wide`, `difference` for the words of `line::subtract`, and the tests of the limit.
+-- holds it. Main results: `read-entry`, `read-wide`, `negated-read`, `read-less` for the words of `line::subtract`, and the tests of the limit.
 use mathlib.Core.Path.{_≡_, sym, ap, _∙_}
 use mathlib.Core.Bool.{true, false, false≢true}
 use Prim.Native.Nat.{_*_, _^_, _<_, _≤_}
@@ -12,7 +12,8 @@ use mir.Syntax.{Width, w32, w64}
 use mir.Val.{SFits, ofZ, toZ, hbits}
 use mir.Facts.{toZ-ofZ, toZ-pos, sfits-widen}
 use lib.Pow.{pow-pos}
-use Rattle.integers.specs.Order.{natAbs-mul, natAbs-sub}
+use Rattle.integers.specs.Ring.{zero-add}
+use Rattle.integers.specs.Order.{natAbs-neg, natAbs-mul, natAbs-sub}
 use Rattle.lines.specs.Slice.{limit}
 
 abbrev pub read : Width → ℤ → ℤ
@@ -49,6 +50,18 @@ cast-is z f = ap (read w64) (toZ-ofZ f) ∙ toZ-ofZ (sfits-widen tt f)
 -- a number whose bits are 0
 pub zero-of-bits : {w : Width} {z : ℤ} → SFits w z → ofZ w z ≡ 0 → z ≡ pos 0
 zero-of-bits {w} f e = sym (toZ-ofZ f) ∙ ap (toZ w) e ∙ toZ-pos w (pow-pos (hbits w))
+
+-- ---- -q
+
+module _ (q : ℤ) (small : natAbs q ≤ limit) where
+  negated-is : pos 0 -ℤ read w64 q ≡ negℤ q
+  negated-is = rw (read-wide q small) (zero-add (negℤ q))
+
+  pub negated-fits : SFits w64 (pos 0 -ℤ read w64 q)
+  negated-fits = rw negated-is (wide-fits (negℤ q) (rw (natAbs-neg q) small))
+
+  pub negated-read : read w64 (pos 0 -ℤ read w64 q) ≡ negℤ q
+  negated-read = toZ-ofZ negated-fits ∙ negated-is
 
 -- ---- x - q * y, where x and y are entries and q is the number that a word holds
 

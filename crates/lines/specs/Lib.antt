@@ -1,3 +1,4 @@
 -- What the contracts of src/ cite.
 pub mod Slice
 pub mod Matrices
+pub mod Operations

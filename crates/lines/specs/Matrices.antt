@@ -49,3 +49,7 @@ pub record Exceeds (M : Matrix) (w : List ℤ) (A : theory.Matrix) (w′ : List 
 abbrev pub Became : Matrix → List ℤ → theory.Matrix → Effect → List ℤ → Type 0
 Became M w A Done w′ = Holds M w A w′
 Became M w A TooWide w′ = Exceeds M w A w′
+
+-- the places of line i, as a matrix of that many lines of one entry
+abbrev pub placesOf : Matrix → ℕ → Matrix
+placesOf M i = record { at = lineAt (M .at) (M .width) i; lines = M .width; width = 1 }

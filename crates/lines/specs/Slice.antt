@@ -1,7 +1,6 @@
 -- Lines of a slice, and what an operation on them leaves. A slice is the list of its entries; here `limit` is the limit of an entry.
 use mathlib.Core.Path.{_≡_}
-use mathlib.Core.Logic.{_⊎_, _≢_}
-use mathlib.Core.Bool.{Bool, true, false}
+use mathlib.Core.Logic.{_⊎_}
 use mathlib.Core.List.{List}
 use Prim.Native.Nat.{ℕ, _+_, _*_, _<_, _≤_}
 use lib.ListN.{length, getD}
@@ -69,18 +68,3 @@ Swapped w first second width TooWide w′ = ⊥
 abbrev pub Negated : List ℤ → ℕ → ℕ → Effect → List ℤ → Type 0
 Negated w target width Done w′ = LineSet w target width (λ t. negℤ (at w (target + t))) w′
 Negated w target width TooWide w′ = ⊥
-
--- the `count` entries at `start`, `start + step`, .. are all 0
-pub record AllZero (w : List ℤ) (start step count : ℕ) : Type 0 where
-  pub zero : (t : ℕ) → t < count → at w (lineAt start step t) ≡ pos 0
-
--- one of them is not
-pub record SomeNonzero (w : List ℤ) (start step count : ℕ) : Type 0 where
-  pub place : ℕ
-  pub below : place < count
-  pub nonzero : at w (lineAt start step place) ≢ pos 0
-
--- what a test for zeros answers
-pub record ZeroTest (w : List ℤ) (start step count : ℕ) (r : Bool) : Type 0 where
-  pub on-true : r ≡ true → AllZero w start step count
-  pub on-false : r ≡ false → SomeNonzero w start step count

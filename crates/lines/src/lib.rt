@@ -1,3 +1,4 @@
 // Matrices in a lent slice of signed 32-bit numbers, and operations on their lines.
 pub mod line;
 pub mod matrix;
+pub mod operation;

@@ -2,10 +2,10 @@
 // limit; where one does not, the work ends there.
 ghost use mathlib.Core.Path.{_≡_};
 ghost use mathlib.Core.Logic.{_⊎_};
-ghost use Prim.Native.Nat.{ℕ, _+_, _*_, _<_, _≤_};
-ghost use lib.ListN.{length, getD, replicate};
+ghost use Prim.Native.Nat.{_+_, _≤_};
+ghost use lib.ListN.{length, replicate};
 ghost use lib.IntN.{pos, natAbs};
-ghost use Rattle.lines.specs.Slice.{limit, Small, Apart, Subtracted, Swapped, Negated, ZeroTest};
+ghost use Rattle.lines.specs.Slice.{limit, Small, Apart, Subtracted, Swapped, Negated};
 use crate::matrix::Matrix;
 
 // What an operation answers.
@@ -82,19 +82,4 @@ pub fn clear(w: &mut [i32])
         w[t] = 0;
         t = t + 1;
     }
-}
-
-// Whether the `count` entries at, at + step, .. are all 0.
-pub fn is_zero(w: &[i32], at: usize, step: usize, count: usize) -> bool
-    requires { ⌜ ((t : ℕ) → t < count → at + t * step < length (now w)) ⌝ }
-    ensures { λ r. ⌜ ZeroTest (now (w .entry)) at step count r ⌝ }
-{
-    let mut t: usize = 0;
-    while t < count {
-        if w[at + t * step] != 0 {
-            return false;
-        }
-        t = t + 1;
-    }
-    true
 }

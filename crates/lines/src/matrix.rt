@@ -1,15 +1,14 @@
 // A matrix that stands by lines in a slice of signed 32-bit numbers: line i has `width` entries from `at + i * width` on.
 ghost use mathlib.Core.Path.{_≡_};
-ghost use mathlib.Core.Logic.{_≢_};
-ghost use Prim.Native.Nat.{ℕ, _+_, _*_, _^_, _<_, _≤_};
-ghost use lib.ListN.{length, getD};
-ghost use lib.IntN.{pos, natAbs};
-ghost use Rattle.matrices.specs.Operation as operation;
+ghost use Prim.Native.Nat.{_+_, _*_, _^_, _<_, _≤_};
+ghost use lib.ListN.{length};
 ghost use Rattle.matrices.specs.Operation.{onRows, onColumns};
-ghost use Rattle.lines.specs.Slice.{limit, Small, lineAt};
-ghost use Rattle.lines.specs.Matrices.{Held, contents, Became};
+ghost use Rattle.lines.specs.Slice.{Small, lineAt};
+ghost use Rattle.lines.specs.Matrices.{end, Held, contents, Became, placesOf};
+ghost use Rattle.lines.specs.Operations.{operationOf, Fits, Alone};
 use crate::line;
 use crate::line::Effect;
+use crate::operation::Operation;
 
 pub struct Matrix {
     pub at: usize,
@@ -39,73 +38,56 @@ impl Matrix {
         w[at] as i64
     }
 
-    // Takes q times line k from line i.
-    pub fn subtract_line(self, w: &mut [i32], i: usize, k: usize, q: i64) -> Effect
+    // Does the operation to the lines.
+    pub fn on_lines(self, w: &mut [i32], op: Operation) -> Effect
         requires { ⌜ Held (length (now w)) self ⌝ }
         requires { ⌜ Small (now w) ⌝ }
-        requires { ⌜ (i < self .lines) × (k < self .lines) × (i ≢ k) × (natAbs q ≤ limit) ⌝ }
-        ensures { λ r. ⌜
-            Became self (now (w .entry)) (onRows (operation.subtract i k q) (contents self (now (w .entry)))) r
-            (now (w .exit))
-            ⌝ }
+        requires { ⌜ Fits (self .lines) (operationOf op) ⌝ }
+        ensures { λ r. ⌜ Became self (now (w .entry)) (onRows (operationOf op) (contents self (now (w .entry)))) r (now (w .exit)) ⌝ }
     {
-        line::subtract(w, self.line(i), self.line(k), self.width, q)
+        match op {
+            Operation::Subtract(i, k, q) => line::subtract(
+                w,
+                self.line(i),
+                self.line(k),
+                self.width,
+                q,
+            ),
+            Operation::Swap(i, k) => line::swap(w, self.line(i), self.line(k), self.width),
+            Operation::Negate(k) => line::negate(w, self.line(k), self.width),
+        }
     }
 
-    // Exchanges lines i and k.
-    pub fn swap_lines(self, w: &mut [i32], i: usize, k: usize) -> Effect
-        requires { ⌜ Held (length (now w)) self ⌝ }
-        requires { ⌜ Small (now w) ⌝ }
-        requires { ⌜ (i < self .lines) × (k < self .lines) ⌝ }
-        ensures { λ r. ⌜ Became self (now (w .entry)) (onRows (operation.swap i k) (contents self (now (w .entry)))) r (now (w .exit)) ⌝ }
+    // The places of line i, as a matrix of that many lines of one entry.
+    fn places(self, i: usize) -> Matrix
+        requires { ⌜ (end self < 2 ^ 63) × (i < self .lines) ⌝ }
+        ensures { λ r. ⌜ r ≡ placesOf self i ⌝ }
     {
-        line::swap(w, self.line(i), self.line(k), self.width)
+        Matrix {
+            at: self.line(i),
+            lines: self.width,
+            width: 1,
+        }
     }
 
-    // Negates line k.
-    pub fn negate_line(self, w: &mut [i32], k: usize) -> Effect
+    // Does the operation to the places of every line. A subtraction of place k changes line k alone, which has the only nonzero entry there.
+    pub fn on_places(self, w: &mut [i32], op: Operation) -> Effect
         requires { ⌜ Held (length (now w)) self ⌝ }
         requires { ⌜ Small (now w) ⌝ }
-        requires { ⌜ k < self .lines ⌝ }
-        ensures { λ r. ⌜ Became self (now (w .entry)) (onRows (operation.negate k) (contents self (now (w .entry)))) r (now (w .exit)) ⌝ }
+        requires { ⌜ Fits (self .width) (operationOf op) × Alone self (now w) (operationOf op) ⌝ }
+        ensures { λ r. ⌜ Became self (now (w .entry)) (onColumns (operationOf op) (contents self (now (w .entry)))) r (now (w .exit)) ⌝ }
     {
-        line::negate(w, self.line(k), self.width)
-    }
-
-    // Exchanges places j and k of every line.
-    pub fn swap_places(self, w: &mut [i32], j: usize, k: usize) -> Effect
-        requires { ⌜ Held (length (now w)) self ⌝ }
-        requires { ⌜ Small (now w) ⌝ }
-        requires { ⌜ (j < self .width) × (k < self .width) ⌝ }
-        ensures { λ r. ⌜
-            Became self (now (w .entry)) (onColumns (operation.swap j k) (contents self (now (w .entry)))) r
-            (now (w .exit))
-            ⌝ }
-    {
-        let mut i: usize = 0;
+        if let Operation::Subtract(_, k, _) = op {
+            return self.places(k).on_lines(w, op);
+        }
         let lines = self.lines;
+        let mut i: usize = 0;
         while i < lines {
-            let at = self.line(i);
-            let Effect::Done = line::swap(w, at + j, at + k, 1) else {
+            let Effect::Done = self.places(i).on_lines(w, op) else {
                 return Effect::TooWide;
             };
             i = i + 1;
         }
         Effect::Done
-    }
-
-    // Takes q times place k from place j in every line, where line i alone has a nonzero entry at k.
-    pub fn subtract_place(self, w: &mut [i32], i: usize, j: usize, k: usize, q: i64) -> Effect
-        requires { ⌜ Held (length (now w)) self ⌝ }
-        requires { ⌜ Small (now w) ⌝ }
-        requires { ⌜ (i < self .lines) × (j < self .width) × (k < self .width) × (j ≢ k) × (natAbs q ≤ limit) ⌝ }
-        requires { ⌜ ((a : ℕ) → a < self .lines → a ≢ i → contents self (now w) a k ≡ pos 0) ⌝ }
-        ensures { λ r. ⌜
-            Became self (now (w .entry)) (onColumns (operation.subtract j k q) (contents self (now (w .entry)))) r
-            (now (w .exit))
-            ⌝ }
-    {
-        let at = self.line(i);
-        line::subtract(w, at + j, at + k, 1, q)
     }
 }

@@ -17,13 +17,14 @@ use Rattle.reduction_steps.specs.State.{State, made, tooWide, follow, within, c
 use Rattle.reduction_laws.specs.Tables.{entry-table, table-ext, Eq-table, tableWithin-table, tableWithin-false}
 use Rattle.lines.specs.Slice.{limit, at, lineAt, Small}
 use Rattle.lines.specs.Matrices.{Held, contents, Exceeds, Became}
+use Rattle.lines.specs.Operations.{Fits}
 use Rattle.lines.specs.declared.matrix.Matrix.{Matrix}
 use Rattle.lines.specs.declared.line.Effect.{Effect}
 use Rattle.lines.specs.declared.line.Effect.the-variants.{Done, TooWide}
 use Rattle.operations.specs.Laid.{Laid, linesOf, stateOf, Operated}
 use Rattle.operations.specs.declared.layout.Layout.{Layout}
 use Rattle.operations.proofs.Regions.{disjoint-sym, Kept, kept-refl, kept-trans, contents-off, lines-off, lines-on, shaped}
-use Rattle.operations.proofs.Side.{Side, rows, columns, across, count, follower, undone, onSide, outcomeOn, put, state-put, outcome-put, within-put, Separate, separate, follower-lines, undone-lines, follower-inside, undone-inside}
+use Rattle.operations.proofs.Side.{Side, rows, columns, across, count, follower, undone, onSide, outcomeOn, put, state-put, outcome-put, within-put, Separate, separate, follower-lines, undone-lines, follower-inside, undone-inside, follower-fits, undone-fits}
 
 -- ---- the check of the limit
 
@@ -113,9 +114,10 @@ module _ (x : Side) (op : Operation) (W : Layout) where
       put x (newMatrix w) (newFollower w₁) (newUndone w₂) (linesOf (follower (across x) W) w) (linesOf (undone (across x) W) w)
 
 -- what a companion's call asks
-pub record Ready (M : Matrix) (w : List ℤ) : Type 0 where
+pub record Ready (M : Matrix) (op : Operation) (w : List ℤ) : Type 0 where
   pub held : Held (length w) M
   pub small : Small w
+  pub fits : Fits (M .lines) op
 
 module _ (x : Side) (op : Operation) (W : Layout) (w : List ℤ) (l : Laid (length w) W) (f : Within (count x W) op) where
   apart : Separate (W .matrix) (follower x W) (undone x W) (follower (across x) W) (undone (across x) W)
@@ -160,7 +162,7 @@ module _ (x : Side) (op : Operation) (W : Layout) (w : List ℤ) (l : Laid (leng
     small = k .small;
   }
 
-  ends :
+  pub ends :
       {w₁ w₂ w₃ : List ℤ} → OnMatrix x op W w Done w₁ → OnFollower x op W w₁ Done w₂ → (r : Effect) → OnUndone x op W w₂ r w₃
       → Operated W (outcomeOn x W op (stateOf W w)) r w₃
   ends {w₁} {w₂} {w₃} h k TooWide g = record {
@@ -199,7 +201,7 @@ pub record Task : Type 0 where
   pub layout : Layout
   pub slice : List ℤ
   pub laid : Laid (length slice) layout
-  pub fits : Within (count side layout) operation
+  pub fits : Fits (count side layout) operation
 
 -- what the operation answers and leaves
 abbrev pub Comes : Task → Effect → List ℤ → Type 0
@@ -209,33 +211,44 @@ module _ (t : Task) (w₁ : List ℤ) (r₁ : Effect) (b₁ : OnMatrix (t .side)
   -- the matrix goes too wide
   pub wide-matrix : r₁ ≡ TooWide → Comes t TooWide w₁
   wide-matrix e =
-      wide-first (t .side) (t .operation) (t .layout) (t .slice) (t .laid) (t .fits)
+      wide-first (t .side) (t .operation) (t .layout) (t .slice) (t .laid) (t .fits .within)
       (subst (λ (r : Effect). OnMatrix (t .side) (t .operation) (t .layout) (t .slice) r w₁) e b₁)
 
   module _ (e₁ : r₁ ≡ Done) where
     done₁ : OnMatrix (t .side) (t .operation) (t .layout) (t .slice) Done w₁
     done₁ = subst (λ (r : Effect). OnMatrix (t .side) (t .operation) (t .layout) (t .slice) r w₁) e₁ b₁
 
-    pub follower-ready : Ready (follower (t .side) (t .layout)) w₁
-    follower-ready = record { held = record { ends = rw (done₁ .same-length) (follower-inside (t .laid) (t .side)) }; small = done₁ .small }
+    pub follower-ready : Ready (follower (t .side) (t .layout)) (t .operation) w₁
+    follower-ready = record {
+      held = record { ends = rw (done₁ .same-length) (follower-inside (t .laid) (t .side)) };
+      small = done₁ .small;
+      fits = follower-fits (t .laid) (t .side) (t .fits);
+    }
 
     module _ (w₂ : List ℤ) (r₂ : Effect) (b₂ : OnFollower (t .side) (t .operation) (t .layout) w₁ r₂ w₂) where
       -- the follower does
       pub wide-follower : r₂ ≡ TooWide → Comes t TooWide w₂
       wide-follower e =
-          wide-second (t .side) (t .operation) (t .layout) (t .slice) (t .laid) (t .fits) done₁
+          wide-second (t .side) (t .operation) (t .layout) (t .slice) (t .laid) (t .fits .within) done₁
           (subst (λ (r : Effect). OnFollower (t .side) (t .operation) (t .layout) w₁ r w₂) e b₂)
 
       module _ (e₂ : r₂ ≡ Done) where
         done₂ : OnFollower (t .side) (t .operation) (t .layout) w₁ Done w₂
         done₂ = subst (λ (r : Effect). OnFollower (t .side) (t .operation) (t .layout) w₁ r w₂) e₂ b₂
 
-        pub undone-ready : Ready (undone (t .side) (t .layout)) w₂
-        undone-ready = record {
-          held = record { ends = rw (done₂ .same-length, done₁ .same-length) (undone-inside (t .laid) (t .side)) };
-          small = done₂ .small;
-        }
+        -- the last call is of an operation o that is the inverse
+        module _ (o : Operation) (is-inverse : o ≡ inverse (t .operation)) where
+          pub undone-ready : Ready (undone (t .side) (t .layout)) o w₂
+          undone-ready = record {
+            held = record { ends = rw (done₂ .same-length, done₁ .same-length) (undone-inside (t .laid) (t .side)) };
+            small = done₂ .small;
+            fits = subst (λ (y : Operation). Fits (undone (t .side) (t .layout) .lines) y) (sym is-inverse) (undone-fits (t .laid) (t .side) (t .fits));
+          }
 
-        -- the inverse companion does, or all is done
-        pub operated : (w₃ : List ℤ) (r : Effect) → OnUndone (t .side) (t .operation) (t .layout) w₂ r w₃ → Comes t r w₃
-        operated w₃ r b₃ = ends (t .side) (t .operation) (t .layout) (t .slice) (t .laid) (t .fits) done₁ done₂ r b₃
+          -- the inverse companion goes too wide, or all is done
+          pub operated :
+              (w₃ : List ℤ) (r : Effect) → Became (undone (t .side) (t .layout)) w₂ (onRows o (contents (undone (t .side) (t .layout)) w₂)) r w₃
+              → Comes t r w₃
+          operated w₃ r b₃ =
+              ends (t .side) (t .operation) (t .layout) (t .slice) (t .laid) (t .fits .within) done₁ done₂ r
+              (subst (λ (y : Operation). Became (undone (t .side) (t .layout)) w₂ (onRows y (contents (undone (t .side) (t .layout)) w₂)) r w₃) is-inverse b₃)

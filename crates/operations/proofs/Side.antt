@@ -3,7 +3,7 @@
 use mathlib.Core.Path.{_≡_, refl, sym}
 use mathlib.Core.Bool.{Bool, true, false, false≢true, _&&_}
 use mathlib.Core.List.{List}
-use Prim.Native.Nat.{ℕ, _<_, _≤_}
+use Prim.Native.Nat.{ℕ, _≤_}
 use native.Mathlib.Omega.{arith}
 use lib.IntN.{ℤ}
 use Rattle.matrices.specs.Matrix as theory
@@ -12,7 +12,9 @@ use Rattle.reduction_steps.specs.Table.{Table, entry, table, tableWithin}
 use Rattle.reduction_steps.specs.State.{State, Outcome, follow, rowOperation, columnOperation, within, checked, onRow, onColumn}
 use Rattle.lines.specs.Slice.{limit}
 use Rattle.lines.specs.Matrices.{end, Held}
+use Rattle.lines.specs.Operations.{Fits}
 use Rattle.lines.specs.declared.matrix.Matrix.{Matrix}
+use Rattle.lines.proofs.Operations.{Fits-inverse}
 use Rattle.operations.specs.Laid.{Laid, sizesOf, linesOf, stateOf}
 use Rattle.operations.specs.declared.layout.Layout.{Layout}
 use Rattle.operations.proofs.Regions.{Disjoint}
@@ -148,11 +150,12 @@ module _ {n : ℕ} {W : Layout} (l : Laid n W) where
   undone-inside rows = omega arith
   undone-inside columns = omega arith
 
-  pub follower-below : (x : Side) {k : ℕ} → k < count x W → k < follower x W .lines
-  follower-below x h = rw (follower-lines x) h
+  -- an operation on the side fits its companions
+  pub follower-fits : (x : Side) {op : Operation} → Fits (count x W) op → Fits (follower x W .lines) op
+  follower-fits x f = rw (follower-lines x) f
 
-  pub undone-below : (x : Side) {k : ℕ} → k < count x W → k < undone x W .lines
-  undone-below x h = rw (undone-lines x) h
+  pub undone-fits : (x : Side) {op : Operation} → Fits (count x W) op → Fits (undone x W .lines) (inverse op)
+  undone-fits x {op} f = rw (undone-lines x) (Fits-inverse op f)
 
   pub matrix-held : Held n (W .matrix)
   matrix-held = record { ends = omega arith }

@@ -1,17 +1,15 @@
 // The matrix of a reduction and its companions, in a lent slice, and the operations on them. A companion that is absent has lines of length 0.
 ghost use mathlib.Core.Path.{_≡_};
-ghost use mathlib.Core.Logic.{_≢_};
-ghost use Prim.Native.Nat.{ℕ, _+_, _*_, _<_, _≤_, max};
+ghost use Prim.Native.Nat.{_+_, _*_, _<_, _≤_, max};
 ghost use lib.ListN.{length};
-ghost use lib.IntN.{pos, natAbs};
-ghost use Rattle.matrices.specs.Operation as operation;
 ghost use Rattle.reduction_steps.specs.State.{onRow, onColumn};
 ghost use Rattle.lines.specs.Slice.{limit, Small};
-ghost use Rattle.lines.specs.Matrices.{contents};
+ghost use Rattle.lines.specs.Operations.{operationOf, Fits, Alone};
 ghost use Rattle.operations.specs.Laid.{Laid, sizesOf, stateOf, Operated};
 ghost use Rattle.operations.specs.Layouts.{firstLayout, secondLayout};
 use lines::line::Effect;
 use lines::matrix::Matrix;
+use lines::operation::Operation;
 
 // The companions undergo the row operations, by rows, their inverses, by columns, the column operations, by columns, and their inverses, by rows.
 pub struct Layout {
@@ -113,99 +111,43 @@ impl Layout {
 }
 
 impl Layout {
-    // Takes q times row k from row i.
-    pub fn subtract_row(self, w: &mut [i32], i: usize, k: usize, q: i64) -> Effect
+    // Does the operation to the rows of the matrix, and so to its companions.
+    pub fn on_rows(self, w: &mut [i32], op: Operation) -> Effect
         requires { ⌜ Laid (length (now w)) self ⌝ }
         requires { ⌜ Small (now w) ⌝ }
-        requires { ⌜ (i < self .matrix .lines) × (k < self .matrix .lines) × (i ≢ k) × (natAbs q ≤ limit) ⌝ }
-        ensures { λ r. ⌜
-            Operated self (onRow limit (sizesOf self) (operation.subtract i k q) (stateOf self (now (w .entry)))) r
-            (now (w .exit))
-            ⌝ }
+        requires { ⌜ Fits (self .matrix .lines) (operationOf op) ⌝ }
+        ensures { λ r. ⌜ Operated self (onRow limit (sizesOf self) (operationOf op) (stateOf self (now (w .entry)))) r (now (w .exit)) ⌝ }
     {
-        let Effect::Done = self.matrix.subtract_line(w, i, k, q) else {
+        if op.is_identity() {
+            return Effect::Done;
+        }
+        let inverse = op.inverse();
+        let Effect::Done = self.matrix.on_lines(w, op) else {
             return Effect::TooWide;
         };
-        let Effect::Done = self.row_follower.subtract_line(w, i, k, q) else {
+        let Effect::Done = self.row_follower.on_lines(w, op) else {
             return Effect::TooWide;
         };
-        self.row_inverse.subtract_line(w, k, i, -q)
+        self.row_inverse.on_lines(w, inverse)
     }
 
-    // Exchanges rows i and k.
-    pub fn swap_rows(self, w: &mut [i32], i: usize, k: usize) -> Effect
+    // The same on columns. Where column k is subtracted, its one nonzero entry stands in row k: the matrix changes in that row alone.
+    pub fn on_columns(self, w: &mut [i32], op: Operation) -> Effect
         requires { ⌜ Laid (length (now w)) self ⌝ }
         requires { ⌜ Small (now w) ⌝ }
-        requires { ⌜ (i < self .matrix .lines) × (k < self .matrix .lines) ⌝ }
-        ensures { λ r. ⌜
-            Operated self (onRow limit (sizesOf self) (operation.swap i k) (stateOf self (now (w .entry)))) r
-            (now (w .exit))
-            ⌝ }
+        requires { ⌜ Fits (self .matrix .width) (operationOf op) × Alone (self .matrix) (now w) (operationOf op) ⌝ }
+        ensures { λ r. ⌜ Operated self (onColumn limit (sizesOf self) (operationOf op) (stateOf self (now (w .entry)))) r (now (w .exit)) ⌝ }
     {
-        let Effect::Done = self.matrix.swap_lines(w, i, k) else {
+        if op.is_identity() {
+            return Effect::Done;
+        }
+        let inverse = op.inverse();
+        let Effect::Done = self.matrix.on_places(w, op) else {
             return Effect::TooWide;
         };
-        let Effect::Done = self.row_follower.swap_lines(w, i, k) else {
+        let Effect::Done = self.column_follower.on_lines(w, op) else {
             return Effect::TooWide;
         };
-        self.row_inverse.swap_lines(w, i, k)
-    }
-
-    // Negates row k.
-    pub fn negate_row(self, w: &mut [i32], k: usize) -> Effect
-        requires { ⌜ Laid (length (now w)) self ⌝ }
-        requires { ⌜ Small (now w) ⌝ }
-        requires { ⌜ k < self .matrix .lines ⌝ }
-        ensures { λ r. ⌜
-            Operated self (onRow limit (sizesOf self) (operation.negate k) (stateOf self (now (w .entry)))) r
-            (now (w .exit))
-            ⌝ }
-    {
-        let Effect::Done = self.matrix.negate_line(w, k) else {
-            return Effect::TooWide;
-        };
-        let Effect::Done = self.row_follower.negate_line(w, k) else {
-            return Effect::TooWide;
-        };
-        self.row_inverse.negate_line(w, k)
-    }
-
-    // Takes q times column k from column j, where column k has its one nonzero entry in row k: the matrix changes in that row alone.
-    pub fn subtract_column(self, w: &mut [i32], j: usize, k: usize, q: i64) -> Effect
-        requires { ⌜ Laid (length (now w)) self ⌝ }
-        requires { ⌜ Small (now w) ⌝ }
-        requires { ⌜ (k < self .matrix .lines) × (j < self .matrix .width) × (k < self .matrix .width) × (j ≢ k) × (natAbs q ≤ limit) ⌝ }
-        requires { ⌜ ((a : ℕ) → a < self .matrix .lines → a ≢ k → contents (self .matrix) (now w) a k ≡ pos 0) ⌝ }
-        ensures { λ r. ⌜
-            Operated self (onColumn limit (sizesOf self) (operation.subtract j k q) (stateOf self (now (w .entry)))) r
-            (now (w .exit))
-            ⌝ }
-    {
-        let Effect::Done = self.matrix.subtract_place(w, k, j, k, q) else {
-            return Effect::TooWide;
-        };
-        let Effect::Done = self.column_follower.subtract_line(w, j, k, q) else {
-            return Effect::TooWide;
-        };
-        self.column_inverse.subtract_line(w, k, j, -q)
-    }
-
-    // Exchanges columns j and k.
-    pub fn swap_columns(self, w: &mut [i32], j: usize, k: usize) -> Effect
-        requires { ⌜ Laid (length (now w)) self ⌝ }
-        requires { ⌜ Small (now w) ⌝ }
-        requires { ⌜ (j < self .matrix .width) × (k < self .matrix .width) ⌝ }
-        ensures { λ r. ⌜
-            Operated self (onColumn limit (sizesOf self) (operation.swap j k) (stateOf self (now (w .entry)))) r
-            (now (w .exit))
-            ⌝ }
-    {
-        let Effect::Done = self.matrix.swap_places(w, j, k) else {
-            return Effect::TooWide;
-        };
-        let Effect::Done = self.column_follower.swap_lines(w, j, k) else {
-            return Effect::TooWide;
-        };
-        self.column_inverse.swap_lines(w, j, k)
+        self.column_inverse.on_lines(w, inverse)
     }
 }

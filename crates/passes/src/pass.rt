@@ -3,6 +3,7 @@ ghost use lib.ListN.{length};
 ghost use Rattle.passes.specs.Answer.{Placed, ColumnClear, rowPassOf, columnPassOf, Passed};
 use lines::line::Effect;
 use lines::line::clear;
+use lines::operation::Operation;
 use operations::layout::Layout;
 use operations::quotient::quotient;
 use refusal::Refusal;
@@ -22,7 +23,7 @@ pub fn clear_column(layout: Layout, w: &mut [i32], k: usize) -> Pass
     let mut i = k + 1;
     while i < rows {
         let q = quotient(m.entry(w, i, k), m.entry(w, k, k));
-        let Effect::Done = layout.subtract_row(w, i, k, q) else {
+        let Effect::Done = layout.on_rows(w, Operation::Subtract(i, k, q)) else {
             clear(w);
             return Pass::Refused(Refusal::TooWide);
         };
@@ -41,7 +42,7 @@ pub fn clear_row(layout: Layout, w: &mut [i32], k: usize) -> Pass
     let mut j = k + 1;
     while j < columns {
         let q = quotient(m.entry(w, k, j), m.entry(w, k, k));
-        let Effect::Done = layout.subtract_column(w, j, k, q) else {
+        let Effect::Done = layout.on_columns(w, Operation::Subtract(j, k, q)) else {
             clear(w);
             return Pass::Refused(Refusal::TooWide);
         };

@@ -5,6 +5,7 @@ ghost use Rattle.passes.specs.Answer.{Placed, ColumnClear};
 ghost use Rattle.reducer.specs.Answer.{Begun, ChoiceEnds, PassEnds};
 use lines::line::Effect;
 use lines::line::clear;
+use lines::operation::Operation;
 use operations::layout::Layout;
 use operations::pivot::Pivot;
 use operations::pivot::find_pivot;
@@ -77,7 +78,7 @@ fn column_pass(layout: Layout, w: &mut [i32], k: usize, rounds: usize) -> Stage
     let Indivisible::Row(i) = first_indivisible(layout.matrix, w, k) else {
         return Stage::Cleared;
     };
-    let Effect::Done = layout.subtract_row(w, k, i, -1) else {
+    let Effect::Done = layout.on_rows(w, Operation::Subtract(k, i, -1)) else {
         clear(w);
         return Stage::Refused(Refusal::TooWide);
     };

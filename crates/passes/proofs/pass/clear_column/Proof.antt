@@ -62,12 +62,20 @@ quotient-requires c κs =
     let h = head c .loop .inv .placed in
     quotient-asks (start c .args .layout) (start c .args .k) (head c .loop .w) (h .small) (h .ready) (head c .loop .i) (start c .args .k) (c .before .before .entry .ensures) (c .entry2 .ensures)
 
-subtract-row-requires : tie.Need-subtract-row-requires Inv-loop μ-loop
-subtract-row-requires c κs =
+on-rows-requires : tie.Need-on-rows-requires Inv-loop μ-loop
+on-rows-requires c κs =
     let e = c .before .before in
     let inv = head e .loop .inv in
-    let small-quotient = quotient-small (c .before .quotient .result) (c .before .quotient .ensures .1) in
-    (inv .placed .laid, (inv .placed .small, (turn e .loop-test .taken, inv .placed .ready .row, (λ same. omega (arith, inv .from)), small-quotient)))
+    let small-quotient = quotient-small (c .before .quotient .result) (c .before .quotient .ensures .1) in (
+      inv .placed .laid,
+      (
+        inv .placed .small,
+        record {
+          within = record { changed = turn e .loop-test .taken; taken = inv .placed .ready .row; distinct = λ same. omega (arith, inv .from) };
+          factor = small-quotient;
+        },
+      ),
+    )
 
 enum-told : tie.Need-enum-told Inv-loop μ-loop
 enum-told c = c .match .keys1
@@ -81,16 +89,16 @@ clear-requires c κs = tt
 same-length : tie.Need-same-length Inv-loop μ-loop
 same-length c =
     let called = c .before .before .before .before .before .before in
-    c .before .clear .kept .0 ∙ called .subtract-row .kept .1 .0 ∙ head (called .before .before .before) .loop .inv .same-length
+    c .before .clear .kept .0 ∙ called .on-rows .kept .1 .0 ∙ head (called .before .before .before) .loop .inv .same-length
 
 returns : tie.Need-returns Inv-loop μ-loop
 returns c =
     let called = c .before .before .before .before .before .before in
     let quotient = called .before .before in
     let inv = head (quotient .before) .loop .inv in
-    pass-refused (called .subtract-row .last .1 .0)
-    (rows-wide inv (turn (quotient .before) .loop-test .taken) (taken quotient) (operated-wide (called .subtract-row .ensures) (c .before .before .before .enum-told2 .given .1)))
-    (c .before .clear .ensures) (called .subtract-row .kept .1 .0 ∙ inv .same-length)
+    pass-refused (called .on-rows .last .1 .0)
+    (rows-wide inv (turn (quotient .before) .loop-test .taken) (taken quotient) (operated-wide (called .on-rows .ensures) (c .before .before .before .enum-told2 .given .1)))
+    (c .before .clear .ensures) (called .on-rows .kept .1 .0 ∙ inv .same-length)
 
 add-i-2 : tie.Need-add-i-2 Inv-loop μ-loop
 add-i-2 c =
@@ -104,7 +112,7 @@ loop-less c =
 
 loop-again : tie.Need-loop-again Inv-loop μ-loop
 loop-again c =
-    let called = c .before .before .before .subtract-row in
+    let called = c .before .before .before .on-rows in
     let quotient = c .before .before .before .before .before in
     rows-next (head (quotient .before) .loop .inv) (turn (quotient .before) .loop-test .taken) (taken quotient) (called .kept .1 .0) (called .ensures .small)
     (operated-done (called .ensures) (c .enum-told .given .1))
@@ -126,7 +134,7 @@ clear-column-spec =
     entry-requires
     entry-requires-2
     quotient-requires
-    subtract-row-requires
+    on-rows-requires
     enum-told
     enum-told-2
     clear-requires

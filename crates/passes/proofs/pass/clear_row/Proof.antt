@@ -62,14 +62,23 @@ quotient-requires c κs =
     let h = head c .loop .inv .clear in
     quotient-asks (start c .args .layout) (start c .args .k) (head c .loop .w) (h .small) (h .ready .ready) (start c .args .k) (head c .loop .j) (c .before .before .entry .ensures) (c .entry2 .ensures)
 
-subtract-column-requires : tie.Need-subtract-column-requires Inv-loop μ-loop
-subtract-column-requires c κs =
+on-columns-requires : tie.Need-on-columns-requires Inv-loop μ-loop
+on-columns-requires c κs =
     let e = c .before .before in
     let inv = head e .loop .inv in
     let small-quotient = quotient-small (c .before .quotient .result) (c .before .quotient .ensures .1) in
     let h = inv .clear in (
       h .laid,
-      (h .small, ((h .ready .ready .row, turn e .loop-test .taken, h .ready .ready .column, (λ same. omega (arith, inv .from)), small-quotient), column-zero h)),
+      (
+        h .small,
+        (
+          record {
+            within = record { changed = turn e .loop-test .taken; taken = h .ready .ready .column; distinct = λ same. omega (arith, inv .from) };
+            factor = small-quotient;
+          },
+          record { line = h .ready .ready .row; zero = column-zero h },
+        ),
+      ),
     )
 
 enum-told : tie.Need-enum-told Inv-loop μ-loop
@@ -84,16 +93,16 @@ clear-requires c κs = tt
 same-length : tie.Need-same-length Inv-loop μ-loop
 same-length c =
     let called = c .before .before .before .before .before .before in
-    c .before .clear .kept .0 ∙ called .subtract-column .kept .1 .0 ∙ head (called .before .before .before) .loop .inv .same-length
+    c .before .clear .kept .0 ∙ called .on-columns .kept .1 .0 ∙ head (called .before .before .before) .loop .inv .same-length
 
 returns : tie.Need-returns Inv-loop μ-loop
 returns c =
     let called = c .before .before .before .before .before .before in
     let quotient = called .before .before in
     let inv = head (quotient .before) .loop .inv in
-    pass-refused (called .subtract-column .last .1 .0)
-    (columns-wide inv (turn (quotient .before) .loop-test .taken) (taken quotient) (operated-wide (called .subtract-column .ensures) (c .before .before .before .enum-told2 .given .1)))
-    (c .before .clear .ensures) (called .subtract-column .kept .1 .0 ∙ inv .same-length)
+    pass-refused (called .on-columns .last .1 .0)
+    (columns-wide inv (turn (quotient .before) .loop-test .taken) (taken quotient) (operated-wide (called .on-columns .ensures) (c .before .before .before .enum-told2 .given .1)))
+    (c .before .clear .ensures) (called .on-columns .kept .1 .0 ∙ inv .same-length)
 
 add-j-2 : tie.Need-add-j-2 Inv-loop μ-loop
 add-j-2 c =
@@ -107,7 +116,7 @@ loop-less c =
 
 loop-again : tie.Need-loop-again Inv-loop μ-loop
 loop-again c =
-    let called = c .before .before .before .subtract-column in
+    let called = c .before .before .before .on-columns in
     let quotient = c .before .before .before .before .before in
     columns-next (head (quotient .before) .loop .inv) (turn (quotient .before) .loop-test .taken) (taken quotient) (called .kept .1 .0) (called .ensures .small)
     (operated-done (called .ensures) (c .enum-told .given .1))
@@ -129,7 +138,7 @@ clear-row-spec =
     entry-requires
     entry-requires-2
     quotient-requires
-    subtract-column-requires
+    on-columns-requires
     enum-told
     enum-told-2
     clear-requires

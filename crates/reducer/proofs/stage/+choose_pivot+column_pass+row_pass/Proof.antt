@@ -33,7 +33,7 @@ use Rattle.lines.proofs.line.clear.Reads as clear-reads
 use Rattle.passes.proofs.bring.bring_pivot.Reads as bring-pivot-reads
 use Rattle.passes.proofs.pass.clear_column.Reads as clear-column-reads
 use Rattle.passes.proofs.pass.clear_row.Reads as clear-row-reads
-use Rattle.operations.proofs.layout.Layout.subtract_row.Reads as subtract-row-reads
+use Rattle.operations.proofs.layout.Layout.on_rows.Reads as on-rows-reads
 use Rattle.operations.proofs.pivot.find_pivot.Reads as find-pivot-reads
 use Rattle.operations.proofs.remainder.column_keeps.Reads as column-keeps-reads
 use Rattle.operations.proofs.remainder.first_indivisible.Reads as first-indivisible-reads
@@ -99,8 +99,8 @@ column-pass-calls t = (
   choose-pivot.Post,
   first-indivisible-reads.Asked,
   first-indivisible-reads.Learnt,
-  subtract-row-reads.Asked,
-  subtract-row-reads.Learnt,
+  on-rows-reads.Asked,
+  on-rows-reads.Learnt,
   clear-reads.Asked,
   clear-reads.Learnt,
   column-pass-below t,
@@ -302,12 +302,22 @@ module _ (t : ℕ) (c : column-pass-lts.After-known-told (column-pass-calls t) (
   found-lower : Found (column-cleared t else) (row lower)
   found-lower = sym (ap indivisibleRow (c .before .i .given .1)) ∙ c .before .before .before .first-indivisible .ensures
 
-column-pass-subtract-row-requires : (t : ℕ) → column-pass-lts.Need-subtract-row-requires (column-pass-calls t) (column-pass-at t) column-pass.Post
-column-pass-subtract-row-requires t c κs =
+column-pass-on-rows-requires : (t : ℕ) → column-pass-lts.Need-on-rows-requires (column-pass-calls t) (column-pass-at t) column-pass.Post
+column-pass-on-rows-requires t c κs =
     let h = column-cleared t (else t (c .before)) in
     let f = found-lower t (c .before) in (
       h .laid,
-      (h .small, (h .ready .ready .ready .row, row-within h (lower t (c .before)) f, (λ e. omega (arith, row-lower h (lower t (c .before)) f)), omega arith)),
+      (
+        h .small,
+        record {
+          within = record {
+            changed = h .ready .ready .ready .row;
+            taken = row-within h (lower t (c .before)) f;
+            distinct = λ e. omega (arith, row-lower h (lower t (c .before)) f);
+          };
+          factor = omega arith;
+        },
+      ),
     )
 
 column-pass-enum-told-4 : (t : ℕ) → column-pass-lts.Need-enum-told-4 (column-pass-calls t) (column-pass-at t) column-pass.Post
@@ -321,14 +331,14 @@ module _ (t : ℕ) (c : column-pass-lts.After-enum-told5 (column-pass-calls t) (
   abbrev adding : column-pass-lts.After-known-told (column-pass-calls t) (column-pass-at t) column-pass.Post
   adding = c .before .before .before .before .before
 
-  stopped-length : length (c .before .before .before .subtract-row .last .1 .0) ≡ length (begun t adding .args .w .now)
-  stopped-length = c .before .before .before .subtract-row .kept .1 .0 ∙ column-cleared t (else t adding) .same-length
+  stopped-length : length (c .before .before .before .on-rows .last .1 .0) ≡ length (begun t adding .args .w .now)
+  stopped-length = c .before .before .before .on-rows .kept .1 .0 ∙ column-cleared t (else t adding) .same-length
 
   stopped :
-      {w : List ℤ} → w ≡ replicate (length (c .before .before .before .subtract-row .last .1 .0)) (pos 0)
+      {w : List ℤ} → w ≡ replicate (length (c .before .before .before .on-rows .last .1 .0)) (pos 0)
       → (let start = begun t adding .args in StageRefused (start .layout) (at Letter.d (start .k) (stateOf (start .layout) (start .w .now))) (length (start .w .now)) TooWide w)
   stopped z =
-      let called = c .before .before .before .subtract-row in
+      let called = c .before .before .before .on-rows in
       add-stops (column-cleared t (else t adding)) (lower t adding) (found-lower t adding) (called .last .1 .0) (operated-wide (called .ensures) (c .enum-told5 .given .1)) z
       (called .kept .1 .0)
 
@@ -345,10 +355,10 @@ column-pass-returns-4 t c = stopped t (c .before .before .before) (c .before .cl
 column-again :
     (t : ℕ) (c : column-pass-lts.After-enum-told4 (column-pass-calls t) (column-pass-at t) column-pass.Post)
     → (let start = begun t (c .before .before .before .before .before) in
-    ColumnsAgain (start .args .layout) (start .args .k) (start .args .w .now) (c .before .before .before .subtract-row .last .1 .0))
+    ColumnsAgain (start .args .layout) (start .args .k) (start .args .w .now) (c .before .before .before .on-rows .last .1 .0))
 column-again t c =
     let row = c .before .before .before .before .before in
-    let called = c .before .before .before .subtract-row in
+    let called = c .before .before .before .on-rows in
     columns-again (column-cleared t (else t row)) (lower t row) (found-lower t row) (operated-done (called .ensures) (c .enum-told4 .given .1)) (called .ensures .small) (called .kept .1 .0)
 
 column-pass-column-pass-requires : (t : ℕ) → column-pass-lts.Need-column-pass-requires (column-pass-calls t) (column-pass-at t) column-pass.Post
@@ -360,7 +370,7 @@ column-pass-column-pass-requires t c κs =
 column-pass-same-length-5 : (t : ℕ) → column-pass-lts.Need-same-length-5 (column-pass-calls t) (column-pass-at t) column-pass.Post
 column-pass-same-length-5 t c =
     c .before .column-pass .kept .1 .0
-    ∙ c .before .before .before .before .before .before .subtract-row .kept .1 .0
+    ∙ c .before .before .before .before .before .before .on-rows .kept .1 .0
     ∙ column-cleared t (else t (c .before .before .before .before .before .before .before .before)) .same-length
 
 column-pass-returns-5 : (t : ℕ) → column-pass-lts.Need-returns-5 (column-pass-calls t) (column-pass-at t) column-pass.Post
@@ -464,7 +474,7 @@ pub +choose-pivot+column-pass+row-pass-spec : {M : Type 1} → statement M
     (column-pass-choose-pivot-requires t) (column-pass-same-length-2 t) (column-pass-returns-2 t)
     (column-pass-first-indivisible-requires t)
     (column-pass-enum-known-i t) (column-pass-enum-told-3 t) (column-pass-same-length-3 t) (column-pass-returns-3 t)
-    (column-pass-subtract-row-requires t) (column-pass-enum-told-4 t) (column-pass-enum-told-5 t)
+    (column-pass-on-rows-requires t) (column-pass-enum-told-4 t) (column-pass-enum-told-5 t)
     (column-pass-clear-requires t) (column-pass-same-length-4 t) (column-pass-returns-4 t)
     (column-pass-column-pass-requires t) (column-pass-same-length-5 t) (column-pass-returns-5 t))
     (λ t. row-pass-lts.spec

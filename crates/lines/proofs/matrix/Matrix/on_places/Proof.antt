@@ -1,0 +1,179 @@
+-- `Matrix::on_places` meets its contract, by what `on_lines` ensures of the places of a line. The invariant: the lines passed have been changed.
+-- The measure is how many are left. Assumes nothing.
+use mathlib.Core.Path.{_≡_, refl, sym, subst, _∙_}
+use mathlib.Core.List.{List}
+use Prim.Native.Nat.{ℕ, _-_, _≤_}
+use native.Mathlib.Omega.{arith}
+use borrow.Author.Needs.{needs}
+use lib.ListN.{length}
+use lib.IntN.{ℤ}
+use Rattle.matrices.specs.Operation.{Operation, onRows, onColumns}
+use Rattle.lines.specs.Slice.{Small}
+use Rattle.lines.specs.Matrices.{Held, contents, Holds, Became, placesOf}
+use Rattle.lines.specs.Operations.{operationOf, AloneAt}
+use Rattle.lines.specs.declared.matrix.Matrix.{Matrix}
+use Rattle.lines.specs.declared.line.Effect.{Effect}
+use Rattle.lines.specs.declared.line.Effect.the-variants.{Done, TooWide}
+use Rattle.lines.proofs.Operations.{fits-case, upTo, upTo-below, upTo-from}
+use Rattle.lines.proofs.Places.{became-places, places-ready, alone-line, subtract-became, places-next, places-exceed}
+use Rattle.lines.proofs.matrix.Matrix.on_places.Statement.{statement}
+use Rattle.lines.proofs.matrix.Matrix.on_places.Tie as tie
+
+-- the lines below i have been changed
+record Invariant (M : Matrix) (w₀ : List ℤ) (op : Operation) (w : List ℤ) (i : ℕ) : Type 0 where
+  below : i ≤ M .lines
+  so-far : Holds M w₀ (upTo i (onColumns op (contents M w₀)) (contents M w₀)) w
+
+begun : (M : Matrix) (w₀ : List ℤ) (op : Operation) → Small w₀ → Invariant M w₀ op w₀ 0
+begun M w₀ op s = record {
+  below = omega arith;
+  so-far = record {
+    same-length = refl;
+    on = record { at = λ a b x y. sym (upTo-from 0 (onColumns op (contents M w₀)) (contents M w₀) a b (omega arith)) };
+    off = λ p o. refl;
+    small = s;
+  };
+}
+
+ended : {M : Matrix} {w₀ : List ℤ} {op : Operation} {w : List ℤ} {i : ℕ} → Invariant M w₀ op w i → M .lines ≤ i
+    → Holds M w₀ (onColumns op (contents M w₀)) w
+ended {M} {w₀} {op} {w} {i} inv done = record {
+  same-length = inv .so-far .same-length;
+  on = record {
+    at = λ a b x y. inv .so-far .on .at a b x y ∙ upTo-below i (onColumns op (contents M w₀)) (contents M w₀) a b (omega arith);
+  };
+  off = inv .so-far .off;
+  small = inv .so-far .small;
+}
+
+abbrev Inv-loop : tie.InvT-loop
+Inv-loop M w₀ op lines i₀ w i = Invariant M w₀ (operationOf op) w i
+
+abbrev μ-loop : tie.MeasureT-loop
+μ-loop M w₀ op lines i₀ w i = M .lines - i
+
+-- ---- a subtraction
+
+enum-known-op : tie.Need-enum-known-op Inv-loop μ-loop
+enum-known-op c = c .match .keys1
+
+module _ (c : tie.After-op Inv-loop μ-loop) where
+  abbrev subtracting : tie.Start Inv-loop μ-loop
+  subtracting = c .before .before
+
+  alone : AloneAt (subtracting .args .self) (subtracting .args .w .now) (c .op .given .0 .1 .0)
+  alone = alone-line (c .op .given .1) (subtracting .args .self) (subtracting .args .w .now) (subtracting .pre .1 .1 .1)
+
+places-requires : tie.Need-places-requires Inv-loop μ-loop
+places-requires c κs = search (needs, alone (c .before) .line)
+
+on-lines-requires : tie.Need-on-lines-requires Inv-loop μ-loop
+on-lines-requires c κs =
+    let op = c .before .before .before in let start = subtracting op in
+    let ready = places-ready (c .before .places .ensures) (alone op .line) (start .pre .0) (fits-case (op .op .given .1) (start .pre .1 .1 .0)) in
+    (ready .held, (start .pre .1 .0, ready .fits))
+
+same-length : tie.Need-same-length Inv-loop μ-loop
+same-length c = c .before .on-lines .kept .1 .0
+
+returns : tie.Need-returns Inv-loop μ-loop
+returns c =
+    let op = c .before .before .before .before .before in let start = subtracting op in let called = c .before .on-lines in
+    subtract-became (op .op .given .1) (start .args .self) (start .args .w .now) (start .pre .1 .1 .1) (c .before .before .before .places .ensures) (start .pre .1 .1 .0)
+    (called .last .1 .0) (called .result) (called .ensures)
+
+-- ---- another operation
+
+loop-holds : tie.Need-loop-holds Inv-loop μ-loop
+loop-holds c = begun (c .before .args .self) (c .before .args .w .now) (operationOf (c .before .args .op)) (c .before .pre .1 .0)
+
+places-requires-2 : tie.Need-places-requires-2 Inv-loop μ-loop
+places-requires-2 c κs = search needs
+
+module _ (c : tie.After-places2 Inv-loop μ-loop) where
+  abbrev head : tie.At-loop Inv-loop μ-loop
+  head = c .before .before
+
+  abbrev start : tie.Start Inv-loop μ-loop
+  start = head .before .before
+
+  held : Held (length (head .loop .w)) (start .args .self)
+  held = record { ends = omega (arith, start .pre .0 .ends, head .loop .inv .so-far .same-length) }
+
+on-lines-requires-2 : tie.Need-on-lines-requires-2 Inv-loop μ-loop
+on-lines-requires-2 c κs =
+    let at = c .before in
+    let ready = places-ready (at .places2 .ensures) (at .before .loop-test .taken) (held at) (start at .pre .1 .1 .0) in
+    (ready .held, (head at .loop .inv .so-far .small, ready .fits))
+
+enum-told : tie.Need-enum-told Inv-loop μ-loop
+enum-told c = c .match2 .keys1
+
+enum-told-2 : tie.Need-enum-told-2 Inv-loop μ-loop
+enum-told-2 c = c .match2 .keys2
+
+-- what the operation on line i came to
+became :
+    (c : tie.After-on-lines2 Inv-loop μ-loop) (r : Effect) → c .on-lines2 .result ≡ r
+    → (let at = c .before .before in let P = placesOf (start at .args .self) (head at .loop .i) in
+    Became P (head at .loop .w) (onRows (operationOf (start at .args .op)) (contents P (head at .loop .w))) r (c .on-lines2 .last .1 .0))
+became c r e =
+    let at = c .before .before in
+    became-places (start at .args .self) (head at .loop .i) (at .places2 .ensures) (operationOf (start at .args .op)) (head at .loop .w) (c .on-lines2 .last .1 .0) r
+    (subst
+    (λ (r : Effect). Became (at .places2 .result) (head at .loop .w) (onRows (operationOf (start at .args .op)) (contents (at .places2 .result) (head at .loop .w))) r (c .on-lines2 .last .1 .0))
+    e (c .on-lines2 .ensures))
+
+same-length-2 : tie.Need-same-length-2 Inv-loop μ-loop
+same-length-2 c = let called = c .before .before .before in called .on-lines2 .kept .1 .0 ∙ head (called .before .before) .loop .inv .so-far .same-length
+
+returns-2 : tie.Need-returns-2 Inv-loop μ-loop
+returns-2 c =
+    let called = c .before .before .before in let at = called .before .before in
+    places-exceed (start at .args .self) (operationOf (start at .args .op)) (start at .pre .1 .1 .0 .within) (start at .args .w .now) (head at .loop .w) (head at .loop .i)
+    (at .before .loop-test .taken) (head at .loop .inv .so-far) (became called TooWide (c .enum-told2 .given .1))
+
+add-i : tie.Need-add-i Inv-loop μ-loop
+add-i c = omega arith
+
+loop-less : tie.Need-loop-less Inv-loop μ-loop
+loop-less c = omega arith
+
+loop-again : tie.Need-loop-again Inv-loop μ-loop
+loop-again c =
+    let called = c .before .before .before in let at = called .before .before in
+    record {
+      below = omega (arith, at .before .loop-test .taken);
+      so-far = places-next (start at .args .self) (operationOf (start at .args .op)) (start at .pre .1 .1 .0 .within) (start at .args .w .now) (head at .loop .w) (head at .loop .i)
+          (at .before .loop-test .taken) (head at .loop .inv .so-far) (became called Done (c .enum-told .given .1));
+    }
+
+same-length-3 : tie.Need-same-length-3 Inv-loop μ-loop
+same-length-3 c = c .before .loop .inv .so-far .same-length
+
+returns-3 : tie.Need-returns-3 Inv-loop μ-loop
+returns-3 c = ended (c .before .loop .inv) (c .loop-test .left)
+
+pub on-places-spec : {M : Type 1} → statement M
+on-places-spec =
+    tie.close
+    (tie.spec
+    Inv-loop
+    μ-loop
+    enum-known-op
+    places-requires
+    on-lines-requires
+    same-length
+    returns
+    loop-holds
+    places-requires-2
+    on-lines-requires-2
+    enum-told
+    enum-told-2
+    same-length-2
+    returns-2
+    add-i
+    loop-less
+    loop-again
+    same-length-3
+    returns-3)

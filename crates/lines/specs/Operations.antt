@@ -1,0 +1,53 @@
+-- The elementary operations of the code, and what a call of one asks.
+use mathlib.Core.Path.{_≡_}
+use mathlib.Core.Logic.{_≢_}
+use mathlib.Core.Bool.{Bool, true, false}
+use mathlib.Core.List.{List}
+use Prim.Native.Nat.{ℕ, _<_, _≤_}
+use lib.IntN.{ℤ, pos, natAbs}
+use Rattle.matrices.specs.Operation as theory
+use Rattle.matrices.specs.Within.{Within}
+use Rattle.lines.specs.Slice.{limit}
+use Rattle.lines.specs.Matrices.{contents}
+use Rattle.lines.specs.declared.matrix.Matrix.{Matrix}
+use Rattle.lines.specs.declared.operation.Operation.{Operation}
+use Rattle.lines.specs.declared.operation.Operation.the-variants.{Subtract, Swap, Negate}
+
+-- the definitions' operation
+abbrev pub operationOf : Operation → theory.Operation
+operationOf (Subtract i k q) = theory.subtract i k q
+operationOf (Swap i k) = theory.swap i k
+operationOf (Negate k) = theory.negate k
+
+-- the factor of a subtraction lies within the limit
+abbrev pub FactorWithin : theory.Operation → Type 0
+FactorWithin (theory.subtract i k q) = natAbs q ≤ limit
+FactorWithin (theory.swap i k) = Unit {0}
+FactorWithin (theory.negate k) = Unit {0}
+
+-- it is one of n lines or places
+pub record Fits (n : ℕ) (op : theory.Operation) : Type 0 where
+  pub within : Within n op
+  pub factor : FactorWithin op
+
+-- line k has the only nonzero entry at place k
+pub record AloneAt (M : Matrix) (w : List ℤ) (k : ℕ) : Type 0 where
+  pub line : k < M .lines
+  pub zero : (a : ℕ) → a < M .lines → a ≢ k → contents M w a k ≡ pos 0
+
+-- so it is where place k is taken from another
+abbrev pub Alone : Matrix → List ℤ → theory.Operation → Type 0
+Alone M w (theory.subtract j k q) = AloneAt M w k
+Alone M w (theory.swap j k) = Unit {0}
+Alone M w (theory.negate k) = Unit {0}
+
+-- 0 times a line is subtracted
+abbrev pub Identity : theory.Operation → Type 0
+Identity (theory.subtract i k q) = q ≡ pos 0
+Identity (theory.swap i k) = ⊥
+Identity (theory.negate k) = ⊥
+
+-- what a test for it answers
+pub record IdentityTest (op : theory.Operation) (r : Bool) : Type 0 where
+  pub on-true : r ≡ true → Identity op
+  pub on-false : r ≡ false → Identity op → ⊥

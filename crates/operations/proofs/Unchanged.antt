@@ -1,0 +1,51 @@
+-- An operation that subtracts 0 times a line leaves the matrix and its companions as they are: `unchanged`.
+use mathlib.Core.Path.{_≡_, refl, sym, ap, _∙_}
+use mathlib.Core.List.{List}
+use Prim.Native.Nat.{ℕ}
+use native.Mathlib.Decide.{ℕ-discrete}
+use lib.IntN.{ℤ, negℤ}
+use Rattle.integers.specs.Ring.{zero-mul, add-zero}
+use Rattle.matrices.specs.Matrix.{transpose}
+use Rattle.matrices.specs.Matrix as theory
+use Rattle.matrices.specs.Operation.{Operation, subtract, swap, negate, onRows, onColumns, inverse}
+use Rattle.matrices.specs.OperationLaws.{onRows-subtract-at, onRows-subtract-other}
+use Rattle.lines.specs.Slice.{Small}
+use Rattle.lines.specs.Matrices.{contents, Holds}
+use Rattle.lines.specs.Operations.{Identity}
+use Rattle.lines.specs.declared.matrix.Matrix.{Matrix}
+use Rattle.lines.specs.declared.line.Effect.the-variants.{Done}
+use Rattle.operations.proofs.Side.{Side, rows, columns, follower, undone, onSide}
+use Rattle.operations.proofs.Operate.{ends, Task, Comes}
+
+onRows-identity : (op : Operation) → Identity op → (A : theory.Matrix) (a b : ℕ) → onRows op A a b ≡ A a b
+onRows-identity (subtract i k q) e A a b = pick (ℕ-discrete a i)
+  where
+    pick : Dec (a ≡ i) → onRows (subtract i k q) A a b ≡ A a b
+    pick (yes same) = rw same (onRows-subtract-at i k q A b ∙ rw (e, zero-mul (A k b), add-zero (A i b)))
+    pick (no d) = onRows-subtract-other i k q A a b d
+onRows-identity (swap i k) e A a b = absurd e
+onRows-identity (negate k) e A a b = absurd e
+
+onSide-identity : (x : Side) (op : Operation) → Identity op → (A : theory.Matrix) (a b : ℕ) → onSide x op A a b ≡ A a b
+unfolding onColumns
+onSide-identity rows op e A a b = onRows-identity op e A a b
+onSide-identity columns op e A a b = onRows-identity op e (transpose A) b a
+
+identity-inverse : (op : Operation) → Identity op → Identity (inverse op)
+unfolding inverse
+identity-inverse (subtract i k q) e = ap negℤ e
+identity-inverse (swap i k) e = e
+identity-inverse (negate k) e = e
+
+-- a slice holds what it holds
+holds-same : (M : Matrix) (w : List ℤ) (A : theory.Matrix) → Small w → ((a b : ℕ) → A a b ≡ contents M w a b) → Holds M w A w
+holds-same M w A s e = record { same-length = refl; on = record { at = λ a b x y. sym (e a b) }; off = λ p o. refl; small = s }
+
+pub unchanged : (t : Task) → Small (t .slice) → Identity (t .operation) → Comes t Done (t .slice)
+unchanged t s e =
+    let x = t .side in let op = t .operation in let W = t .layout in let w = t .slice in
+    ends x op W w (t .laid) (t .fits .within)
+    (holds-same (W .matrix) w (onSide x op (contents (W .matrix) w)) s (onSide-identity x op e (contents (W .matrix) w)))
+    (holds-same (follower x W) w (onRows op (contents (follower x W) w)) s (onRows-identity op e (contents (follower x W) w)))
+    Done
+    (holds-same (undone x W) w (onRows (inverse op) (contents (undone x W) w)) s (onRows-identity (inverse op) (identity-inverse op e) (contents (undone x W) w)))
