@@ -4,9 +4,9 @@ pub mod Division
 mod AbsoluteValue
 pub mod Room
 pub mod Regions
-mod Side
-mod Operate
-mod Unchanged
+pub mod Side
+pub mod Operate
+pub mod Unchanged
 pub mod Tests
 mod Choosing
 mod Scanning

@@ -1,4 +1,5 @@
--- An operation that subtracts 0 times a line leaves the matrix and its companions as they are: `unchanged`.
+-- An operation that subtracts 0 times a line leaves the matrix and its companions as they are: `unchanged`, and so `rows-unchanged`,
+-- `columns-unchanged`.
 use mathlib.Core.Path.{_≡_, refl, sym, ap, _∙_}
 use mathlib.Core.List.{List}
 use Prim.Native.Nat.{ℕ}
@@ -9,11 +10,15 @@ use Rattle.matrices.specs.Matrix.{transpose}
 use Rattle.matrices.specs.Matrix as theory
 use Rattle.matrices.specs.Operation.{Operation, subtract, swap, negate, onRows, onColumns, inverse}
 use Rattle.matrices.specs.OperationLaws.{onRows-subtract-at, onRows-subtract-other}
-use Rattle.lines.specs.Slice.{Small}
+use lib.ListN.{length}
+use Rattle.reduction_steps.specs.State.{made, onRow, onColumn}
+use Rattle.lines.specs.Slice.{limit, Small}
 use Rattle.lines.specs.Matrices.{contents, Holds}
-use Rattle.lines.specs.Operations.{Identity}
+use Rattle.lines.specs.Operations.{Identity, Fits}
 use Rattle.lines.specs.declared.matrix.Matrix.{Matrix}
 use Rattle.lines.specs.declared.line.Effect.the-variants.{Done}
+use Rattle.operations.specs.Laid.{Laid, sizesOf, stateOf}
+use Rattle.operations.specs.declared.layout.Layout.{Layout}
 use Rattle.operations.proofs.Side.{Side, rows, columns, follower, undone, onSide}
 use Rattle.operations.proofs.Operate.{ends, Task, Comes}
 
@@ -49,3 +54,12 @@ unchanged t s e =
     (holds-same (follower x W) w (onRows op (contents (follower x W) w)) s (onRows-identity op e (contents (follower x W) w)))
     Done
     (holds-same (undone x W) w (onRows (inverse op) (contents (undone x W) w)) s (onRows-identity (inverse op) (identity-inverse op e) (contents (undone x W) w)))
+
+-- ---- what the passes need: no operation is called where the quotient is 0
+
+module _ (W : Layout) (w : List ℤ) (laid : Laid (length w) W) (small : Small w) (op : Operation) (identity : Identity op) where
+  pub rows-unchanged : Fits (W .matrix .lines) op → onRow limit (sizesOf W) op (stateOf W w) ≡ made (stateOf W w)
+  rows-unchanged fits = sym (unchanged (record { side = rows; operation = op; layout = W; slice = w; laid = laid; fits = fits }) small identity .outcome)
+
+  pub columns-unchanged : Fits (W .matrix .width) op → onColumn limit (sizesOf W) op (stateOf W w) ≡ made (stateOf W w)
+  columns-unchanged fits = sym (unchanged (record { side = columns; operation = op; layout = W; slice = w; laid = laid; fits = fits }) small identity .outcome)

@@ -1,4 +1,5 @@
-// The passes of steps c and d. An operation that goes too wide ends the call there: the slice is cleared.
+// The passes of steps c and d. An operation that goes too wide ends the call there: the slice is cleared. A quotient of 0 changes nothing, and no
+// operation is called for it.
 ghost use lib.ListN.{length};
 ghost use Rattle.passes.specs.Answer.{Placed, ColumnClear, rowPassOf, columnPassOf, Passed};
 use lines::line::Effect;
@@ -23,6 +24,10 @@ pub fn clear_column(layout: Layout, w: &mut [i32], k: usize) -> Pass
     let mut i = k + 1;
     while i < rows {
         let q = quotient(m.entry(w, i, k), m.entry(w, k, k));
+        if q == 0 {
+            i = i + 1;
+            continue;
+        }
         let Effect::Done = layout.on_rows(w, Operation::Subtract(i, k, q)) else {
             clear(w);
             return Pass::Refused(Refusal::TooWide);
@@ -42,6 +47,10 @@ pub fn clear_row(layout: Layout, w: &mut [i32], k: usize) -> Pass
     let mut j = k + 1;
     while j < columns {
         let q = quotient(m.entry(w, k, j), m.entry(w, k, k));
+        if q == 0 {
+            j = j + 1;
+            continue;
+        }
         let Effect::Done = layout.on_columns(w, Operation::Subtract(j, k, q)) else {
             clear(w);
             return Pass::Refused(Refusal::TooWide);

@@ -1,12 +1,15 @@
 -- `clear_column` meets its contract. The invariant: what is left of the row pass from the present state is the whole pass from the start. The
 -- measure is how many rows are left. Assumes nothing.
-use mathlib.Core.Path.{_≡_, _∙_}
-use Prim.Native.Nat.{_-_}
+use mathlib.Core.Path.{_≡_, refl, _∙_, ap}
+use Prim.Native.Nat.{ℕ, _-_}
 use native.Mathlib.Omega.{arith}
 use mir.Syntax.{w64}
+use mir.Val.{toZ}
 use Rattle.integers.specs.Division.{floor}
+use Rattle.matrices.specs.Operation.{subtract}
 use Rattle.lines.specs.Matrices.{contents}
 use Rattle.lines.proofs.Words.{read}
+use Rattle.operations.proofs.Unchanged.{rows-unchanged}
 use Rattle.passes.proofs.States.{held-matrix, operated-done, operated-wide}
 use Rattle.passes.proofs.Words.{quotient-small, quotient-asks, quotient-read}
 use Rattle.passes.proofs.Passes.{pass-refused, RowPassing, rows-start, rows-next, rows-wide, rows-end}
@@ -62,11 +65,31 @@ quotient-requires c κs =
     let h = head c .loop .inv .placed in
     quotient-asks (start c .args .layout) (start c .args .k) (head c .loop .w) (h .small) (h .ready) (head c .loop .i) (start c .args .k) (c .before .before .entry .ensures) (c .entry2 .ensures)
 
-on-rows-requires : tie.Need-on-rows-requires Inv-loop μ-loop
-on-rows-requires c κs =
+-- a quotient of 0: nothing is called
+add-i-2 : tie.Need-add-i-2 Inv-loop μ-loop
+add-i-2 c =
+    let e = c .before .before in
+    omega (arith, turn e .loop-test .taken, start e)
+
+loop-less : tie.Need-loop-less Inv-loop μ-loop
+loop-less c = omega (arith, turn (c .before .before) .loop-test .taken)
+
+loop-again : tie.Need-loop-again Inv-loop μ-loop
+loop-again c =
     let e = c .before .before in
     let inv = head e .loop .inv in
-    let small-quotient = quotient-small (c .before .quotient .result) (c .before .quotient .ensures .1) in (
+    let q = read w64 (c .before .quotient .result) in
+    rows-next inv (turn e .loop-test .taken) (taken (c .before)) refl (inv .placed .small)
+    (rows-unchanged (start e .args .layout) (head e .loop .w) (inv .placed .laid) (inv .placed .small) (subtract (head e .loop .i) (start e .args .k) q) (ap (λ (bits : ℕ). toZ w64 bits) (c .if1 .taken)) (record {
+      within = record { changed = turn e .loop-test .taken; taken = inv .placed .ready .row; distinct = λ same. omega (arith, inv .from) };
+      factor = quotient-small (c .before .quotient .result) (c .before .quotient .ensures .1);
+    }))
+
+on-rows-requires : tie.Need-on-rows-requires Inv-loop μ-loop
+on-rows-requires c κs =
+    let e = c .before .before .before in
+    let inv = head e .loop .inv in
+    let small-quotient = quotient-small (c .before .before .quotient .result) (c .before .before .quotient .ensures .1) in (
       inv .placed .laid,
       (
         inv .placed .small,
@@ -89,31 +112,31 @@ clear-requires c κs = tt
 same-length : tie.Need-same-length Inv-loop μ-loop
 same-length c =
     let called = c .before .before .before .before .before .before in
-    c .before .clear .kept .0 ∙ called .on-rows .kept .1 .0 ∙ head (called .before .before .before) .loop .inv .same-length
+    c .before .clear .kept .0 ∙ called .on-rows .kept .1 .0 ∙ head (called .before .before .before .before) .loop .inv .same-length
 
 returns : tie.Need-returns Inv-loop μ-loop
 returns c =
     let called = c .before .before .before .before .before .before in
-    let quotient = called .before .before in
+    let quotient = called .before .before .before in
     let inv = head (quotient .before) .loop .inv in
     pass-refused (called .on-rows .last .1 .0)
     (rows-wide inv (turn (quotient .before) .loop-test .taken) (taken quotient) (operated-wide (called .on-rows .ensures) (c .before .before .before .enum-told2 .given .1)))
     (c .before .clear .ensures) (called .on-rows .kept .1 .0 ∙ inv .same-length)
 
-add-i-2 : tie.Need-add-i-2 Inv-loop μ-loop
-add-i-2 c =
-    let e = c .before .before .before .before .before .before in
+add-i-3 : tie.Need-add-i-3 Inv-loop μ-loop
+add-i-3 c =
+    let e = c .before .before .before .before .before .before .before in
     omega (arith, turn e .loop-test .taken, start e)
 
-loop-less : tie.Need-loop-less Inv-loop μ-loop
-loop-less c =
-    let e = c .before .before .before .before .before .before in
+loop-less-2 : tie.Need-loop-less-2 Inv-loop μ-loop
+loop-less-2 c =
+    let e = c .before .before .before .before .before .before .before in
     omega (arith, turn e .loop-test .taken)
 
-loop-again : tie.Need-loop-again Inv-loop μ-loop
-loop-again c =
+loop-again-2 : tie.Need-loop-again-2 Inv-loop μ-loop
+loop-again-2 c =
     let called = c .before .before .before .on-rows in
-    let quotient = c .before .before .before .before .before in
+    let quotient = c .before .before .before .before .before .before in
     rows-next (head (quotient .before) .loop .inv) (turn (quotient .before) .loop-test .taken) (taken quotient) (called .kept .1 .0) (called .ensures .small)
     (operated-done (called .ensures) (c .enum-told .given .1))
 
@@ -134,14 +157,17 @@ clear-column-spec =
     entry-requires
     entry-requires-2
     quotient-requires
+    add-i-2
+    loop-less
+    loop-again
     on-rows-requires
     enum-told
     enum-told-2
     clear-requires
     same-length
     returns
-    add-i-2
-    loop-less
-    loop-again
+    add-i-3
+    loop-less-2
+    loop-again-2
     same-length-2
     returns-2)

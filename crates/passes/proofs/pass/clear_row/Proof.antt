@@ -1,12 +1,15 @@
 -- `clear_row` meets its contract. The invariant: what is left of the column pass from the present state is the whole pass from the start. The
 -- measure is how many columns are left. Assumes nothing.
-use mathlib.Core.Path.{_≡_, _∙_}
-use Prim.Native.Nat.{_-_}
+use mathlib.Core.Path.{_≡_, refl, _∙_, ap}
+use Prim.Native.Nat.{ℕ, _-_}
 use native.Mathlib.Omega.{arith}
 use mir.Syntax.{w64}
+use mir.Val.{toZ}
 use Rattle.integers.specs.Division.{floor}
+use Rattle.matrices.specs.Operation.{subtract}
 use Rattle.lines.specs.Matrices.{contents}
 use Rattle.lines.proofs.Words.{read}
+use Rattle.operations.proofs.Unchanged.{columns-unchanged}
 use Rattle.passes.proofs.States.{held-matrix, operated-done, operated-wide}
 use Rattle.passes.proofs.Words.{quotient-small, quotient-asks, quotient-read}
 use Rattle.passes.proofs.Passes.{pass-refused, column-zero, ColumnPassing, columns-start, columns-next, columns-wide, columns-end}
@@ -62,11 +65,31 @@ quotient-requires c κs =
     let h = head c .loop .inv .clear in
     quotient-asks (start c .args .layout) (start c .args .k) (head c .loop .w) (h .small) (h .ready .ready) (start c .args .k) (head c .loop .j) (c .before .before .entry .ensures) (c .entry2 .ensures)
 
-on-columns-requires : tie.Need-on-columns-requires Inv-loop μ-loop
-on-columns-requires c κs =
+-- a quotient of 0: nothing is called
+add-j-2 : tie.Need-add-j-2 Inv-loop μ-loop
+add-j-2 c =
+    let e = c .before .before in
+    omega (arith, turn e .loop-test .taken, start e)
+
+loop-less : tie.Need-loop-less Inv-loop μ-loop
+loop-less c = omega (arith, turn (c .before .before) .loop-test .taken)
+
+loop-again : tie.Need-loop-again Inv-loop μ-loop
+loop-again c =
     let e = c .before .before in
     let inv = head e .loop .inv in
-    let small-quotient = quotient-small (c .before .quotient .result) (c .before .quotient .ensures .1) in
+    let q = read w64 (c .before .quotient .result) in
+    columns-next inv (turn e .loop-test .taken) (taken (c .before)) refl (inv .clear .small)
+    (columns-unchanged (start e .args .layout) (head e .loop .w) (inv .clear .laid) (inv .clear .small) (subtract (head e .loop .j) (start e .args .k) q) (ap (λ (bits : ℕ). toZ w64 bits) (c .if1 .taken)) (record {
+      within = record { changed = turn e .loop-test .taken; taken = inv .clear .ready .ready .column; distinct = λ same. omega (arith, inv .from) };
+      factor = quotient-small (c .before .quotient .result) (c .before .quotient .ensures .1);
+    }))
+
+on-columns-requires : tie.Need-on-columns-requires Inv-loop μ-loop
+on-columns-requires c κs =
+    let e = c .before .before .before in
+    let inv = head e .loop .inv in
+    let small-quotient = quotient-small (c .before .before .quotient .result) (c .before .before .quotient .ensures .1) in
     let h = inv .clear in (
       h .laid,
       (
@@ -93,31 +116,31 @@ clear-requires c κs = tt
 same-length : tie.Need-same-length Inv-loop μ-loop
 same-length c =
     let called = c .before .before .before .before .before .before in
-    c .before .clear .kept .0 ∙ called .on-columns .kept .1 .0 ∙ head (called .before .before .before) .loop .inv .same-length
+    c .before .clear .kept .0 ∙ called .on-columns .kept .1 .0 ∙ head (called .before .before .before .before) .loop .inv .same-length
 
 returns : tie.Need-returns Inv-loop μ-loop
 returns c =
     let called = c .before .before .before .before .before .before in
-    let quotient = called .before .before in
+    let quotient = called .before .before .before in
     let inv = head (quotient .before) .loop .inv in
     pass-refused (called .on-columns .last .1 .0)
     (columns-wide inv (turn (quotient .before) .loop-test .taken) (taken quotient) (operated-wide (called .on-columns .ensures) (c .before .before .before .enum-told2 .given .1)))
     (c .before .clear .ensures) (called .on-columns .kept .1 .0 ∙ inv .same-length)
 
-add-j-2 : tie.Need-add-j-2 Inv-loop μ-loop
-add-j-2 c =
-    let e = c .before .before .before .before .before .before in
+add-j-3 : tie.Need-add-j-3 Inv-loop μ-loop
+add-j-3 c =
+    let e = c .before .before .before .before .before .before .before in
     omega (arith, turn e .loop-test .taken, start e)
 
-loop-less : tie.Need-loop-less Inv-loop μ-loop
-loop-less c =
-    let e = c .before .before .before .before .before .before in
+loop-less-2 : tie.Need-loop-less-2 Inv-loop μ-loop
+loop-less-2 c =
+    let e = c .before .before .before .before .before .before .before in
     omega (arith, turn e .loop-test .taken)
 
-loop-again : tie.Need-loop-again Inv-loop μ-loop
-loop-again c =
+loop-again-2 : tie.Need-loop-again-2 Inv-loop μ-loop
+loop-again-2 c =
     let called = c .before .before .before .on-columns in
-    let quotient = c .before .before .before .before .before in
+    let quotient = c .before .before .before .before .before .before in
     columns-next (head (quotient .before) .loop .inv) (turn (quotient .before) .loop-test .taken) (taken quotient) (called .kept .1 .0) (called .ensures .small)
     (operated-done (called .ensures) (c .enum-told .given .1))
 
@@ -138,14 +161,17 @@ clear-row-spec =
     entry-requires
     entry-requires-2
     quotient-requires
+    add-j-2
+    loop-less
+    loop-again
     on-columns-requires
     enum-told
     enum-told-2
     clear-requires
     same-length
     returns
-    add-j-2
-    loop-less
-    loop-again
+    add-j-3
+    loop-less-2
+    loop-again-2
     same-length-2
     returns-2)
