@@ -86,31 +86,10 @@ module _ (c : tie.After-counts) where
       coordinates-sizes (limit called) (host called) (sheet called) (start called .args .dimension) (output called) (chain called) (slots called) (work called)
       (size called) (start called .pre .1) (bytes called) counts (after called) (work′ called) done
 
-smaller-requires : tie.Need-smaller-requires
-smaller-requires c κs = search needs
-
-host-requires : tie.Need-host-requires
-host-requires c κs = search needs
-
-slice-relend-prefix-coordinates-at : tie.Need-slice-relend-prefix-coordinates-at
-slice-relend-prefix-coordinates-at c = search needs
-
 slice-aggregate-coordinates-at : tie.Need-slice-aggregate-coordinates-at
 slice-aggregate-coordinates-at c =
     let start = c .before .before .before .before .before in
     sym (length-take-le (c .before .before .smaller .result) (now (start .args .numbers)) (omega (arith, c .before .before .smaller .ensures, start .pre .0)))
-
-coordinates-at-requires : tie.Need-coordinates-at-requires
-coordinates-at-requires c κs = search needs
-
-enum-known-refusal : tie.Need-enum-known-refusal
-enum-known-refusal c = search needs
-
-number-requires : tie.Need-number-requires
-number-requires c κs = search needs
-
-enum-known-counts : tie.Need-enum-known-counts
-enum-known-counts c = search needs
 
 add-write-numbers : tie.Need-add-write-numbers
 add-write-numbers c = let s = sizes (c .before .before .before) .is-sized in omega (arith, s .total-within, s .cells-within)
@@ -123,12 +102,6 @@ write-numbers-requires c κs =
       omega (arith, sizes d .fits, size a),
     )
 
-same-length : tie.Need-same-length
-same-length c = search needs
-
-same-length-2 : tie.Need-same-length-2
-same-length-2 c = search needs
-
 returns : tie.Need-returns
 returns c =
     let a = c .before .before .before .before .before .before in
@@ -139,15 +112,6 @@ returns c =
           chain-bytes read (c .before .before .refusal .given .0 .0) (after a) (work′ a) (c .number .result)
           (answers a (Refused (c .before .before .refusal .given .0 .0)) (c .before .before .refusal .given .1)) (c .number .ensures);
     }
-
-same-length-3 : tie.Need-same-length-3
-same-length-3 c = search needs
-
-same-length-4 : tie.Need-same-length-4
-same-length-4 c = search needs
-
-same-length-5 : tie.Need-same-length-5
-same-length-5 c = search needs
 
 returns-2 : tie.Need-returns-2
 returns-2 c =
@@ -165,21 +129,6 @@ returns-2 c =
 pub coordinates-through-spec : {M : Type 1} → statement M
 coordinates-through-spec =
     tie.close
-    (tie.spec
-    smaller-requires
-    host-requires
-    slice-relend-prefix-coordinates-at
-    slice-aggregate-coordinates-at
-    coordinates-at-requires
-    enum-known-refusal
-    number-requires
-    enum-known-counts
-    add-write-numbers
-    write-numbers-requires
-    same-length
-    same-length-2
-    returns
-    same-length-3
-    same-length-4
-    same-length-5
-    returns-2)
+    (tie.spec (λ c κs. search needs) (λ c κs. search needs) (λ c. search needs) slice-aggregate-coordinates-at (λ c κs. search needs)
+    (λ c. search needs) (λ c κs. search needs) (λ c. search needs) add-write-numbers write-numbers-requires (λ c. search needs) (λ c. search needs)
+    returns (λ c. search needs) (λ c. search needs) (λ c. search needs) returns-2)

@@ -13,30 +13,12 @@ use Rattle.reports.specs.Host.{chainFrom}
 use Rattle.fildwuk.proofs.fildwuk_coordinates.Statement.{statement}
 use Rattle.fildwuk.proofs.fildwuk_coordinates.Tie as tie
 
-count-requires : tie.Need-count-requires
-count-requires c κs = search needs
-
-read-chain-requires : tie.Need-read-chain-requires
-read-chain-requires c κs = search needs
-
 array-share-prefix-coefficients : tie.Need-array-share-prefix-coefficients
 array-share-prefix-coefficients c = c .read-chain .ensures .within
 
 slice-aggregate-coordinates-through : tie.Need-slice-aggregate-coordinates-through
 slice-aggregate-coordinates-through c =
     sym (length-take-le (c .before .read-chain .result) (c .before .read-chain .last .1 .1 .0) (c .before .read-chain .ensures .within))
-
-slice-aggregate-coordinates-through-2 : tie.Need-slice-aggregate-coordinates-through-2
-slice-aggregate-coordinates-through-2 c = search needs
-
-slice-aggregate-coordinates-through-3 : tie.Need-slice-aggregate-coordinates-through-3
-slice-aggregate-coordinates-through-3 c = search needs
-
-coordinates-through-requires : tie.Need-coordinates-through-requires
-coordinates-through-requires c κs = search needs
-
-same-length : tie.Need-same-length
-same-length c = search needs
 
 returns : tie.Need-returns
 returns c =
@@ -52,13 +34,5 @@ returns c =
 pub fildwuk-coordinates-spec : {M : Type 1} → statement M
 fildwuk-coordinates-spec =
     tie.close
-    (tie.spec
-    count-requires
-    read-chain-requires
-    array-share-prefix-coefficients
-    slice-aggregate-coordinates-through
-    slice-aggregate-coordinates-through-2
-    slice-aggregate-coordinates-through-3
-    coordinates-through-requires
-    same-length
-    returns)
+    (tie.spec (λ c κs. search needs) (λ c κs. search needs) array-share-prefix-coefficients slice-aggregate-coordinates-through (λ c. search needs)
+    (λ c. search needs) (λ c κs. search needs) (λ c. search needs) returns)

@@ -94,40 +94,16 @@ module _ (c : tie.After-count) where
       report-room (limit a) (host a) (sheet a) (start a .args .dimension) (output a) (slots a) (work a)
       (size a) (start a .pre .1) (bytes a) (counts counted) (after a) (work′ a) (done counted) (c .count .result) many (c .count .ensures .is) refl
 
-smaller-requires : tie.Need-smaller-requires
-smaller-requires c κs = search needs
-
-host-requires : tie.Need-host-requires
-host-requires c κs = search needs
-
-slice-relend-prefix-report-at : tie.Need-slice-relend-prefix-report-at
-slice-relend-prefix-report-at c = search needs
-
 slice-aggregate-report-at : tie.Need-slice-aggregate-report-at
 slice-aggregate-report-at c =
     let start = c .before .before .before .before .before in
     sym (length-take-le (c .before .before .smaller .result) (now (start .args .numbers)) (omega (arith, c .before .before .smaller .ensures, start .pre .0)))
-
-report-at-requires : tie.Need-report-at-requires
-report-at-requires c κs = search needs
-
-enum-known-refusal : tie.Need-enum-known-refusal
-enum-known-refusal c = search needs
-
-number-requires : tie.Need-number-requires
-number-requires c κs = search needs
-
-enum-known-counts : tie.Need-enum-known-counts
-enum-known-counts c = search needs
 
 add-generators : tie.Need-add-generators
 add-generators c = omega (arith, sizes (c .before .before) .is-sized .total-within, sizes (c .before .before) .is-sized .cells-within)
 
 add-written : tie.Need-add-written
 add-written c = let s = sizes (c .before .before .before) .is-sized in omega (arith, s .total-within, s .cells-within)
-
-count-requires : tie.Need-count-requires
-count-requires c κs = search needs
 
 mul-written : tie.Need-mul-written
 mul-written c = omega (arith, room c, size (called (counted c)))
@@ -143,27 +119,12 @@ write-numbers-requires c κs =
       omega (arith, room d, size a),
     )
 
-same-length : tie.Need-same-length
-same-length c = search needs
-
-same-length-2 : tie.Need-same-length-2
-same-length-2 c = search needs
-
 returns : tie.Need-returns
 returns c =
     let a = c .before .before .before .before .before .before in
     report-refuses (limit a) (host a) (sheet a) (start a .args .dimension) (output a) (slots a) (work a) (size a) (start a .pre .1)
     (c .before .before .refusal .given .0 .0) (after a) (work′ a) (c .number .result)
     (answers a (Refused (c .before .before .refusal .given .0 .0)) (c .before .before .refusal .given .1)) (c .number .ensures)
-
-same-length-3 : tie.Need-same-length-3
-same-length-3 c = search needs
-
-same-length-4 : tie.Need-same-length-4
-same-length-4 c = search needs
-
-same-length-5 : tie.Need-same-length-5
-same-length-5 c = search needs
 
 returns-2 : tie.Need-returns-2
 returns-2 c =
@@ -177,25 +138,6 @@ returns-2 c =
 pub report-through-spec : {M : Type 1} → statement M
 report-through-spec =
     tie.close
-    (tie.spec
-    smaller-requires
-    host-requires
-    slice-relend-prefix-report-at
-    slice-aggregate-report-at
-    report-at-requires
-    enum-known-refusal
-    number-requires
-    enum-known-counts
-    add-generators
-    add-written
-    count-requires
-    mul-written
-    add-written-2
-    write-numbers-requires
-    same-length
-    same-length-2
-    returns
-    same-length-3
-    same-length-4
-    same-length-5
-    returns-2)
+    (tie.spec (λ c κs. search needs) (λ c κs. search needs) (λ c. search needs) slice-aggregate-report-at (λ c κs. search needs) (λ c. search needs)
+    (λ c κs. search needs) (λ c. search needs) add-generators add-written (λ c κs. search needs) mul-written add-written-2 write-numbers-requires
+    (λ c. search needs) (λ c. search needs) returns (λ c. search needs) (λ c. search needs) (λ c. search needs) returns-2)

@@ -4,20 +4,8 @@ use Rattle.library_host.proofs.Told.{told}
 use Rattle.library_host.proofs.library_coordinates.Statement.{statement}
 use Rattle.library_host.proofs.library_coordinates.Tie as tie
 
-coordinates-requires : tie.Need-coordinates-requires
-coordinates-requires c κs = search needs
-
-number-requires : tie.Need-number-requires
-number-requires c κs = search needs
-
-same-length : tie.Need-same-length
-same-length c = search needs
-
-same-length-2 : tie.Need-same-length-2
-same-length-2 c = search needs
-
 returns : tie.Need-returns
 returns c = told (c .before .before .before .coordinates .ensures) (c .number .ensures)
 
 pub library-coordinates-spec : {M : Type 1} → statement M
-library-coordinates-spec = tie.close (tie.spec coordinates-requires number-requires same-length same-length-2 returns)
+library-coordinates-spec = tie.close (tie.spec (λ c κs. search needs) (λ c κs. search needs) (λ c. search needs) (λ c. search needs) returns)

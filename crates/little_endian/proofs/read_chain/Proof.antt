@@ -95,9 +95,6 @@ Inv-loop chain n coefficients₀ i₀ coefficients i = Read chain n coefficients
 abbrev μ-loop : tie.MeasureT-loop
 μ-loop chain n coefficients₀ i₀ coefficients i = n - i
 
-mul-if2 : tie.Need-mul-if2 Inv-loop μ-loop
-mul-if2 c = omega arith
-
 returns : tie.Need-returns Inv-loop μ-loop
 returns c =
     record {
@@ -126,24 +123,6 @@ loop-holds c =
       are = λ k a. absurd (omega arith);
     }
 
-mul-read-coefficient : tie.Need-mul-read-coefficient Inv-loop μ-loop
-mul-read-coefficient c = omega arith
-
-read-coefficient-requires : tie.Need-read-coefficient-requires Inv-loop μ-loop
-read-coefficient-requires c κs = omega arith
-
-mul-t14 : tie.Need-mul-t14 Inv-loop μ-loop
-mul-t14 c = omega arith
-
-element-set-from-coefficients : tie.Need-element-set-from-coefficients Inv-loop μ-loop
-element-set-from-coefficients c = omega arith
-
-add-i : tie.Need-add-i Inv-loop μ-loop
-add-i c = omega arith
-
-loop-less : tie.Need-loop-less Inv-loop μ-loop
-loop-less c = omega arith
-
 loop-again : tie.Need-loop-again Inv-loop μ-loop
 loop-again c =
     one-more _ _ _ _ (c .before .before .loop .inv) (c .before .loop-test .taken) _
@@ -155,18 +134,5 @@ returns-3 c = all-read _ _ _ _ (c .before .loop .inv) (c .loop-test .left)
 pub read-chain-spec : {M : Type 1} → statement M
 read-chain-spec =
     tie.close
-    (tie.spec
-    Inv-loop
-    μ-loop
-    mul-if2
-    returns
-    returns-2
-    loop-holds
-    mul-read-coefficient
-    read-coefficient-requires
-    mul-t14
-    element-set-from-coefficients
-    add-i
-    loop-less
-    loop-again
-    returns-3)
+    (tie.spec Inv-loop μ-loop (λ c. omega arith) returns returns-2 loop-holds (λ c. omega arith) (λ c κs. omega arith) (λ c. omega arith)
+    (λ c. omega arith) (λ c. omega arith) (λ c. omega arith) loop-again returns-3)

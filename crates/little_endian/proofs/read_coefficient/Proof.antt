@@ -96,17 +96,8 @@ module _ (c : tie.After-shared-slice-known4) where
   word-below : word bytes at4 < 2 ^ 32
   word-below = omega (arith, low-bounds (c .before .before), high-bounds)
 
-shared-slice-read-low : tie.Need-shared-slice-read-low
-shared-slice-read-low c = omega arith
-
 cast-low : tie.Need-cast-low
 cast-low c = omega (arith, c .shared-slice-known .given (c .before .args .at))
-
-add-low : tie.Need-add-low
-add-low c = omega arith
-
-shared-slice-read-low-2 : tie.Need-shared-slice-read-low-2
-shared-slice-read-low-2 c = omega arith
 
 cast-low-2 : tie.Need-cast-low-2
 cast-low-2 c = omega (arith, low-bounds c)
@@ -117,20 +108,8 @@ mul-low c = omega (arith, low-bounds c)
 add-low-2 : tie.Need-add-low-2
 add-low-2 c = omega (arith, low-bounds c)
 
-add-high : tie.Need-add-high
-add-high c = omega arith
-
-shared-slice-read-high : tie.Need-shared-slice-read-high
-shared-slice-read-high c = omega arith
-
 cast-high : tie.Need-cast-high
 cast-high c = omega (arith, c .shared-slice-known3 .given (c .before .before .before .args .at + 2))
-
-add-high-2 : tie.Need-add-high-2
-add-high-2 c = omega arith
-
-shared-slice-read-high-2 : tie.Need-shared-slice-read-high-2
-shared-slice-read-high-2 c = omega arith
 
 cast-high-2 : tie.Need-cast-high-2
 cast-high-2 c = omega (arith, high-bounds c)
@@ -182,28 +161,6 @@ returns-2 c =
 pub read-coefficient-spec : {M : Type 1} → statement M
 read-coefficient-spec =
     tie.close
-    (tie.spec
-    shared-slice-read-low
-    cast-low
-    add-low
-    shared-slice-read-low-2
-    cast-low-2
-    mul-low
-    add-low-2
-    add-high
-    shared-slice-read-high
-    cast-high
-    add-high-2
-    shared-slice-read-high-2
-    cast-high-2
-    mul-high
-    add-high-3
-    mul-n
-    add-n
-    cast-result
-    sub-result
-    cast-result-2
-    sub-result-2
-    sub-result-3
-    returns
-    returns-2)
+    (tie.spec (λ c. omega arith) cast-low (λ c. omega arith) (λ c. omega arith) cast-low-2 mul-low add-low-2 (λ c. omega arith) (λ c. omega arith)
+    cast-high (λ c. omega arith) (λ c. omega arith) cast-high-2 mul-high add-high-3 mul-n add-n cast-result sub-result cast-result-2 sub-result-2
+    sub-result-3 returns returns-2)

@@ -88,25 +88,10 @@ abbrev μ-loop : tie.MeasureT-loop
 loop-holds : tie.Need-loop-holds Inv-loop μ-loop
 loop-holds c = none-written _ _ _
 
-mul-write-number : tie.Need-mul-write-number Inv-loop μ-loop
-mul-write-number c = omega arith
-
-shared-slice-copy-out-write-number : tie.Need-shared-slice-copy-out-write-number Inv-loop μ-loop
-shared-slice-copy-out-write-number c = omega arith
-
-mul-write-number-2 : tie.Need-mul-write-number-2 Inv-loop μ-loop
-mul-write-number-2 c = omega arith
-
 write-number-requires : tie.Need-write-number-requires Inv-loop μ-loop
 write-number-requires c κs =
     let s = c .before .before .before .before .before in
     omega (arith, length-written _ _ _ _ _ (s .pre .0) (s .pre .1) (c .before .before .before .loop .inv))
-
-add-i : tie.Need-add-i Inv-loop μ-loop
-add-i c = omega arith
-
-loop-less : tie.Need-loop-less Inv-loop μ-loop
-loop-less c = omega arith
 
 loop-again : tie.Need-loop-again Inv-loop μ-loop
 loop-again c =
@@ -126,16 +111,5 @@ returns c = all-written _ _ _ _ _ (c .before .loop .inv) (c .loop-test .left)
 pub write-numbers-spec : {M : Type 1} → statement M
 write-numbers-spec =
     tie.close
-    (tie.spec
-    Inv-loop
-    μ-loop
-    loop-holds
-    mul-write-number
-    shared-slice-copy-out-write-number
-    mul-write-number-2
-    write-number-requires
-    add-i
-    loop-less
-    loop-again
-    same-length
-    returns)
+    (tie.spec Inv-loop μ-loop loop-holds (λ c. omega arith) (λ c. omega arith) (λ c. omega arith) write-number-requires (λ c. omega arith)
+    (λ c. omega arith) loop-again same-length returns)

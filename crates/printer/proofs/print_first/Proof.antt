@@ -8,9 +8,6 @@ use lib.Seq.{length-take-le, take-all}
 use Rattle.printer.proofs.print_first.Statement.{statement}
 use Rattle.printer.proofs.print_first.Tie as tie
 
-print-sheet-requires : tie.Need-print-sheet-requires
-print-sheet-requires c κs = search needs
-
 returns : tie.Need-returns
 returns c =
     let a = c .before .before .before .before .args in
@@ -22,18 +19,7 @@ slice-aggregate-print-sheet c =
     let a = c .before .before .before .args in
     sym (length-take-le (a .n) (a .bytes .now) (omega arith))
 
-print-sheet-requires-2 : tie.Need-print-sheet-requires-2
-print-sheet-requires-2 c κs = search needs
-
-returns-2 : tie.Need-returns-2
-returns-2 c = search needs
-
 pub print-first-spec : {M : Type 1} → statement M
 print-first-spec =
     tie.close
-    (tie.spec
-    print-sheet-requires
-    returns
-    slice-aggregate-print-sheet
-    print-sheet-requires-2
-    returns-2)
+    (tie.spec (λ c κs. search needs) returns slice-aggregate-print-sheet (λ c κs. search needs) (λ c. search needs))

@@ -15,9 +15,6 @@ use Rattle.text.specs.Room.{textRoom}
 use Rattle.printer.proofs.print_input.Statement.{statement}
 use Rattle.printer.proofs.print_input.Tie as tie
 
-print-first-requires : tie.Need-print-first-requires
-print-first-requires c κs = search needs
-
 -- the array has room for one byte more than the longest sheet
 long-enough : (c : tie.After-print-first) → longest hostLimit < length (c .before .before .before .args .input .now)
 long-enough c = search needs
@@ -30,4 +27,4 @@ returns c b e =
     (c .print-first .ensures)
 
 pub print-input-spec : {M : Type 1} → statement M
-print-input-spec = tie.close (tie.spec print-first-requires returns)
+print-input-spec = tie.close (tie.spec (λ c κs. search needs) returns)

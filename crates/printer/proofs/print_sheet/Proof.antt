@@ -21,27 +21,6 @@ number c r e =
     ∙ sym (c .read .ensures .number)
     ∙ ap readingNumber e
 
-host-requires : tie.Need-host-requires
-host-requires c κs = search needs
-
-read-requires : tie.Need-read-requires
-read-requires c κs = search needs
-
-enum-known-refusal : tie.Need-enum-known-refusal
-enum-known-refusal c = search needs
-
-put-refusal-requires : tie.Need-put-refusal-requires
-put-refusal-requires c κs = search needs
-
-enum-told : tie.Need-enum-told
-enum-told c = search needs
-
-slice-aggregate-put-dimensions : tie.Need-slice-aggregate-put-dimensions
-slice-aggregate-put-dimensions c = search needs
-
-slice-aggregate-put-dimensions-2 : tie.Need-slice-aggregate-put-dimensions-2
-slice-aggregate-put-dimensions-2 c = search needs
-
 put-dimensions-requires : tie.Need-put-dimensions-requires
 put-dimensions-requires c κs =
     let told = c .before .before .before in
@@ -62,14 +41,5 @@ returns-2 c =
 pub print-sheet-spec : {M : Type 1} → statement M
 print-sheet-spec =
     tie.close
-    (tie.spec
-    host-requires
-    read-requires
-    enum-known-refusal
-    put-refusal-requires
-    enum-told
-    slice-aggregate-put-dimensions
-    slice-aggregate-put-dimensions-2
-    put-dimensions-requires
-    returns
-    returns-2)
+    (tie.spec (λ c κs. search needs) (λ c κs. search needs) (λ c. search needs) (λ c κs. search needs) (λ c. search needs) (λ c. search needs)
+    (λ c. search needs) put-dimensions-requires returns returns-2)

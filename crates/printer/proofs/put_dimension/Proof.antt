@@ -72,24 +72,6 @@ module _ (c : tie.After-count) where
       done-room (limit a) (host a) (sheet a) (start a .pre .0 .0) (start a .args .p) (start a .pre .0 .1) (report a) (work a) (start a .pre .1 .0) (start a .pre .1 .1)
       (start a .args .at) (now (start a .args .out)) (bytes a) (counts counted) (after a) (work′ a) (done counted) (c .count .result) (c .count .ensures .is)
 
-host-requires : tie.Need-host-requires
-host-requires c κs = search needs
-
-cast-report-at : tie.Need-cast-report-at
-cast-report-at c = search needs
-
-report-at-requires : tie.Need-report-at-requires
-report-at-requires c κs = search needs
-
-enum-known-refusal : tie.Need-enum-known-refusal
-enum-known-refusal c = search needs
-
-put-refusal-requires : tie.Need-put-refusal-requires
-put-refusal-requires c κs = search needs
-
-enum-known-counts : tie.Need-enum-known-counts
-enum-known-counts c = search needs
-
 add-generators : tie.Need-add-generators
 add-generators c =
     let d = c .before .before in
@@ -100,24 +82,12 @@ add-generators c =
           (start a .args .at) (now (start a .args .out)) (bytes a) (counts d) (after a) (work′ a) (done d),
     )
 
-count-requires : tie.Need-count-requires
-count-requires c κs = search needs
-
 put-report-requires : tie.Need-put-report-requires
 put-report-requires c κs =
     let d = c .before .before in
     let a = called (counted d) in
     let h = room d in
     ((start a .pre .0 .1, h .cells-within, h .torsion-within, h .generators-within), (omega (arith, h .report-within, a .report-at .kept .1 .1 .1 .0), start a .pre .0 .2))
-
-same-length : tie.Need-same-length
-same-length c = search needs
-
-same-length-2 : tie.Need-same-length-2
-same-length-2 c = search needs
-
-same-length-3 : tie.Need-same-length-3
-same-length-3 c = search needs
 
 returns : tie.Need-returns
 returns c =
@@ -126,15 +96,6 @@ returns c =
     refused-text (limit a) (host a) (sheet a) (start a .pre .0 .0) (start a .args .p) (start a .pre .0 .1) (report a) (work a) (start a .pre .1 .0) (start a .pre .1 .1)
     (start a .args .at) (now (start a .args .out)) (d .refusal .given .0 .0) (after a) (work′ a) (c .before .before .put-refusal .result) (c .before .before .put-refusal .last .1 .0)
     (answers a (Refused (d .refusal .given .0 .0)) (d .refusal .given .1)) (c .before .before .put-refusal .ensures)
-
-same-length-4 : tie.Need-same-length-4
-same-length-4 c = search needs
-
-same-length-5 : tie.Need-same-length-5
-same-length-5 c = search needs
-
-same-length-6 : tie.Need-same-length-6
-same-length-6 c = search needs
 
 returns-2 : tie.Need-returns-2
 returns-2 c =
@@ -147,21 +108,6 @@ returns-2 c =
 pub put-dimension-spec : {M : Type 1} → statement M
 put-dimension-spec =
     tie.close
-    (tie.spec
-    host-requires
-    cast-report-at
-    report-at-requires
-    enum-known-refusal
-    put-refusal-requires
-    enum-known-counts
-    add-generators
-    count-requires
-    put-report-requires
-    same-length
-    same-length-2
-    same-length-3
-    returns
-    same-length-4
-    same-length-5
-    same-length-6
-    returns-2)
+    (tie.spec (λ c κs. search needs) (λ c. search needs) (λ c κs. search needs) (λ c. search needs) (λ c κs. search needs) (λ c. search needs)
+    add-generators (λ c κs. search needs) put-report-requires (λ c. search needs) (λ c. search needs) (λ c. search needs) returns (λ c. search needs)
+    (λ c. search needs) (λ c. search needs) returns-2)

@@ -20,9 +20,6 @@ slots s = slotsAsked (s .args .request)
 
 -- ---- the sheet
 
-read-requires : tie.Need-read-requires
-read-requires c κs = search needs
-
 enum-known-refusal : tie.Need-enum-known-refusal
 enum-known-refusal c = c .match .keys1
 
@@ -50,9 +47,6 @@ returns-2 c =
     let a = start (c .before) .args in
     dimension-refused (a .sheet .limit) (now (a .s)) (a .dimension) (slots (start (c .before))) (a .output) (a .work) (accepted (c .before)) (c .if1 .taken)
 
-sizes-of-requires : tie.Need-sizes-of-requires
-sizes-of-requires c κs = search needs
-
 -- ---- the slices
 
 output-slots-requires : tie.Need-output-slots-requires
@@ -71,9 +65,6 @@ returns-3 c =
     let a = start t .args in
     output-short (a .sheet .limit) (now (a .s)) (a .dimension) (slots (start t)) (a .output) (a .work) (accepted t) (c .before .before .before .if1 .left)
     (rw (← output-is (c .before)) (c .if2 .taken))
-
-work-slots-requires : tie.Need-work-slots-requires
-work-slots-requires c κs = search needs
 
 module _ (c : tie.After-work-slots) where
   abbrev asked : tie.After-output-slots
@@ -106,15 +97,5 @@ returns-5 c =
 pub admit-spec : {M : Type 1} → statement M
 admit-spec =
     tie.close
-    (tie.spec
-    read-requires
-    enum-known-refusal
-    returns
-    enum-told
-    returns-2
-    sizes-of-requires
-    output-slots-requires
-    returns-3
-    work-slots-requires
-    returns-4
-    returns-5)
+    (tie.spec (λ c κs. search needs) enum-known-refusal returns enum-told returns-2 (λ c κs. search needs) output-slots-requires returns-3
+    (λ c κs. search needs) returns-4 returns-5)

@@ -7,12 +7,6 @@ use Rattle.calls.proofs.Sheet.{rows-none, rows-before}
 use Rattle.calls.proofs.admission.rows_of.Statement.{statement}
 use Rattle.calls.proofs.admission.rows_of.Tie as tie
 
-sub-count : tie.Need-sub-count
-sub-count c = search needs
-
-count-requires : tie.Need-count-requires
-count-requires c κs = search needs
-
 returns : tie.Need-returns
 returns c =
     let args = c .before .before .args in
@@ -27,4 +21,4 @@ returns-2 c =
     }
 
 pub rows-of-spec : {M : Type 1} → statement M
-rows-of-spec = tie.close (tie.spec sub-count count-requires returns returns-2)
+rows-of-spec = tie.close (tie.spec (λ c. search needs) (λ c κs. search needs) returns returns-2)

@@ -3,12 +3,6 @@ use borrow.Author.Needs.{needs}
 use Rattle.calls.proofs.coordinates.coordinates.Statement.{statement}
 use Rattle.calls.proofs.coordinates.coordinates.Tie as tie
 
-library-requires : tie.Need-library-requires
-library-requires c κs = search needs
-
-coordinates-at-requires : tie.Need-coordinates-at-requires
-coordinates-at-requires c κs = search needs
-
 same-length : tie.Need-same-length
 same-length c = c .before .before .coordinates-at .kept .1 .1 .1 .1 .0
 
@@ -19,4 +13,4 @@ returns : tie.Need-returns
 returns c = rw (c .before .before .before .before .before .library .ensures) at (c .before .before .coordinates-at .ensures)
 
 pub coordinates-spec : {M : Type 1} → statement M
-coordinates-spec = tie.close (tie.spec library-requires coordinates-at-requires same-length same-length-2 returns)
+coordinates-spec = tie.close (tie.spec (λ c κs. search needs) (λ c κs. search needs) same-length same-length-2 returns)

@@ -27,9 +27,6 @@ use Rattle.calls.proofs.coordinates.coordinates_at.Tie as tie
 
 -- ---- the checks 1 to 9
 
-admit-requires : tie.Need-admit-requires
-admit-requires c κs = search needs
-
 enum-known-refusal : tie.Need-enum-known-refusal
 enum-known-refusal c = c .match .keys1
 
@@ -70,9 +67,6 @@ returns-2 c =
     let a = entered sized .args in
     chain-refuses (a .sheet .limit) (now (a .s)) (a .dimension) (now (a .chain)) (now (a .coordinates)) (now (a .work)) (granted sized .passed)
     (length-differs (now (a .s)) (a .dimension) (now (a .chain)) (λ e. c .if1 .taken (e ∙ sym (cells-of (granted sized .sizes)))))
-
-coefficient-exceeds-requires : tie.Need-coefficient-exceeds-requires
-coefficient-exceeds-requires c κs = search needs
 
 module _ (c : tie.Else1) where
   abbrev admitted : tie.After-sizes
@@ -174,9 +168,6 @@ write-coordinates-requires c κs =
     let p = granted s .passed in
     can-coordinate (complex s) (p .work-slots) (twice told) (p .output-slots) (size (sized (second (third told)))) (small (second (third told)))
 
-clear-requires : tie.Need-clear-requires
-clear-requires c κs = search needs
-
 returns-6 : tie.Need-returns-6
 returns-6 c =
     let wrote = c .before .before .before .before in
@@ -196,23 +187,6 @@ same-length-3 c =
 pub coordinates-at-spec : {M : Type 1} → statement M
 coordinates-at-spec =
     tie.close
-    (tie.spec
-    admit-requires
-    enum-known-refusal
-    returns
-    enum-known-sizes
-    returns-2
-    coefficient-exceeds-requires
-    returns-3
-    boundary-not-zero-requires
-    returns-4
-    reduce-twice-requires
-    enum-known-reduced
-    enum-told
-    same-length
-    returns-5
-    write-coordinates-requires
-    clear-requires
-    same-length-2
-    same-length-3
-    returns-6)
+    (tie.spec (λ c κs. search needs) enum-known-refusal returns enum-known-sizes returns-2 (λ c κs. search needs) returns-3 boundary-not-zero-requires
+    returns-4 reduce-twice-requires enum-known-reduced enum-told same-length returns-5 write-coordinates-requires (λ c κs. search needs) same-length-2
+    same-length-3 returns-6)

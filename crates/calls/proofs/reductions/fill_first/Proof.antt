@@ -18,12 +18,6 @@ use Rattle.calls.proofs.Filling.{zeros-small, zeros-null, no-lines, mat
 use Rattle.calls.proofs.reductions.fill_first.Statement.{statement}
 use Rattle.calls.proofs.reductions.fill_first.Tie as tie
 
-clear-requires : tie.Need-clear-requires
-clear-requires c κs = search needs
-
-sub-fill-boundary : tie.Need-sub-fill-boundary
-sub-fill-boundary c = search needs
-
 fill-boundary-requires : tie.Need-fill-boundary-requires
 fill-boundary-requires c κs =
     let start = c .before .before .before .before .before .before in
@@ -93,11 +87,4 @@ same-length c = returns c .kept .same-length
 pub fill-first-spec : {M : Type 1} → statement M
 fill-first-spec =
     tie.close
-    (tie.spec
-    clear-requires
-    sub-fill-boundary
-    fill-boundary-requires
-    fill-identity-requires
-    fill-identity-requires-2
-    same-length
-    returns)
+    (tie.spec (λ c κs. search needs) (λ c. search needs) fill-boundary-requires fill-identity-requires fill-identity-requires-2 same-length returns)

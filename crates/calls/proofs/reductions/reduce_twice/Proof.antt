@@ -129,9 +129,6 @@ enum-told-2 c = c .match2 .keys1
 enum-told-3 : tie.Need-enum-told-3
 enum-told-3 c = c .match2 .keys2
 
-clear-requires : tie.Need-clear-requires
-clear-requires c κs = search needs
-
 returns-2 : tie.Need-returns-2
 returns-2 c =
     let called = c .before .before .before .before .before .before in
@@ -217,25 +214,6 @@ same-length-4 c = returns-4 c .kept .same-length
 pub reduce-twice-spec : {M : Type 1} → statement M
 reduce-twice-spec =
     tie.close
-    (tie.spec
-    first-requires
-    fill-first-requires
-    reduce-matrix-requires
-    enum-known-rank
-    enum-told
-    same-length
-    returns
-    second-requires
-    multiply-requires
-    enum-told-2
-    enum-told-3
-    clear-requires
-    same-length-2
-    returns-2
-    reduce-matrix-requires-2
-    enum-known-last
-    enum-told-4
-    same-length-3
-    returns-3
-    same-length-4
-    returns-4)
+    (tie.spec first-requires fill-first-requires reduce-matrix-requires enum-known-rank enum-told same-length returns second-requires
+    multiply-requires enum-told-2 enum-told-3 (λ c κs. search needs) same-length-2 returns-2 reduce-matrix-requires-2 enum-known-last enum-told-4
+    same-length-3 returns-3 same-length-4 returns-4)

@@ -3,12 +3,6 @@ use borrow.Author.Needs.{needs}
 use Rattle.calls.proofs.report.report.Statement.{statement}
 use Rattle.calls.proofs.report.report.Tie as tie
 
-library-requires : tie.Need-library-requires
-library-requires c κs = search needs
-
-report-at-requires : tie.Need-report-at-requires
-report-at-requires c κs = search needs
-
 same-length : tie.Need-same-length
 same-length c = c .before .before .report-at .kept .1 .1 .1 .0
 
@@ -19,4 +13,4 @@ returns : tie.Need-returns
 returns c = rw (c .before .before .before .before .before .library .ensures) at (c .before .before .report-at .ensures)
 
 pub report-spec : {M : Type 1} → statement M
-report-spec = tie.close (tie.spec library-requires report-at-requires same-length same-length-2 returns)
+report-spec = tie.close (tie.spec (λ c κs. search needs) (λ c κs. search needs) same-length same-length-2 returns)

@@ -22,9 +22,6 @@ use Rattle.calls.proofs.report.report_at.Tie as tie
 
 -- ---- the checks 1 to 9
 
-admit-requires : tie.Need-admit-requires
-admit-requires c κs = search needs
-
 enum-known-refusal : tie.Need-enum-known-refusal
 enum-known-refusal c = c .match .keys1
 
@@ -107,9 +104,6 @@ write-report-requires c κs =
     let p = granted (sized told) .passed in
     can-report (complex (sized told)) (p .work-slots) (twice told) (p .output-slots)
 
-clear-requires : tie.Need-clear-requires
-clear-requires c κs = search needs
-
 returns-3 : tie.Need-returns-3
 returns-3 c =
     let wrote = c .before .before .before .before in
@@ -128,18 +122,5 @@ same-length-3 c =
 pub report-at-spec : {M : Type 1} → statement M
 report-at-spec =
     tie.close
-    (tie.spec
-    admit-requires
-    enum-known-refusal
-    returns
-    enum-known-sizes
-    reduce-twice-requires
-    enum-known-reduced
-    enum-told
-    same-length
-    returns-2
-    write-report-requires
-    clear-requires
-    same-length-2
-    same-length-3
-    returns-3)
+    (tie.spec (λ c κs. search needs) enum-known-refusal returns enum-known-sizes reduce-twice-requires enum-known-reduced enum-told same-length
+    returns-2 write-report-requires (λ c κs. search needs) same-length-2 same-length-3 returns-3)

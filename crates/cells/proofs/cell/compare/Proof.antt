@@ -56,26 +56,11 @@ compared c =
 loop-holds : tie.Need-loop-holds Inv-loop μ-loop
 loop-holds c = record { within = search needs; same = λ k l. absurd (omega arith) }
 
-add-u : tie.Need-add-u Inv-loop μ-loop
-add-u c = search needs
-
 mul-field : tie.Need-mul-field Inv-loop μ-loop
 mul-field c = omega (arith, place-le (place (c .before)))
 
 add-field : tie.Need-add-field Inv-loop μ-loop
 add-field c = omega (arith, place-le (place (c .before)))
-
-field-requires : tie.Need-field-requires Inv-loop μ-loop
-field-requires c κs = search needs
-
-mul-field-2 : tie.Need-mul-field-2 Inv-loop μ-loop
-mul-field-2 c = search needs
-
-add-field-2 : tie.Need-add-field-2 Inv-loop μ-loop
-add-field-2 c = search needs
-
-field-requires-2 : tie.Need-field-requires-2 Inv-loop μ-loop
-field-requires-2 c κs = search needs
 
 returns : tie.Need-returns Inv-loop μ-loop
 returns c =
@@ -88,12 +73,6 @@ returns-2 c =
     let r = c .before .before in
     let s = start (turn r) in
     agree-after (sized-face s) (sized-other s) (turn r .loop .t) (r .before .field .result) (r .field2 .result) (turn r .loop .inv) (compared r) (c .if3 .taken)
-
-add-t : tie.Need-add-t Inv-loop μ-loop
-add-t c = search needs
-
-loop-less : tie.Need-loop-less Inv-loop μ-loop
-loop-less c = search needs
 
 loop-again : tie.Need-loop-again Inv-loop μ-loop
 loop-again c =
@@ -109,20 +88,5 @@ returns-3 c =
 pub compare-spec : {M : Type 1} → statement M
 compare-spec =
     tie.close
-    (tie.spec
-    Inv-loop
-    μ-loop
-    loop-holds
-    add-u
-    mul-field
-    add-field
-    field-requires
-    mul-field-2
-    add-field-2
-    field-requires-2
-    returns
-    returns-2
-    add-t
-    loop-less
-    loop-again
-    returns-3)
+    (tie.spec Inv-loop μ-loop loop-holds (λ c. search needs) mul-field add-field (λ c κs. search needs) (λ c. search needs) (λ c. search needs)
+    (λ c κs. search needs) returns returns-2 (λ c. search needs) (λ c. search needs) loop-again returns-3)

@@ -47,12 +47,6 @@ told c =
 loop-holds : tie.Need-loop-holds Inv-loop μ-loop
 loop-holds c = bracket-start (Face (c .before)) (Among (c .before)) (c .before .args .many)
 
-sub-mid : tie.Need-sub-mid Inv-loop μ-loop
-sub-mid c = search needs
-
-add-mid : tie.Need-add-mid Inv-loop μ-loop
-add-mid c = search needs
-
 mul-compare : tie.Need-mul-compare Inv-loop μ-loop
 mul-compare c = omega (arith, passed c)
 
@@ -65,34 +59,16 @@ add-compare c = omega (arith, passed c)
 compare-requires : tie.Need-compare-requires Inv-loop μ-loop
 compare-requires c κs = omega (arith, passed c)
 
-enum-told : tie.Need-enum-told Inv-loop μ-loop
-enum-told c = search needs
-
 returns : tie.Need-returns Inv-loop μ-loop
 returns c =
     let r = c .before .before in
     (omega (arith, sized (r .before .before .before .before)), sym (rw (c .enum-told .given .1) at (told r)))
-
-enum-told-2 : tie.Need-enum-told-2 Inv-loop μ-loop
-enum-told-2 c = search needs
-
-loop-less : tie.Need-loop-less Inv-loop μ-loop
-loop-less c = search needs
 
 loop-again : tie.Need-loop-again Inv-loop μ-loop
 loop-again c =
     let r = c .before .before in
     let s = r .before .before .before .before in
     bracket-down (sized s) (r .before .before .loop .inv) (s .pre .1) (mid (r .before)) (omega arith) (omega arith) (rw (c .enum-told2 .given .1) at (told r))
-
-enum-told-3 : tie.Need-enum-told-3 Inv-loop μ-loop
-enum-told-3 c = search needs
-
-add-lo : tie.Need-add-lo Inv-loop μ-loop
-add-lo c = search needs
-
-loop-less-2 : tie.Need-loop-less-2 Inv-loop μ-loop
-loop-less-2 c = search needs
 
 loop-again-2 : tie.Need-loop-again-2 Inv-loop μ-loop
 loop-again-2 c =
@@ -106,23 +82,6 @@ returns-2 c = bracket-end (sized (c .before .before .before)) (c .before .loop .
 pub find-spec : {M : Type 1} → statement M
 find-spec =
     tie.close
-    (tie.spec
-    Inv-loop
-    μ-loop
-    loop-holds
-    sub-mid
-    add-mid
-    mul-compare
-    mul-compare-2
-    add-compare
-    compare-requires
-    enum-told
-    returns
-    enum-told-2
-    loop-less
-    loop-again
-    enum-told-3
-    add-lo
-    loop-less-2
-    loop-again-2
-    returns-2)
+    (tie.spec Inv-loop μ-loop loop-holds (λ c. search needs) (λ c. search needs) mul-compare mul-compare-2 add-compare compare-requires
+    (λ c. search needs) returns (λ c. search needs) (λ c. search needs) loop-again (λ c. search needs) (λ c. search needs) (λ c. search needs)
+    loop-again-2 returns-2)

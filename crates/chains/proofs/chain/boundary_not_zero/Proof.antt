@@ -159,9 +159,6 @@ given c =
 loop-holds : tie.Need-loop-holds Inv-loop μ-loop Inv-loop2 μ-loop2
 loop-holds c = let args = c .before .before .args in begun (args .s .now) (args .p - 1) (args .chain .now) (given c .sheet .within (args .p - 1))
 
-mul-x : tie.Need-mul-x Inv-loop μ-loop Inv-loop2 μ-loop2
-mul-x c = omega arith
-
 shared-slice-copy-out-x : tie.Need-shared-slice-copy-out-x Inv-loop μ-loop Inv-loop2 μ-loop2
 shared-slice-copy-out-x c = c .loop-test .taken
 
@@ -198,9 +195,6 @@ add-faces-requires c κs =
         (subst (λ (z : ℤ). natAbs z ≤ coefficientLimit) (sym (x-is at)) (g .small (head at .loop .j)), sums-small g (head at .loop .inv)),
       ),
     )
-
-add-j : tie.Need-add-j Inv-loop μ-loop Inv-loop2 μ-loop2
-add-j c = omega arith
 
 loop-less : tie.Need-loop-less Inv-loop μ-loop Inv-loop2 μ-loop2
 loop-less c = omega (arith, c .before .before .loop-test .taken)
@@ -281,28 +275,6 @@ returns-3 c =
 pub boundary-not-zero-spec : {M : Type 1} → statement M
 boundary-not-zero-spec =
     tie.close
-    (tie.spec
-    Inv-loop
-    μ-loop
-    Inv-loop2
-    μ-loop2
-    returns
-    loop-holds
-    mul-x
-    shared-slice-copy-out-x
-    cast-x
-    sub-add-faces
-    add-faces-requires
-    add-j
-    loop-less
-    loop-again
-    sub-count
-    count-requires
-    loop2-holds
-    mul-if3
-    array-copy-out-if3
-    returns-2
-    add-row
-    loop2-less
-    loop2-again
+    (tie.spec Inv-loop μ-loop Inv-loop2 μ-loop2 returns loop-holds (λ c. omega arith) shared-slice-copy-out-x cast-x sub-add-faces add-faces-requires
+    (λ c. omega arith) loop-less loop-again sub-count count-requires loop2-holds mul-if3 array-copy-out-if3 returns-2 add-row loop2-less loop2-again
     returns-3)

@@ -43,9 +43,6 @@ abbrev μ-loop : tie.MeasureT-loop
 loop-holds : tie.Need-loop-holds Inv-loop μ-loop
 loop-holds c = (omega arith, λ k l. absurd (omega arith))
 
-mul-x : tie.Need-mul-x Inv-loop μ-loop
-mul-x c = omega arith
-
 shared-slice-copy-out-x : tie.Need-shared-slice-copy-out-x Inv-loop μ-loop
 shared-slice-copy-out-x c = c .loop-test .taken
 
@@ -75,12 +72,6 @@ returns-2 c =
     found (now (r .before .before .before .args .chain)) (r .before .before .loop .i) (r .before .loop-test .taken)
     (subst (λ (z : ℤ). coefficientLimit < natAbs z) (read-x r) (beyond-high coefficientLimit (read w32 (x r)) (c .if2 .taken)))
 
-add-i : tie.Need-add-i Inv-loop μ-loop
-add-i c = omega arith
-
-loop-less : tie.Need-loop-less Inv-loop μ-loop
-loop-less c = omega arith
-
 loop-again : tie.Need-loop-again Inv-loop μ-loop
 loop-again c =
     let r = c .before .before in
@@ -97,16 +88,5 @@ returns-3 c = none (now (c .before .before .args .chain)) (c .before .loop .i) (
 pub coefficient-exceeds-spec : {M : Type 1} → statement M
 coefficient-exceeds-spec =
     tie.close
-    (tie.spec
-    Inv-loop
-    μ-loop
-    loop-holds
-    mul-x
-    shared-slice-copy-out-x
-    sub-if1
-    returns
-    returns-2
-    add-i
-    loop-less
-    loop-again
-    returns-3)
+    (tie.spec Inv-loop μ-loop loop-holds (λ c. omega arith) shared-slice-copy-out-x sub-if1 returns returns-2 (λ c. omega arith) (λ c. omega arith)
+    loop-again returns-3)

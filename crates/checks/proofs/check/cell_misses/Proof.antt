@@ -38,23 +38,11 @@ loop-holds c = passed-none (suc (c .before .args .n)) (Test (c .before))
 find-requires : tie.Need-find-requires Inv-loop μ-loop
 find-requires c κs = (omega arith, c .before .before .before .pre .1)
 
-enum-told : tie.Need-enum-told Inv-loop μ-loop
-enum-told c = search needs
-
-enum-told-2 : tie.Need-enum-told-2 Inv-loop μ-loop
-enum-told-2 c = search needs
-
 returns : tie.Need-returns Inv-loop μ-loop
 returns c =
     let r = c .before .before in
     let s = r .before .before .before .before in
     some-found (suc (s .args .n)) (Test s) (r .before .before .loop .j) (omega arith) (rw (c .enum-told2 .given .1) at (told r))
-
-add-j : tie.Need-add-j Inv-loop μ-loop
-add-j c = search needs
-
-loop-less : tie.Need-loop-less Inv-loop μ-loop
-loop-less c = search needs
 
 loop-again : tie.Need-loop-again Inv-loop μ-loop
 loop-again c =
@@ -70,15 +58,5 @@ returns-2 c =
 pub cell-misses-spec : {M : Type 1} → statement M
 cell-misses-spec =
     tie.close
-    (tie.spec
-    Inv-loop
-    μ-loop
-    loop-holds
-    find-requires
-    enum-told
-    enum-told-2
-    returns
-    add-j
-    loop-less
-    loop-again
-    returns-2)
+    (tie.spec Inv-loop μ-loop loop-holds find-requires (λ c. search needs) (λ c. search needs) returns (λ c. search needs) (λ c. search needs)
+    loop-again returns-2)

@@ -43,29 +43,11 @@ told c = sym (c .section-cells-do-not-rise .ensures ∙ cells-section (record {
 loop-holds : tie.Need-loop-holds Inv-loop μ-loop
 loop-holds c = passed-none 4 (DoesNotRise (now (c .before .args .s)))
 
-start-requires : tie.Need-start-requires Inv-loop μ-loop
-start-requires c κs = search needs
-
-add-section-cells-do-not-rise : tie.Need-add-section-cells-do-not-rise Inv-loop μ-loop
-add-section-cells-do-not-rise c = search needs
-
-count-requires : tie.Need-count-requires Inv-loop μ-loop
-count-requires c κs = search needs
-
-section-cells-do-not-rise-requires : tie.Need-section-cells-do-not-rise-requires Inv-loop μ-loop
-section-cells-do-not-rise-requires c κs = omega arith
-
 returns : tie.Need-returns Inv-loop μ-loop
 unfolding cellsDoNotRise
 returns c =
     let loop = turn (c .before) in
     some-found 4 (Test loop) (loop .loop .p) (omega arith) (told (c .before) ∙ c .if1 .taken)
-
-add-p : tie.Need-add-p Inv-loop μ-loop
-add-p c = search needs
-
-loop-less : tie.Need-loop-less Inv-loop μ-loop
-loop-less c = search needs
 
 loop-again : tie.Need-loop-again Inv-loop μ-loop
 loop-again c =
@@ -79,16 +61,5 @@ returns-2 c = passed-all 4 (Test (c .before)) (c .before .loop .p) (c .before .l
 pub cells-do-not-rise-spec : {M : Type 1} → statement M
 cells-do-not-rise-spec =
     tie.close
-    (tie.spec
-    Inv-loop
-    μ-loop
-    loop-holds
-    start-requires
-    add-section-cells-do-not-rise
-    count-requires
-    section-cells-do-not-rise-requires
-    returns
-    add-p
-    loop-less
-    loop-again
-    returns-2)
+    (tie.spec Inv-loop μ-loop loop-holds (λ c κs. search needs) (λ c. search needs) (λ c κs. search needs) (λ c κs. omega arith) returns
+    (λ c. search needs) (λ c. search needs) loop-again returns-2)

@@ -55,27 +55,6 @@ told c = sym (c .section-misses .ensures ∙ faces-section (cells (c .before)) (
 loop-holds : tie.Need-loop-holds Inv-loop μ-loop
 loop-holds c = passed-none 3 (Misses (now (c .before .args .s)))
 
-add-start : tie.Need-add-start Inv-loop μ-loop
-add-start c = search needs
-
-start-requires : tie.Need-start-requires Inv-loop μ-loop
-start-requires c κs = search needs
-
-add-count : tie.Need-add-count Inv-loop μ-loop
-add-count c = search needs
-
-count-requires : tie.Need-count-requires Inv-loop μ-loop
-count-requires c κs = search needs
-
-start-requires-2 : tie.Need-start-requires-2 Inv-loop μ-loop
-start-requires-2 c κs = search needs
-
-add-section-misses : tie.Need-add-section-misses Inv-loop μ-loop
-add-section-misses c = search needs
-
-count-requires-2 : tie.Need-count-requires-2 Inv-loop μ-loop
-count-requires-2 c κs = search needs
-
 section-misses-requires : tie.Need-section-misses-requires Inv-loop μ-loop
 section-misses-requires c κs = (omega arith, rising-section (faces c) (turn c .before .before .pre))
 
@@ -84,12 +63,6 @@ unfolding faceMissing
 returns c =
     let loop = turn (c .before .before) in
     some-found 3 (Misses (Bytes loop)) (loop .loop .p) (omega arith) (told (c .before) ∙ c .if1 .taken)
-
-add-p : tie.Need-add-p Inv-loop μ-loop
-add-p c = search needs
-
-loop-less : tie.Need-loop-less Inv-loop μ-loop
-loop-less c = search needs
 
 loop-again : tie.Need-loop-again Inv-loop μ-loop
 loop-again c =
@@ -103,20 +76,5 @@ returns-2 c = passed-all 3 (Misses (Bytes (c .before))) (c .before .loop .p) (c 
 pub face-missing-spec : {M : Type 1} → statement M
 face-missing-spec =
     tie.close
-    (tie.spec
-    Inv-loop
-    μ-loop
-    loop-holds
-    add-start
-    start-requires
-    add-count
-    count-requires
-    start-requires-2
-    add-section-misses
-    count-requires-2
-    section-misses-requires
-    returns
-    add-p
-    loop-less
-    loop-again
-    returns-2)
+    (tie.spec Inv-loop μ-loop loop-holds (λ c. search needs) (λ c κs. search needs) (λ c. search needs) (λ c κs. search needs) (λ c κs. search needs)
+    (λ c. search needs) (λ c κs. search needs) section-misses-requires returns (λ c. search needs) (λ c. search needs) loop-again returns-2)

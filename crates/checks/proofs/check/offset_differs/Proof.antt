@@ -25,30 +25,12 @@ abbrev μ-loop : tie.MeasureT-loop
 loop-holds : tie.Need-loop-holds Inv-loop μ-loop
 loop-holds c = passed-none 4 (Differs (now (c .before .args .s)))
 
-mul-field : tie.Need-mul-field Inv-loop μ-loop
-mul-field c = search needs
-
-add-field : tie.Need-add-field Inv-loop μ-loop
-add-field c = search needs
-
-field-requires : tie.Need-field-requires Inv-loop μ-loop
-field-requires c κs = search needs
-
-start-requires : tie.Need-start-requires Inv-loop μ-loop
-start-requires c κs = search needs
-
 returns : tie.Need-returns Inv-loop μ-loop
 unfolding offsetField
 returns c =
     let loop = c .before .before .before .before in
     let s = now (loop .before .before .args .s) in
     some-found 4 (Differs s) (loop .loop .p) (omega arith) (ap not (ne-eqb (offsetField s (loop .loop .p)) (startAt s (loop .loop .p)) (λ e. c .if1 .taken (omega arith))))
-
-add-p : tie.Need-add-p Inv-loop μ-loop
-add-p c = search needs
-
-loop-less : tie.Need-loop-less Inv-loop μ-loop
-loop-less c = search needs
 
 loop-again : tie.Need-loop-again Inv-loop μ-loop
 unfolding offsetField
@@ -64,16 +46,5 @@ returns-2 c =
 pub offset-differs-spec : {M : Type 1} → statement M
 offset-differs-spec =
     tie.close
-    (tie.spec
-    Inv-loop
-    μ-loop
-    loop-holds
-    mul-field
-    add-field
-    field-requires
-    start-requires
-    returns
-    add-p
-    loop-less
-    loop-again
-    returns-2)
+    (tie.spec Inv-loop μ-loop loop-holds (λ c. search needs) (λ c. search needs) (λ c κs. search needs) (λ c κs. search needs) returns
+    (λ c. search needs) (λ c. search needs) loop-again returns-2)

@@ -41,9 +41,6 @@ mul-stands-before-2 c = omega (arith, passed c)
 add-stands-before : tie.Need-add-stands-before Inv-loop μ-loop
 add-stands-before c = omega (arith, passed c)
 
-add-stands-before-2 : tie.Need-add-stands-before-2 Inv-loop μ-loop
-add-stands-before-2 c = search needs
-
 mul-stands-before-3 : tie.Need-mul-stands-before-3 Inv-loop μ-loop
 mul-stands-before-3 c = omega (arith, passed c)
 
@@ -62,12 +59,6 @@ returns c =
     let a = loop .before .before .args in
     some-found (pred (a .many)) (DoesNotRise (now (a .s)) (a .at) (a .n)) (loop .loop .i) (omega (arith, sub-one (a .many))) (cc (add-one (loop .loop .i)))
 
-add-i : tie.Need-add-i Inv-loop μ-loop
-add-i c = search needs
-
-loop-less : tie.Need-loop-less Inv-loop μ-loop
-loop-less c = search needs
-
 loop-again : tie.Need-loop-again Inv-loop μ-loop
 loop-again c =
     let loop = c .before .before .before in
@@ -82,21 +73,5 @@ returns-2 c =
 pub section-cells-do-not-rise-spec : {M : Type 1} → statement M
 section-cells-do-not-rise-spec =
     tie.close
-    (tie.spec
-    Inv-loop
-    μ-loop
-    loop-holds
-    add-loop
-    mul-stands-before
-    mul-stands-before-2
-    add-stands-before
-    add-stands-before-2
-    mul-stands-before-3
-    mul-stands-before-4
-    add-stands-before-3
-    stands-before-requires
-    returns
-    add-i
-    loop-less
-    loop-again
-    returns-2)
+    (tie.spec Inv-loop μ-loop loop-holds add-loop mul-stands-before mul-stands-before-2 add-stands-before (λ c. search needs) mul-stands-before-3
+    mul-stands-before-4 add-stands-before-3 stands-before-requires returns (λ c. search needs) (λ c. search needs) loop-again returns-2)

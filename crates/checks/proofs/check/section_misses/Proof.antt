@@ -38,9 +38,6 @@ told c = sym (rw (add-one (c .before .before .before .before .args .n)) at (c .c
 loop-holds : tie.Need-loop-holds Inv-loop μ-loop
 loop-holds c = passed-none (c .before .args .cells) (Test (c .before))
 
-add-cell-misses : tie.Need-add-cell-misses Inv-loop μ-loop
-add-cell-misses c = search needs
-
 mul-cell-misses : tie.Need-mul-cell-misses Inv-loop μ-loop
 mul-cell-misses c = omega (arith, passed c)
 
@@ -59,12 +56,6 @@ returns c =
     let s = r .before .before .before .before in
     some-found (s .args .cells) (Test s) (r .before .before .loop .i) (omega arith) (told r ∙ c .if1 .taken)
 
-add-i : tie.Need-add-i Inv-loop μ-loop
-add-i c = search needs
-
-loop-less : tie.Need-loop-less Inv-loop μ-loop
-loop-less c = search needs
-
 loop-again : tie.Need-loop-again Inv-loop μ-loop
 loop-again c =
     let r = c .before in
@@ -79,17 +70,5 @@ returns-2 c =
 pub section-misses-spec : {M : Type 1} → statement M
 section-misses-spec =
     tie.close
-    (tie.spec
-    Inv-loop
-    μ-loop
-    loop-holds
-    add-cell-misses
-    mul-cell-misses
-    mul-cell-misses-2
-    add-cell-misses-2
-    cell-misses-requires
-    returns
-    add-i
-    loop-less
-    loop-again
-    returns-2)
+    (tie.spec Inv-loop μ-loop loop-holds (λ c. search needs) mul-cell-misses mul-cell-misses-2 add-cell-misses-2 cell-misses-requires returns
+    (λ c. search needs) (λ c. search needs) loop-again returns-2)

@@ -46,12 +46,6 @@ returns c =
     let a = loop .before .before .args in
     some-found (a .many) (DoesNotRise (now (a .s)) (a .at) (a .n)) (loop .loop .i) (omega arith) (cc)
 
-add-i : tie.Need-add-i Inv-loop μ-loop
-add-i c = search needs
-
-loop-less : tie.Need-loop-less Inv-loop μ-loop
-loop-less c = search needs
-
 loop-again : tie.Need-loop-again Inv-loop μ-loop
 loop-again c =
     let loop = c .before .before .before in
@@ -66,16 +60,5 @@ returns-2 c =
 pub section-vertices-do-not-rise-spec : {M : Type 1} → statement M
 section-vertices-do-not-rise-spec =
     tie.close
-    (tie.spec
-    Inv-loop
-    μ-loop
-    loop-holds
-    mul-rises
-    mul-rises-2
-    add-rises
-    rises-requires
-    returns
-    add-i
-    loop-less
-    loop-again
+    (tie.spec Inv-loop μ-loop loop-holds mul-rises mul-rises-2 add-rises rises-requires returns (λ c. search needs) (λ c. search needs) loop-again
     returns-2)

@@ -8,18 +8,6 @@ use borrow.Author.Needs.{needs}
 use Rattle.checks.proofs.check.stands_before.Statement.{statement}
 use Rattle.checks.proofs.check.stands_before.Tie as tie
 
-compare-requires : tie.Need-compare-requires
-compare-requires c κs = search needs
-
-enum-told : tie.Need-enum-told
-enum-told c = search needs
-
-enum-told-2 : tie.Need-enum-told-2
-enum-told-2 c = search needs
-
-enum-told-3 : tie.Need-enum-told-3
-enum-told-3 c = search needs
-
 -- the two cells
 abbrev First : tie.Start → Cell
 First c = cellOf (now (c .args .s)) (c .args .n) (c .args .a)
@@ -44,4 +32,5 @@ returns-3 : tie.Need-returns-3
 returns-3 c = rw (c .enum-told3 .given .1) at (told (c .before .before))
 
 pub stands-before-spec : {M : Type 1} → statement M
-stands-before-spec = tie.close (tie.spec compare-requires enum-told enum-told-2 enum-told-3 returns returns-2 returns-3)
+stands-before-spec = tie.close (tie.spec (λ c κs. search needs) (λ c. search needs) (λ c. search needs) (λ c. search needs) returns returns-2
+    returns-3)

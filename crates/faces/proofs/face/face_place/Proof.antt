@@ -13,15 +13,6 @@ use Rattle.faces.proofs.Sheet.{Looked, place, few, count-le, rising, fo
 use Rattle.faces.proofs.face.face_place.Statement.{statement}
 use Rattle.faces.proofs.face.face_place.Tie as tie
 
-add-start : tie.Need-add-start
-add-start c = search needs
-
-start-requires : tie.Need-start-requires
-start-requires c κs = search needs
-
-add-a : tie.Need-add-a
-add-a c = search needs
-
 bytes : (c : tie.After-shared-slice-known) → Bytes (now (c .before .args .s))
 bytes c = record { small = λ i. c .shared-slice-known .given i .fits }
 
@@ -40,15 +31,6 @@ mul-a-2 c = omega (arith, passed c)
 
 add-a-2 : tie.Need-add-a-2
 add-a-2 c = omega (arith, passed c, c .start .ensures .below)
-
-start-requires-2 : tie.Need-start-requires-2
-start-requires-2 c κs = search needs
-
-add-find : tie.Need-add-find
-add-find c = search needs
-
-count-requires : tie.Need-count-requires
-count-requires c κs = search needs
 
 -- the cell and the section where its face is looked for
 looked : (c : tie.After-count) →
@@ -85,12 +67,6 @@ faced c =
     let start = c .before .before .before .before .before in
     found (bytes (c .before .before .before .before)) (start .pre .0) (looked (c .before)) (start .args .t) (start .pre .1 .2) (c .find .result) (c .find .ensures)
 
-enum-known-i : tie.Need-enum-known-i
-enum-known-i c = search needs
-
-enum-told : tie.Need-enum-told
-enum-told c = search needs
-
 returns : tie.Need-returns
 returns c = rw (c .before .i .given .1) at (faced (c .before .before .before))
 
@@ -100,18 +76,5 @@ returns-2 c = rw (c .enum-told .given .1) at (faced (c .before .before))
 pub face-place-spec : {M : Type 1} → statement M
 face-place-spec =
     tie.close
-    (tie.spec
-    add-start
-    start-requires
-    add-a
-    mul-a
-    mul-a-2
-    add-a-2
-    start-requires-2
-    add-find
-    count-requires
-    find-requires
-    enum-known-i
-    enum-told
-    returns
-    returns-2)
+    (tie.spec (λ c. search needs) (λ c κs. search needs) (λ c. search needs) mul-a mul-a-2 add-a-2 (λ c κs. search needs) (λ c. search needs)
+    (λ c κs. search needs) find-requires (λ c. search needs) (λ c. search needs) returns returns-2)

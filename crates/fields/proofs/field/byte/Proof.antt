@@ -7,9 +7,6 @@ use denote.Ref.{now}
 use Rattle.fields.proofs.field.byte.Statement.{statement}
 use Rattle.fields.proofs.field.byte.Tie as tie
 
-shared-slice-read-result : tie.Need-shared-slice-read-result
-shared-slice-read-result c = search needs
-
 cast-result : tie.Need-cast-result
 cast-result c = omega (arith, c .shared-slice-known .given (c .before .before .args .i))
 
@@ -20,4 +17,4 @@ returns-2 : tie.Need-returns-2
 returns-2 c = record { is = sym (List·getD-eq-default (now (c .before .args .s)) 0 (c .if1 .left)); below = search needs }
 
 pub byte-spec : {M : Type 1} → statement M
-byte-spec = tie.close (tie.spec shared-slice-read-result cast-result returns returns-2)
+byte-spec = tie.close (tie.spec (λ c. search needs) cast-result returns returns-2)

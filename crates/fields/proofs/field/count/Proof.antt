@@ -6,12 +6,6 @@ use Rattle.sheet_format.specs.SheetLaws.{countField-in, countField-out}
 use Rattle.fields.proofs.field.count.Statement.{statement}
 use Rattle.fields.proofs.field.count.Tie as tie
 
-mul-field : tie.Need-mul-field
-mul-field c = search needs
-
-field-requires : tie.Need-field-requires
-field-requires c κs = search needs
-
 returns : tie.Need-returns
 returns c =
     let start = c .before .before .before in
@@ -21,4 +15,4 @@ returns-2 : tie.Need-returns-2
 returns-2 c = record { is = sym (countField-out (now (c .before .before .args .s)) (c .before .before .args .p) (c .if1 .left)); below = search needs }
 
 pub count-spec : {M : Type 1} → statement M
-count-spec = tie.close (tie.spec mul-field field-requires returns returns-2)
+count-spec = tie.close (tie.spec (λ c. search needs) (λ c κs. search needs) returns returns-2)

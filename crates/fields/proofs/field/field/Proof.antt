@@ -8,21 +8,6 @@ use denote.Ref.{now}
 use Rattle.fields.proofs.field.field.Statement.{statement}
 use Rattle.fields.proofs.field.field.Tie as tie
 
-byte-requires : tie.Need-byte-requires
-byte-requires c κs = search needs
-
-add-byte : tie.Need-add-byte
-add-byte c = search needs
-
-byte-requires-2 : tie.Need-byte-requires-2
-byte-requires-2 c κs = search needs
-
-mul-result : tie.Need-mul-result
-mul-result c = search needs
-
-add-result : tie.Need-add-result
-add-result c = search needs
-
 returns : tie.Need-returns
 returns c = record { is = cc (add-one (c .before .before .before .before .args .i)); below = omega arith }
 
@@ -32,4 +17,5 @@ returns-2 c =
     record { is = omega (arith, List·getD-eq-default s 0 (c .if1 .left), List·getD-eq-default s 0 (le-trans (c .if1 .left) (le-suc _))); below = search needs }
 
 pub field-spec : {M : Type 1} → statement M
-field-spec = tie.close (tie.spec byte-requires add-byte byte-requires-2 mul-result add-result returns returns-2)
+field-spec = tie.close (tie.spec (λ c κs. search needs) (λ c. search needs) (λ c κs. search needs) (λ c. search needs) (λ c. search needs) returns
+    returns-2)

@@ -64,32 +64,8 @@ loop-holds c = record {
   so-far = lineSet-none (c .args .w .now) (c .args .at) (negated (c .args .w .now) (c .args .at)) (c .pre .1);
 }
 
-add-w : tie.Need-add-w Inv-loop μ-loop
-add-w c = omega arith
-
-mul-w : tie.Need-mul-w Inv-loop μ-loop
-mul-w c = omega arith
-
-slice-copy-out-w : tie.Need-slice-copy-out-w Inv-loop μ-loop
-slice-copy-out-w c = omega arith
-
 sub-w : tie.Need-sub-w Inv-loop μ-loop
 sub-w c = fits (c .before .before .loop .inv) (c .before .loop-test .taken)
-
-add-t11 : tie.Need-add-t11 Inv-loop μ-loop
-add-t11 c = omega arith
-
-mul-t12 : tie.Need-mul-t12 Inv-loop μ-loop
-mul-t12 c = omega arith
-
-slice-set-from-w : tie.Need-slice-set-from-w Inv-loop μ-loop
-slice-set-from-w c = omega arith
-
-add-t : tie.Need-add-t Inv-loop μ-loop
-add-t c = omega arith
-
-loop-less : tie.Need-loop-less Inv-loop μ-loop
-loop-less c = omega arith
 
 loop-again : tie.Need-loop-again Inv-loop μ-loop
 loop-again c = again (c .before .before .loop .inv) (c .before .loop-test .taken)
@@ -103,19 +79,5 @@ returns c = ended (c .before .loop .inv) (c .loop-test .left)
 pub negate-spec : {M : Type 1} → statement M
 negate-spec =
     tie.close
-    (tie.spec
-    Inv-loop
-    μ-loop
-    loop-holds
-    add-w
-    mul-w
-    slice-copy-out-w
-    sub-w
-    add-t11
-    mul-t12
-    slice-set-from-w
-    add-t
-    loop-less
-    loop-again
-    same-length
-    returns)
+    (tie.spec Inv-loop μ-loop loop-holds (λ c. omega arith) (λ c. omega arith) (λ c. omega arith) sub-w (λ c. omega arith) (λ c. omega arith)
+    (λ c. omega arith) (λ c. omega arith) (λ c. omega arith) loop-again same-length returns)

@@ -119,26 +119,8 @@ loop-holds c =
           (difference (c .before .args .w .now) (c .before .args .target) (c .before .args .source) (read w64 q)) (c .before .pre .1 .1 .0);
     }
 
-add-x : tie.Need-add-x Inv-loop μ-loop
-add-x c = omega arith
-
-mul-x : tie.Need-mul-x Inv-loop μ-loop
-mul-x c = omega arith
-
-slice-copy-out-x : tie.Need-slice-copy-out-x Inv-loop μ-loop
-slice-copy-out-x c = omega arith
-
 cast-x : tie.Need-cast-x Inv-loop μ-loop
 cast-x c = cast-target (c .before .before .loop .inv) (c .before .loop-test .taken)
-
-add-y : tie.Need-add-y Inv-loop μ-loop
-add-y c = omega arith
-
-mul-y : tie.Need-mul-y Inv-loop μ-loop
-mul-y c = omega arith
-
-slice-copy-out-y : tie.Need-slice-copy-out-y Inv-loop μ-loop
-slice-copy-out-y c = omega arith
 
 cast-y : tie.Need-cast-y Inv-loop μ-loop
 cast-y c = cast-source (c .before .before .before .loop .inv) (c .before .before .loop-test .taken)
@@ -176,21 +158,6 @@ stays c = within (computed (c .before .before .before .before .before .loop .inv
 cast-w : tie.Need-cast-w Inv-loop μ-loop
 cast-w c = entry-fits (computed (c .before .before .before .before .before .loop .inv) (c .before .before .before .before .loop-test .taken)) (stays c)
 
-add-t12 : tie.Need-add-t12 Inv-loop μ-loop
-add-t12 c = omega arith
-
-mul-t13 : tie.Need-mul-t13 Inv-loop μ-loop
-mul-t13 c = omega arith
-
-slice-set-from-w : tie.Need-slice-set-from-w Inv-loop μ-loop
-slice-set-from-w c = omega arith
-
-add-t : tie.Need-add-t Inv-loop μ-loop
-add-t c = omega arith
-
-loop-less : tie.Need-loop-less Inv-loop μ-loop
-loop-less c = omega arith
-
 loop-again : tie.Need-loop-again Inv-loop μ-loop
 loop-again c = again (c .before .before .before .before .before .loop .inv) (c .before .before .before .before .loop-test .taken) (stays c)
 
@@ -206,32 +173,6 @@ returns-4 c =
 pub subtract-spec : {M : Type 1} → statement M
 subtract-spec =
     tie.close
-    (tie.spec
-    Inv-loop
-    μ-loop
-    returns
-    loop-holds
-    add-x
-    mul-x
-    slice-copy-out-x
-    cast-x
-    add-y
-    mul-y
-    slice-copy-out-y
-    cast-y
-    mul-v
-    sub-v
-    sub-if2
-    same-length
-    returns-2
-    same-length-2
-    returns-3
-    cast-w
-    add-t12
-    mul-t13
-    slice-set-from-w
-    add-t
-    loop-less
-    loop-again
-    same-length-3
-    returns-4)
+    (tie.spec Inv-loop μ-loop returns loop-holds (λ c. omega arith) (λ c. omega arith) (λ c. omega arith) cast-x (λ c. omega arith) (λ c. omega arith)
+    (λ c. omega arith) cast-y mul-v sub-v sub-if2 same-length returns-2 same-length-2 returns-3 cast-w (λ c. omega arith) (λ c. omega arith)
+    (λ c. omega arith) (λ c. omega arith) (λ c. omega arith) loop-again same-length-3 returns-4)

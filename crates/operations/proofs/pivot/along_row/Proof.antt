@@ -30,12 +30,6 @@ returns c =
     let b = c .before .before .before .better .ensures in
     (b .0, along-one (c .before .before .before .before .before .loop .inv) (c .before .before .before .before .loop-test .taken) (b .0) (b .1) (of-bits (size-fits (s .args .m) (s .args .w .now) (s .pre .1 .0) (b .0)) (c .if1 .taken)))
 
-add-j : tie.Need-add-j Inv-loop μ-loop
-add-j c = omega arith
-
-loop-less : tie.Need-loop-less Inv-loop μ-loop
-loop-less c = omega arith
-
 loop-again : tie.Need-loop-again Inv-loop μ-loop
 loop-again c =
     let b = c .before .before .before .better .ensures in
@@ -47,13 +41,4 @@ returns-2 c = (c .before .loop .inv .best, along-ends (c .before .loop .inv) (c 
 pub along-row-spec : {M : Type 1} → statement M
 along-row-spec =
     tie.close
-    (tie.spec
-    Inv-loop
-    μ-loop
-    loop-holds
-    better-requires
-    returns
-    add-j
-    loop-less
-    loop-again
-    returns-2)
+    (tie.spec Inv-loop μ-loop loop-holds better-requires returns (λ c. omega arith) (λ c. omega arith) loop-again returns-2)

@@ -20,9 +20,6 @@ Inv-loop m w k best₀ i₀ lines best i = Down (contents m w) k (m .width - k) 
 abbrev μ-loop : tie.MeasureT-loop
 μ-loop m w k best₀ i₀ lines best i = lines - i
 
-none-requires : tie.Need-none-requires Inv-loop μ-loop
-none-requires c κs = search needs
-
 loop-holds : tie.Need-loop-holds Inv-loop μ-loop
 loop-holds c =
     let a = c .before .args in
@@ -39,12 +36,6 @@ returns c =
     let s = c .before .before .before .before .before .before .before in
     let b = c .before .before .before .along-row .ensures in
     down-one (c .before .before .before .before .before .loop .inv) (c .before .before .before .before .loop-test .taken) (b .0) (b .1) (of-bits (size-fits (s .args .m) (s .args .w .now) (s .pre .1 .0) (b .0)) (c .if1 .taken))
-
-add-i : tie.Need-add-i Inv-loop μ-loop
-add-i c = omega arith
-
-loop-less : tie.Need-loop-less Inv-loop μ-loop
-loop-less c = omega arith
 
 loop-again : tie.Need-loop-again Inv-loop μ-loop
 loop-again c =
@@ -68,15 +59,5 @@ returns-3 c =
 pub find-pivot-spec : {M : Type 1} → statement M
 find-pivot-spec =
     tie.close
-    (tie.spec
-    Inv-loop
-    μ-loop
-    none-requires
-    loop-holds
-    along-row-requires
-    returns
-    add-i
-    loop-less
-    loop-again
-    returns-2
+    (tie.spec Inv-loop μ-loop (λ c κs. search needs) loop-holds along-row-requires returns (λ c. omega arith) (λ c. omega arith) loop-again returns-2
     returns-3)

@@ -15,14 +15,8 @@ Inv-loop m w k i₀ lines i = Looking (λ a. nonzero (contents m w a k)) (suc k)
 abbrev μ-loop : tie.MeasureT-loop
 μ-loop m w k i₀ lines i = lines - i
 
-add-i : tie.Need-add-i Inv-loop μ-loop
-add-i c = omega arith
-
 loop-holds : tie.Need-loop-holds Inv-loop μ-loop
 loop-holds c = looking-after (λ a. nonzero (contents (c .args .m) (c .args .w .now) a (c .args .k))) (c .pre .1 .0)
-
-entry-requires : tie.Need-entry-requires Inv-loop μ-loop
-entry-requires c κs = search needs
 
 returns : tie.Need-returns Inv-loop μ-loop
 returns c =
@@ -34,12 +28,6 @@ returns c =
     sym (columnKeeps-any A k (s .args .m .lines - suc k) (suc k)
     ∙ looking-found (c .before .before .before .loop .inv) (c .before .before .loop-test .taken)
     (nonzero-true (A i k) (e .result) (record { sfits = e .ok }) (e .ensures) (c .if1 .taken)))
-
-add-i-2 : tie.Need-add-i-2 Inv-loop μ-loop
-add-i-2 c = omega arith
-
-loop-less : tie.Need-loop-less Inv-loop μ-loop
-loop-less c = omega arith
 
 loop-again : tie.Need-loop-again Inv-loop μ-loop
 loop-again c =
@@ -61,14 +49,4 @@ returns-2 c =
 pub column-keeps-spec : {M : Type 1} → statement M
 column-keeps-spec =
     tie.close
-    (tie.spec
-    Inv-loop
-    μ-loop
-    add-i
-    loop-holds
-    entry-requires
-    returns
-    add-i-2
-    loop-less
-    loop-again
-    returns-2)
+    (tie.spec Inv-loop μ-loop (λ c. omega arith) loop-holds (λ c κs. search needs) returns (λ c. omega arith) (λ c. omega arith) loop-again returns-2)

@@ -20,9 +20,6 @@ Inv-loop m w k d i₀ lines i = Seeking (contents m w) (contents m w k k) (suc k
 abbrev μ-loop : tie.MeasureT-loop
 μ-loop m w k d i₀ lines i = lines - i
 
-entry-requires : tie.Need-entry-requires Inv-loop μ-loop
-entry-requires c κs = search needs
-
 returns : tie.Need-returns Inv-loop μ-loop
 returns c =
     let s = c .before .before in
@@ -33,18 +30,12 @@ returns c =
     sym (ap (λ (z : ℤ). firstIndivisible A z (suc k) (s .args .m .width - suc k) (s .args .m .lines - suc k) (suc k)) one
     ∙ firstIndivisible-one A (suc k) (s .args .m .width - suc k) (s .args .m .lines - suc k) (suc k))
 
-add-i : tie.Need-add-i Inv-loop μ-loop
-add-i c = omega arith
-
 loop-holds : tie.Need-loop-holds Inv-loop μ-loop
 loop-holds c =
     let s = c .before .before in
     let A = contents (s .args .m) (s .args .w .now) in
     let k = s .args .k in
     seeking-after A (A k k) (suc k) (s .args .m .width - suc k) (s .pre .1 .0)
-
-add-row-indivisible : tie.Need-add-row-indivisible Inv-loop μ-loop
-add-row-indivisible c = omega arith
 
 row-indivisible-requires : tie.Need-row-indivisible-requires Inv-loop μ-loop
 row-indivisible-requires c κs =
@@ -63,12 +54,6 @@ returns-2 c =
     sym (seeking-found (c .before .before .before .loop .inv) (c .before .before .loop-test .taken)
     (row-answer A i k (s .args .m .width) (A k k) (e .result) (x .result) (record { sfits = e .ok }) (e .ensures) (x .ensures) ∙ c .if2 .taken))
 
-add-i-2 : tie.Need-add-i-2 Inv-loop μ-loop
-add-i-2 c = omega arith
-
-loop-less : tie.Need-loop-less Inv-loop μ-loop
-loop-less c = omega arith
-
 loop-again : tie.Need-loop-again Inv-loop μ-loop
 loop-again c =
     let s = c .before .before .before .before .before .before in
@@ -86,17 +71,5 @@ returns-3 c = sym (seeking-ends (c .before .loop .inv) (c .loop-test .left))
 pub first-indivisible-spec : {M : Type 1} → statement M
 first-indivisible-spec =
     tie.close
-    (tie.spec
-    Inv-loop
-    μ-loop
-    entry-requires
-    returns
-    add-i
-    loop-holds
-    add-row-indivisible
-    row-indivisible-requires
-    returns-2
-    add-i-2
-    loop-less
-    loop-again
-    returns-3)
+    (tie.spec Inv-loop μ-loop (λ c κs. search needs) returns (λ c. omega arith) loop-holds (λ c. omega arith) row-indivisible-requires returns-2
+    (λ c. omega arith) (λ c. omega arith) loop-again returns-3)

@@ -22,9 +22,6 @@ abbrev μ-loop : tie.MeasureT-loop
 loop-holds : tie.Need-loop-holds Inv-loop μ-loop
 loop-holds c = record { below = c .pre .1 .1; rest = refl }
 
-entry-requires : tie.Need-entry-requires Inv-loop μ-loop
-entry-requires c κs = search needs
-
 rem-if1 : tie.Need-rem-if1 Inv-loop μ-loop
 rem-if1 c =
     let s = c .before .before .before in
@@ -40,12 +37,6 @@ returns c =
     sym (rowIndivisible-any A d (s .args .i) (s .args .m .width - s .args .from) (s .args .from)
     ∙ looking-found found (c .before .before .loop-test .taken)
     (indivisible-true (A (s .args .i) (c .before .before .before .loop .j)) (e .result) (record { sfits = e .ok }) (e .ensures) d (s .fits .d) (s .pre .1 .2) (c .if1 .taken)))
-
-add-j : tie.Need-add-j Inv-loop μ-loop
-add-j c = omega arith
-
-loop-less : tie.Need-loop-less Inv-loop μ-loop
-loop-less c = omega arith
 
 loop-again : tie.Need-loop-again Inv-loop μ-loop
 loop-again c =
@@ -69,14 +60,4 @@ returns-2 c =
 pub row-indivisible-spec : {M : Type 1} → statement M
 row-indivisible-spec =
     tie.close
-    (tie.spec
-    Inv-loop
-    μ-loop
-    loop-holds
-    entry-requires
-    rem-if1
-    returns
-    add-j
-    loop-less
-    loop-again
-    returns-2)
+    (tie.spec Inv-loop μ-loop loop-holds (λ c κs. search needs) rem-if1 returns (λ c. omega arith) (λ c. omega arith) loop-again returns-2)

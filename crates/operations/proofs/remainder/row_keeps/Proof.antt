@@ -15,14 +15,8 @@ Inv-loop m w k j₀ width j = Looking (λ b. nonzero (contents m w k b)) (suc k)
 abbrev μ-loop : tie.MeasureT-loop
 μ-loop m w k j₀ width j = width - j
 
-add-j : tie.Need-add-j Inv-loop μ-loop
-add-j c = omega arith
-
 loop-holds : tie.Need-loop-holds Inv-loop μ-loop
 loop-holds c = looking-after (λ b. nonzero (contents (c .args .m) (c .args .w .now) (c .args .k) b)) (c .pre .1 .1)
-
-entry-requires : tie.Need-entry-requires Inv-loop μ-loop
-entry-requires c κs = search needs
 
 returns : tie.Need-returns Inv-loop μ-loop
 returns c =
@@ -34,12 +28,6 @@ returns c =
     sym (rowKeeps-any A k (s .args .m .width - suc k) (suc k)
     ∙ looking-found (c .before .before .before .loop .inv) (c .before .before .loop-test .taken)
     (nonzero-true (A k j) (e .result) (record { sfits = e .ok }) (e .ensures) (c .if1 .taken)))
-
-add-j-2 : tie.Need-add-j-2 Inv-loop μ-loop
-add-j-2 c = omega arith
-
-loop-less : tie.Need-loop-less Inv-loop μ-loop
-loop-less c = omega arith
 
 loop-again : tie.Need-loop-again Inv-loop μ-loop
 loop-again c =
@@ -61,14 +49,4 @@ returns-2 c =
 pub row-keeps-spec : {M : Type 1} → statement M
 row-keeps-spec =
     tie.close
-    (tie.spec
-    Inv-loop
-    μ-loop
-    add-j
-    loop-holds
-    entry-requires
-    returns
-    add-j-2
-    loop-less
-    loop-again
-    returns-2)
+    (tie.spec Inv-loop μ-loop (λ c. omega arith) loop-holds (λ c κs. search needs) returns (λ c. omega arith) (λ c. omega arith) loop-again returns-2)

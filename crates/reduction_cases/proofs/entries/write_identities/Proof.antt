@@ -4,9 +4,6 @@ use borrow.Author.Needs.{needs}
 use Rattle.reduction_cases.proofs.entries.write_identities.Statement.{statement}
 use Rattle.reduction_cases.proofs.entries.write_identities.Tie as tie
 
-write-identity-requires : tie.Need-write-identity-requires
-write-identity-requires c κs = search needs
-
 write-identity-requires-2 : tie.Need-write-identity-requires-2
 write-identity-requires-2 c κs =
     let first = c .before .before in
@@ -35,19 +32,8 @@ write-identity-requires-4 c κs =
       ),
     )
 
-same-length : tie.Need-same-length
-same-length c = search needs
-
-returns : tie.Need-returns
-returns c = search needs
-
 pub write-identities-spec : {M : Type 1} → statement M
 write-identities-spec =
     tie.close
-    (tie.spec
-    write-identity-requires
-    write-identity-requires-2
-    write-identity-requires-3
-    write-identity-requires-4
-    same-length
-    returns)
+    (tie.spec (λ c κs. search needs) write-identity-requires-2 write-identity-requires-3 write-identity-requires-4 (λ c. search needs)
+    (λ c. search needs))

@@ -48,18 +48,6 @@ module _ (rows columns : ℕ) (W : Layout) (rows-most : rows ≤ side) (columns-
         column-inverse = ci-slotted;
       }
 
-companion-requires : tie.Need-companion-requires
-companion-requires c κs = search needs
-
-companion-requires-2 : tie.Need-companion-requires-2
-companion-requires-2 c κs = search needs
-
-companion-requires-3 : tie.Need-companion-requires-3
-companion-requires-3 c κs = search needs
-
-companion-requires-4 : tie.Need-companion-requires-4
-companion-requires-4 c κs = search needs
-
 returns : tie.Need-returns
 returns c =
     let s = c .before .before .before .before in
@@ -70,9 +58,4 @@ returns c =
 pub lay-out-spec : {M : Type 1} → statement M
 lay-out-spec =
     tie.close
-    (tie.spec
-    companion-requires
-    companion-requires-2
-    companion-requires-3
-    companion-requires-4
-    returns)
+    (tie.spec (λ c κs. search needs) (λ c κs. search needs) (λ c κs. search needs) (λ c κs. search needs) returns)

@@ -16,9 +16,6 @@ abbrev μ-loop : tie.MeasureT-loop
 near : (c : tie.In-loop Inv-loop μ-loop) → c .before .loop .i * c .before .before .args .step ≤ 7 * c .before .before .args .step
 near c = NatL.mul-le-mul-right (c .before .before .args .step) (omega arith)
 
-loop-holds : tie.Need-loop-holds Inv-loop μ-loop
-loop-holds c = omega arith
-
 mul-print-number : tie.Need-mul-print-number Inv-loop μ-loop
 mul-print-number c = omega (arith, near c)
 
@@ -31,34 +28,8 @@ mul-print-number-2 c = omega (arith, near c)
 shared-slice-copy-out-print-number : tie.Need-shared-slice-copy-out-print-number Inv-loop μ-loop
 shared-slice-copy-out-print-number c = omega (arith, near c)
 
-print-number-requires : tie.Need-print-number-requires Inv-loop μ-loop
-print-number-requires c κs = search needs
-
-add-i : tie.Need-add-i Inv-loop μ-loop
-add-i c = omega arith
-
-loop-less : tie.Need-loop-less Inv-loop μ-loop
-loop-less c = omega arith
-
-loop-again : tie.Need-loop-again Inv-loop μ-loop
-loop-again c = omega arith
-
-returns : tie.Need-returns Inv-loop μ-loop
-returns c = search needs
-
 pub print-line-spec : {M : Type 1} → statement M
 print-line-spec =
     tie.close
-    (tie.spec
-    Inv-loop
-    μ-loop
-    loop-holds
-    mul-print-number
-    add-print-number
-    mul-print-number-2
-    shared-slice-copy-out-print-number
-    print-number-requires
-    add-i
-    loop-less
-    loop-again
-    returns)
+    (tie.spec Inv-loop μ-loop (λ c. omega arith) mul-print-number add-print-number mul-print-number-2 shared-slice-copy-out-print-number
+    (λ c κs. search needs) (λ c. omega arith) (λ c. omega arith) (λ c. omega arith) (λ c. search needs))

@@ -16,9 +16,6 @@ abbrev μ-loop : tie.MeasureT-loop
 near : (c : tie.Then1 Inv-loop μ-loop) → c .before .before .loop .i * c .before .before .before .args .outer ≤ 7 * c .before .before .before .args .outer
 near c = NatL.mul-le-mul-right (c .before .before .before .args .outer) (omega arith)
 
-loop-holds : tie.Need-loop-holds Inv-loop μ-loop
-loop-holds c = omega arith
-
 mul-print-line : tie.Need-mul-print-line Inv-loop μ-loop
 mul-print-line c = omega (arith, near c)
 
@@ -28,29 +25,8 @@ add-print-line c = omega (arith, near (c .before))
 print-line-requires : tie.Need-print-line-requires Inv-loop μ-loop
 print-line-requires c κs = omega (arith, near (c .before))
 
-add-i : tie.Need-add-i Inv-loop μ-loop
-add-i c = omega arith
-
-loop-less : tie.Need-loop-less Inv-loop μ-loop
-loop-less c = omega arith
-
-loop-again : tie.Need-loop-again Inv-loop μ-loop
-loop-again c = omega arith
-
-returns : tie.Need-returns Inv-loop μ-loop
-returns c = search needs
-
 pub print-lines-spec : {M : Type 1} → statement M
 print-lines-spec =
     tie.close
-    (tie.spec
-    Inv-loop
-    μ-loop
-    loop-holds
-    mul-print-line
-    add-print-line
-    print-line-requires
-    add-i
-    loop-less
-    loop-again
-    returns)
+    (tie.spec Inv-loop μ-loop (λ c. omega arith) mul-print-line add-print-line print-line-requires (λ c. omega arith) (λ c. omega arith)
+    (λ c. omega arith) (λ c. search needs))

@@ -55,20 +55,8 @@ module _ (x : ℤ) (f : SFits w32 x) where
   positive-cast : ltZ wide (pos 0) ≡ false → T (nonNeg wide) × Fits w64 (natAbs wide)
   positive-cast e = (not-negative wide e, rw (cast-is x f) size-fits)
 
-slice-aggregate-write-all : tie.Need-slice-aggregate-write-all
-slice-aggregate-write-all c = search needs
-
-write-all-requires : tie.Need-write-all-requires
-write-all-requires c κs = search needs
-
 cast-wide : tie.Need-cast-wide
 cast-wide c = let s = c .before .before in cast-fits (s .args .x) (s .fits .x)
-
-slice-aggregate-write-all-2 : tie.Need-slice-aggregate-write-all-2
-slice-aggregate-write-all-2 c = search needs
-
-write-all-requires-2 : tie.Need-write-all-requires-2
-write-all-requires-2 c κs = search needs
 
 sub-print-decimal : tie.Need-sub-print-decimal
 sub-print-decimal c = let s = c .before .before .before .before .before in opposite-fits (s .args .x) (s .fits .x) (c .before .before .if1 .taken)
@@ -76,34 +64,11 @@ sub-print-decimal c = let s = c .before .before .before .before .before in oppos
 cast-print-decimal : tie.Need-cast-print-decimal
 cast-print-decimal c = let s = c .before .before .before .before .before in opposite-cast (s .args .x) (s .fits .x) (c .before .before .if1 .taken)
 
-print-decimal-requires : tie.Need-print-decimal-requires
-print-decimal-requires c κs = search needs
-
 cast-print-decimal-2 : tie.Need-cast-print-decimal-2
 cast-print-decimal-2 c = let s = c .before .before .before in positive-cast (s .args .x) (s .fits .x) (c .if1 .left)
-
-print-decimal-requires-2 : tie.Need-print-decimal-requires-2
-print-decimal-requires-2 c κs = search needs
-
-returns : tie.Need-returns
-returns c = search needs
-
-returns-2 : tie.Need-returns-2
-returns-2 c = search needs
 
 pub print-number-spec : {M : Type 1} → statement M
 print-number-spec =
     tie.close
-    (tie.spec
-    slice-aggregate-write-all
-    write-all-requires
-    cast-wide
-    slice-aggregate-write-all-2
-    write-all-requires-2
-    sub-print-decimal
-    cast-print-decimal
-    print-decimal-requires
-    cast-print-decimal-2
-    print-decimal-requires-2
-    returns
-    returns-2)
+    (tie.spec (λ c. search needs) (λ c κs. search needs) cast-wide (λ c. search needs) (λ c κs. search needs) sub-print-decimal cast-print-decimal
+    (λ c κs. search needs) cast-print-decimal-2 (λ c κs. search needs) (λ c. search needs) (λ c. search needs))

@@ -5,17 +5,8 @@ use Rattle.text.specs.PutLaws.{puts-byte}
 use Rattle.text.proofs.decimal.put.Statement.{statement}
 use Rattle.text.proofs.decimal.put.Tie as tie
 
-slice-write-out : tie.Need-slice-write-out
-slice-write-out c = search needs
-
-add-result : tie.Need-add-result
-add-result c = search needs
-
-same-length : tie.Need-same-length
-same-length c = search needs
-
 returns : tie.Need-returns
 returns c = puts-byte (c .args .b) (c .args .at) (c .args .out .now) (omega arith)
 
 pub put-spec : {M : Type 1} → statement M
-put-spec = tie.close (tie.spec slice-write-out add-result same-length returns)
+put-spec = tie.close (tie.spec (λ c. search needs) (λ c. search needs) (λ c. search needs) returns)

@@ -18,9 +18,6 @@ below c = let s = c .before .before .before .before .before .before in negative 
 rest : (c : tie.Else1) → Positive (c .before .before .args .x)
 rest c = let s = c .before .before in positive (s .args .x) (s .fits .x) (c .if1 .left)
 
-put-requires : tie.Need-put-requires
-put-requires c κs = search needs
-
 add-size : tie.Need-add-size
 add-size c = below c .above-fits
 
@@ -46,9 +43,6 @@ put-digits-requires c κs =
       ap length (below (c .before) .text),
     )
 
-same-length : tie.Need-same-length
-same-length c = search needs
-
 returns : tie.Need-returns
 returns c =
     let k = c .before .before .before .before in
@@ -66,9 +60,6 @@ put-digits-requires-2 c κs =
     let s = c .before .before .before in
     omega (arith, s .pre, length-decimal (s .args .x) (s .fits .x .sfits), ap length (rest (c .before) .text))
 
-same-length-2 : tie.Need-same-length-2
-same-length-2 c = search needs
-
 returns-2 : tie.Need-returns-2
 returns-2 c =
     let k = c .before .before .before .before in
@@ -78,16 +69,5 @@ returns-2 c =
 pub put-decimal-spec : {M : Type 1} → statement M
 put-decimal-spec =
     tie.close
-    (tie.spec
-    put-requires
-    add-size
-    sub-size
-    cast-size
-    add-size-2
-    put-digits-requires
-    same-length
-    returns
-    cast-put-digits
-    put-digits-requires-2
-    same-length-2
-    returns-2)
+    (tie.spec (λ c κs. search needs) add-size sub-size cast-size add-size-2 put-digits-requires (λ c. search needs) returns cast-put-digits
+    put-digits-requires-2 (λ c. search needs) returns-2)

@@ -12,30 +12,6 @@ use Rattle.text.proofs.Heading.{heading-put}
 use Rattle.text.proofs.line.put_heading.Statement.{statement}
 use Rattle.text.proofs.line.put_heading.Tie as tie
 
-put-requires : tie.Need-put-requires
-put-requires c κs = search needs
-
-put-requires-2 : tie.Need-put-requires-2
-put-requires-2 c κs = search needs
-
-cast-put-decimal : tie.Need-cast-put-decimal
-cast-put-decimal c = search needs
-
-put-decimal-requires : tie.Need-put-decimal-requires
-put-decimal-requires c κs = search needs
-
-add-put-fields : tie.Need-add-put-fields
-add-put-fields c = search needs
-
-put-fields-requires : tie.Need-put-fields-requires
-put-fields-requires c κs = search needs
-
-put-requires-3 : tie.Need-put-requires-3
-put-requires-3 c κs = search needs
-
-same-length : tie.Need-same-length
-same-length c = search needs
-
 returns : tie.Need-returns
 returns c =
     let fields = c .before .before .before .before .before .before in
@@ -62,13 +38,5 @@ returns c =
 pub put-heading-spec : {M : Type 1} → statement M
 put-heading-spec =
     tie.close
-    (tie.spec
-    put-requires
-    put-requires-2
-    cast-put-decimal
-    put-decimal-requires
-    add-put-fields
-    put-fields-requires
-    put-requires-3
-    same-length
-    returns)
+    (tie.spec (λ c κs. search needs) (λ c κs. search needs) (λ c. search needs) (λ c κs. search needs) (λ c. search needs) (λ c κs. search needs)
+    (λ c κs. search needs) (λ c. search needs) returns)

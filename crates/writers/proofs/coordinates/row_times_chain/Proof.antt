@@ -108,9 +108,6 @@ Inv-loop w i chain line total₀ j₀ total j = Invariant w chain line j (toZ w6
 abbrev μ-loop : tie.MeasureT-loop
 μ-loop w i chain line total₀ j₀ total j = length chain - j
 
-line-requires : tie.Need-line-requires Inv-loop μ-loop
-line-requires c κs = search needs
-
 loop-holds : tie.Need-loop-holds Inv-loop μ-loop
 unfolding sum
 loop-holds c =
@@ -126,26 +123,11 @@ loop-holds c =
       bound = omega arith;
     }
 
-add-total : tie.Need-add-total Inv-loop μ-loop
-add-total c = omega arith
-
-mul-total : tie.Need-mul-total Inv-loop μ-loop
-mul-total c = omega arith
-
-shared-slice-copy-out-total : tie.Need-shared-slice-copy-out-total Inv-loop μ-loop
-shared-slice-copy-out-total c = omega arith
-
 cast-total : tie.Need-cast-total Inv-loop μ-loop
 cast-total c =
     let loop = c .before .before .loop in
     cast-fits (at (c .before .before .before .before .args .w .now) (c .before .before .before .line .result + loop .j))
     (entry-word (loop .inv) (c .before .loop-test .taken))
-
-mul-total-2 : tie.Need-mul-total-2 Inv-loop μ-loop
-mul-total-2 c = omega arith
-
-shared-slice-copy-out-total-2 : tie.Need-shared-slice-copy-out-total-2 Inv-loop μ-loop
-shared-slice-copy-out-total-2 c = omega arith
 
 cast-total-2 : tie.Need-cast-total-2 Inv-loop μ-loop
 cast-total-2 c =
@@ -158,12 +140,6 @@ mul-total-3 c = product-word (c .before .before .before .loop .inv) (c .before .
 
 add-total-2 : tie.Need-add-total-2 Inv-loop μ-loop
 add-total-2 c = raised-word (c .before .before .before .loop .inv) (c .before .before .loop-test .taken)
-
-add-j : tie.Need-add-j Inv-loop μ-loop
-add-j c = omega arith
-
-loop-less : tie.Need-loop-less Inv-loop μ-loop
-loop-less c = omega arith
 
 loop-again : tie.Need-loop-again Inv-loop μ-loop
 loop-again c = again (c .before .before .before .loop .inv) (c .before .before .loop-test .taken)
@@ -182,21 +158,5 @@ returns c =
 pub row-times-chain-spec : {M : Type 1} → statement M
 row-times-chain-spec =
     tie.close
-    (tie.spec
-    Inv-loop
-    μ-loop
-    line-requires
-    loop-holds
-    add-total
-    mul-total
-    shared-slice-copy-out-total
-    cast-total
-    mul-total-2
-    shared-slice-copy-out-total-2
-    cast-total-2
-    mul-total-3
-    add-total-2
-    add-j
-    loop-less
-    loop-again
-    returns)
+    (tie.spec Inv-loop μ-loop (λ c κs. search needs) loop-holds (λ c. omega arith) (λ c. omega arith) (λ c. omega arith) cast-total (λ c. omega arith)
+    (λ c. omega arith) cast-total-2 mul-total-3 add-total-2 (λ c. omega arith) (λ c. omega arith) loop-again returns)

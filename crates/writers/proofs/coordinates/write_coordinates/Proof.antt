@@ -87,12 +87,6 @@ slice-set-from-coordinates c =
 add-next : tie.Need-add-next Inv-loop μ-loop
 add-next c = omega (arith, slot (c .before .before .before .before), c .before .before .before .before .before .before .before .before .good)
 
-add-i : tie.Need-add-i Inv-loop μ-loop
-add-i c = omega arith
-
-loop-less : tie.Need-loop-less Inv-loop μ-loop
-loop-less c = omega arith
-
 loop-again : tie.Need-loop-again Inv-loop μ-loop
 loop-again c =
     let start = c .before .before .before .before .before .before in let loop = c .before .before .before .loop in let kind = c .before .kind in
@@ -136,20 +130,5 @@ returns c =
 pub write-coordinates-spec : {M : Type 1} → statement M
 write-coordinates-spec =
     tie.close
-    (tie.spec
-    Inv-loop
-    μ-loop
-    loop-holds
-    kind-requires
-    row-times-chain-requires
-    residue-requires
-    mul-t15
-    slice-set-from-coordinates
-    add-next
-    add-i
-    loop-less
-    loop-again
-    sub-t17
-    reported-count-requires
-    same-length
-    returns)
+    (tie.spec Inv-loop μ-loop loop-holds kind-requires row-times-chain-requires residue-requires mul-t15 slice-set-from-coordinates add-next
+    (λ c. omega arith) (λ c. omega arith) loop-again sub-t17 reported-count-requires same-length returns)

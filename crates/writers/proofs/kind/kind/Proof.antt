@@ -6,9 +6,6 @@ use Rattle.writers.proofs.Entries.{entry-lines, entry-lines-past}
 use Rattle.writers.proofs.kind.kind.Statement.{statement}
 use Rattle.writers.proofs.kind.kind.Tie as tie
 
-entry-requires : tie.Need-entry-requires
-entry-requires c κs = search needs
-
 returns : tie.Need-returns
 returns c =
     let args = c .before .before .before .args in
@@ -21,4 +18,4 @@ returns-2 c =
     sym (entry-lines-past (args .m) (args .w .now) (args .i) (args .i) (c .if1 .left))
 
 pub kind-spec : {M : Type 1} → statement M
-kind-spec = tie.close (tie.spec entry-requires returns returns-2)
+kind-spec = tie.close (tie.spec (λ c κs. search needs) returns returns-2)

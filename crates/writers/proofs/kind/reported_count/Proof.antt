@@ -34,19 +34,10 @@ loop-holds : tie.Need-loop-holds Inv-loop μ-loop
 unfolding reported
 loop-holds c = record { below = omega arith; so-far = refl }
 
-kind-requires : tie.Need-kind-requires Inv-loop μ-loop
-kind-requires c κs = search needs
-
 add-number : tie.Need-add-number Inv-loop μ-loop
 add-number c =
     let start = c .before .before .before .before in let loop = c .before .before .before .loop in
     omega (arith, start .fits .n, loop .inv .so-far, length-reported-le (kindIn (start .args .m) (start .args .w .now)) (loop .i))
-
-add-i : tie.Need-add-i Inv-loop μ-loop
-add-i c = omega arith
-
-loop-less : tie.Need-loop-less Inv-loop μ-loop
-loop-less c = omega arith
 
 loop-again : tie.Need-loop-again Inv-loop μ-loop
 loop-again c =
@@ -81,4 +72,4 @@ returns c =
 pub reported-count-spec : {M : Type 1} → statement M
 reported-count-spec =
     tie.close
-    (tie.spec Inv-loop μ-loop loop-holds kind-requires add-number add-i loop-less loop-again returns)
+    (tie.spec Inv-loop μ-loop loop-holds (λ c κs. search needs) add-number (λ c. omega arith) (λ c. omega arith) loop-again returns)

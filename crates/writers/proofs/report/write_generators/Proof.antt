@@ -49,9 +49,6 @@ loop-holds c =
     let args = c .args in
     progress-none (kindIn (args .m) (args .w .now)) (column (args .g) (args .w .now)) (args .m .lines) (args .from) (args .report .now)
 
-kind-requires : tie.Need-kind-requires Inv-loop μ-loop
-kind-requires c κs = search needs
-
 -- the report has room for a column of each row
 room : (c : tie.Start Inv-loop μ-loop) → c .args .from + c .args .m .lines * c .args .g .width ≤ length (c .args .report .now)
 room c = subst (λ (n : ℕ). c .args .from + n * c .args .g .width ≤ length (c .args .report .now)) (sym (c .pre .2)) (c .pre .3)
@@ -76,12 +73,6 @@ write-line-requires c κs =
 
 add-next : tie.Need-add-next Inv-loop μ-loop
 add-next c = omega (arith, slots (c .before .before .before .before .before), c .before .before .before .before .before .before .before .good)
-
-add-i : tie.Need-add-i Inv-loop μ-loop
-add-i c = omega arith
-
-loop-less : tie.Need-loop-less Inv-loop μ-loop
-loop-less c = omega arith
 
 loop-again : tie.Need-loop-again Inv-loop μ-loop
 loop-again c =
@@ -110,15 +101,5 @@ returns c =
 pub write-generators-spec : {M : Type 1} → statement M
 write-generators-spec =
     tie.close
-    (tie.spec
-    Inv-loop
-    μ-loop
-    loop-holds
-    kind-requires
-    write-line-requires
-    add-next
-    add-i
-    loop-less
-    loop-again
-    same-length
-    returns)
+    (tie.spec Inv-loop μ-loop loop-holds (λ c κs. search needs) write-line-requires add-next (λ c. omega arith) (λ c. omega arith) loop-again
+    same-length returns)

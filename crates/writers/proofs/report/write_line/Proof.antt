@@ -59,9 +59,6 @@ Inv-loop w i report₀ from width line j₀ report j = Invariant w line from wid
 abbrev μ-loop : tie.MeasureT-loop
 μ-loop w i report₀ from width line j₀ report j = width - j
 
-line-requires : tie.Need-line-requires Inv-loop μ-loop
-line-requires c κs = search needs
-
 loop-holds : tie.Need-loop-holds Inv-loop μ-loop
 unfolding tabulate
 loop-holds c =
@@ -73,34 +70,13 @@ loop-holds c =
       so-far = rw NatL.add-zero (written-none (args .from) (args .report .now));
     }
 
-add-report : tie.Need-add-report Inv-loop μ-loop
-add-report c = omega arith
-
-mul-report : tie.Need-mul-report Inv-loop μ-loop
-mul-report c = omega arith
-
-shared-slice-copy-out-report : tie.Need-shared-slice-copy-out-report Inv-loop μ-loop
-shared-slice-copy-out-report c = omega arith
-
 cast-report : tie.Need-cast-report Inv-loop μ-loop
 cast-report c =
     cast-fits (at (c .before .before .before .before .args .w .now) (c .before .before .before .line .result + c .before .before .loop .j))
     (record { sfits = c .report .given })
 
-add-t15 : tie.Need-add-t15 Inv-loop μ-loop
-add-t15 c = omega arith
-
-mul-t16 : tie.Need-mul-t16 Inv-loop μ-loop
-mul-t16 c = omega arith
-
 slice-set-from-report : tie.Need-slice-set-from-report Inv-loop μ-loop
 slice-set-from-report c = omega (arith, same (c .before .before .loop .inv))
-
-add-j : tie.Need-add-j Inv-loop μ-loop
-add-j c = omega arith
-
-loop-less : tie.Need-loop-less Inv-loop μ-loop
-loop-less c = omega arith
 
 loop-again : tie.Need-loop-again Inv-loop μ-loop
 loop-again c =
@@ -121,20 +97,5 @@ returns c =
 pub write-line-spec : {M : Type 1} → statement M
 write-line-spec =
     tie.close
-    (tie.spec
-    Inv-loop
-    μ-loop
-    line-requires
-    loop-holds
-    add-report
-    mul-report
-    shared-slice-copy-out-report
-    cast-report
-    add-t15
-    mul-t16
-    slice-set-from-report
-    add-j
-    loop-less
-    loop-again
-    same-length
-    returns)
+    (tie.spec Inv-loop μ-loop (λ c κs. search needs) loop-holds (λ c. omega arith) (λ c. omega arith) (λ c. omega arith) cast-report
+    (λ c. omega arith) (λ c. omega arith) slice-set-from-report (λ c. omega arith) (λ c. omega arith) loop-again same-length returns)

@@ -32,9 +32,6 @@ loop-holds c =
     let e : ℕ → ℤ = kindIn (args .m) (args .w .now) in
     progress-none e (λ k. e k ∷ []) (args .n) (args .from) (args .report .now)
 
-kind-requires : tie.Need-kind-requires Inv-loop μ-loop
-kind-requires c κs = search needs
-
 -- the report keeps its length
 same : (c : tie.At-loop Inv-loop μ-loop) → length (c .loop .report) ≡ length (c .before .args .report .now)
 same c = progress-length (c .loop .inv) 1 (λ j. refl) (omega (arith, c .before .pre))
@@ -53,12 +50,6 @@ slice-set-from-order c = omega (arith, slot (c .before .before), same (c .before
 
 add-next : tie.Need-add-next Inv-loop μ-loop
 add-next c = omega (arith, slot (c .before .before), c .before .before .before .before .good)
-
-add-i : tie.Need-add-i Inv-loop μ-loop
-add-i c = omega arith
-
-loop-less : tie.Need-loop-less Inv-loop μ-loop
-loop-less c = omega arith
 
 loop-again : tie.Need-loop-again Inv-loop μ-loop
 loop-again c =
@@ -85,16 +76,5 @@ returns c =
 pub write-orders-spec : {M : Type 1} → statement M
 write-orders-spec =
     tie.close
-    (tie.spec
-    Inv-loop
-    μ-loop
-    loop-holds
-    kind-requires
-    mul-order
-    slice-set-from-order
-    add-next
-    add-i
-    loop-less
-    loop-again
-    same-length
-    returns)
+    (tie.spec Inv-loop μ-loop loop-holds (λ c κs. search needs) mul-order slice-set-from-order add-next (λ c. omega arith) (λ c. omega arith)
+    loop-again same-length returns)

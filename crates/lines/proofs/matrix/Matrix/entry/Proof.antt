@@ -10,9 +10,6 @@ use Rattle.lines.proofs.Spans.{entry-span, span-inside}
 use Rattle.lines.proofs.matrix.Matrix.entry.Statement.{statement}
 use Rattle.lines.proofs.matrix.Matrix.entry.Tie as tie
 
-line-requires : tie.Need-line-requires
-line-requires c κs = search needs
-
 place-inside : (c : tie.After-line) → c .line .result + c .before .args .j + 1 ≤ length (c .before .args .w .now)
 place-inside c =
     let args = c .before .args in
@@ -40,4 +37,4 @@ returns c =
 pub entry-spec : {M : Type 1} → statement M
 entry-spec =
     tie.close
-    (tie.spec line-requires add-at mul-result shared-slice-copy-out-result cast-result returns)
+    (tie.spec (λ c κs. search needs) add-at mul-result shared-slice-copy-out-result cast-result returns)

@@ -11,8 +11,5 @@ mul-result c = omega (arith, NatL.mul-le-mul-right (c .before .args .self .width
 add-result : tie.Need-add-result
 add-result c = omega (arith, NatL.mul-le-mul-right (c .before .before .args .self .width) (c .before .before .pre .1))
 
-returns : tie.Need-returns
-returns c = search needs
-
 pub line-spec : {M : Type 1} → statement M
-line-spec = tie.close (tie.spec mul-result add-result returns)
+line-spec = tie.close (tie.spec mul-result add-result (λ c. search needs))

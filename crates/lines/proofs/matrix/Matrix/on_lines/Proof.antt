@@ -16,9 +16,6 @@ use borrow.Author.Needs.{needs}
 use Rattle.lines.proofs.matrix.Matrix.on_lines.Statement.{statement}
 use Rattle.lines.proofs.matrix.Matrix.on_lines.Tie as tie
 
-enum-known-op : tie.Need-enum-known-op
-enum-known-op c = search needs
-
 -- ---- a subtraction
 
 module _ (c : tie.After-op) where
@@ -61,9 +58,6 @@ subtract-requires c κs =
       ),
     )
 
-same-length : tie.Need-same-length
-same-length c = search needs
-
 returns : tie.Need-returns
 returns c =
     let at = c .before .before in let args = subtracting (subtraction at) .args in let given = subtraction at .op .given in
@@ -74,9 +68,6 @@ returns c =
     (subtract-lines (target at) (source at) (args .w .now) (called .last .0) (read w64 (given .0 .1 .1 .0)) (called .result) (called .ensures)))
 
 -- ---- an exchange
-
-enum-known-op-2 : tie.Need-enum-known-op-2
-enum-known-op-2 c = search needs
 
 module _ (c : tie.After-op2) where
   abbrev swapping : tie.Start
@@ -110,9 +101,6 @@ swap-requires c κs =
     let start = swapping (exchange c) in
     ((span-inside (first c) (start .pre .0), span-inside (second c) (start .pre .0)), (spans-one-or-apart (first c) (second c) (inl refl), start .pre .1 .0))
 
-same-length-2 : tie.Need-same-length-2
-same-length-2 c = search needs
-
 returns-2 : tie.Need-returns-2
 returns-2 c =
     let at = c .before .before in let args = swapping (exchange at) .args in let called = c .before .swap in
@@ -120,9 +108,6 @@ returns-2 c =
     (swap-lines (first at) (second at) (args .w .now) (called .last .0) (called .result) (called .ensures))
 
 -- ---- a negation
-
-enum-known-op-3 : tie.Need-enum-known-op-3
-enum-known-op-3 c = search needs
 
 module _ (c : tie.After-op3) where
   abbrev negating : tie.Start
@@ -145,9 +130,6 @@ module _ (c : tie.After-line5) where
 negate-requires : tie.Need-negate-requires
 negate-requires c κs = (span-inside (negated c) (negating (negation c) .pre .0), negating (negation c) .pre .1 .0)
 
-same-length-3 : tie.Need-same-length-3
-same-length-3 c = search needs
-
 returns-3 : tie.Need-returns-3
 returns-3 c =
     let at = c .before .before in let args = negating (negation at) .args in let called = c .before .negate in
@@ -157,21 +139,5 @@ returns-3 c =
 pub on-lines-spec : {M : Type 1} → statement M
 on-lines-spec =
     tie.close
-    (tie.spec
-    enum-known-op
-    line-requires
-    line-requires-2
-    subtract-requires
-    enum-known-op-2
-    line-requires-3
-    line-requires-4
-    swap-requires
-    enum-known-op-3
-    line-requires-5
-    negate-requires
-    same-length
-    returns
-    same-length-2
-    returns-2
-    same-length-3
-    returns-3)
+    (tie.spec (λ c. search needs) line-requires line-requires-2 subtract-requires (λ c. search needs) line-requires-3 line-requires-4 swap-requires
+    (λ c. search needs) line-requires-5 negate-requires (λ c. search needs) returns (λ c. search needs) returns-2 (λ c. search needs) returns-3)

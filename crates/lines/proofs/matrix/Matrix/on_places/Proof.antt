@@ -87,9 +87,6 @@ returns c =
 loop-holds : tie.Need-loop-holds Inv-loop μ-loop
 loop-holds c = begun (c .before .args .self) (c .before .args .w .now) (operationOf (c .before .args .op)) (c .before .pre .1 .0)
 
-places-requires-2 : tie.Need-places-requires-2 Inv-loop μ-loop
-places-requires-2 c κs = search needs
-
 module _ (c : tie.After-places2 Inv-loop μ-loop) where
   abbrev head : tie.At-loop Inv-loop μ-loop
   head = c .before .before
@@ -133,12 +130,6 @@ returns-2 c =
     places-exceed (start at .args .self) (operationOf (start at .args .op)) (start at .pre .1 .1 .0 .within) (start at .args .w .now) (head at .loop .w) (head at .loop .i)
     (at .before .loop-test .taken) (head at .loop .inv .so-far) (became called TooWide (c .enum-told2 .given .1))
 
-add-i : tie.Need-add-i Inv-loop μ-loop
-add-i c = omega arith
-
-loop-less : tie.Need-loop-less Inv-loop μ-loop
-loop-less c = omega arith
-
 loop-again : tie.Need-loop-again Inv-loop μ-loop
 loop-again c =
     let called = c .before .before .before in let at = called .before .before in
@@ -157,23 +148,5 @@ returns-3 c = ended (c .before .loop .inv) (c .loop-test .left)
 pub on-places-spec : {M : Type 1} → statement M
 on-places-spec =
     tie.close
-    (tie.spec
-    Inv-loop
-    μ-loop
-    enum-known-op
-    places-requires
-    on-lines-requires
-    same-length
-    returns
-    loop-holds
-    places-requires-2
-    on-lines-requires-2
-    enum-told
-    enum-told-2
-    same-length-2
-    returns-2
-    add-i
-    loop-less
-    loop-again
-    same-length-3
-    returns-3)
+    (tie.spec Inv-loop μ-loop enum-known-op places-requires on-lines-requires same-length returns loop-holds (λ c κs. search needs)
+    on-lines-requires-2 enum-told enum-told-2 same-length-2 returns-2 (λ c. omega arith) (λ c. omega arith) loop-again same-length-3 returns-3)

@@ -11,21 +11,12 @@ use Rattle.lines.proofs.Words.{negated-fits, negated-read}
 use Rattle.lines.proofs.operation.Operation.inverse.Statement.{statement}
 use Rattle.lines.proofs.operation.Operation.inverse.Tie as tie
 
-enum-known-self : tie.Need-enum-known-self
-enum-known-self c = search needs
-
 -- the factor of a subtraction
 factor : (c : tie.After-self) → natAbs (c .self .given .0 .1 .1 .0) ≤ limit
 factor c = subst (λ (op : Operation). FactorWithin (operationOf op)) (c .self .given .1) (c .before .before .pre)
 
 sub-t9 : tie.Need-sub-t9
 sub-t9 c = negated-fits (c .before .self .given .0 .1 .1 .0) (factor (c .before))
-
-enum-known-self-2 : tie.Need-enum-known-self-2
-enum-known-self-2 c = search needs
-
-enum-known-self-3 : tie.Need-enum-known-self-3
-enum-known-self-3 c = search needs
 
 returns : tie.Need-returns
 unfolding inverse
@@ -43,4 +34,4 @@ unfolding inverse
 returns-3 c = ap (λ (op : Operation). inverse (operationOf op)) (sym (c .before .self3 .given .1))
 
 pub inverse-spec : {M : Type 1} → statement M
-inverse-spec = tie.close (tie.spec enum-known-self sub-t9 enum-known-self-2 enum-known-self-3 returns returns-2 returns-3)
+inverse-spec = tie.close (tie.spec (λ c. search needs) sub-t9 (λ c. search needs) (λ c. search needs) returns returns-2 returns-3)

@@ -16,9 +16,6 @@ use Rattle.lines.proofs.operation.Operation.is_identity.Tie as tie
 tested : {op o : Operation} (r : Bool) → op ≡ o → IdentityTest (operationOf o) r → IdentityTest (operationOf op) r
 tested r e = subst (λ (x : Operation). IdentityTest (operationOf x) r) (sym e)
 
-enum-known-self : tie.Need-enum-known-self
-enum-known-self c = search needs
-
 fits : (c : tie.After-known-told) → SFits w64 (c .before .self .given .0 .1 .1 .0)
 fits c = search needs
 
@@ -30,17 +27,11 @@ returns c =
       on-false = λ e zero. true≢false (subst (λ (z : ℤ). eqb (ofZ w64 z) 0 ≡ false) zero e);
     })
 
-enum-told : tie.Need-enum-told
-enum-told c = search needs
-
 returns-2 : tie.Need-returns-2
 returns-2 c = tested false (c .enum-told .given .1) (record { on-true = λ e. false≢true e; on-false = λ e none. none })
-
-enum-told-2 : tie.Need-enum-told-2
-enum-told-2 c = search needs
 
 returns-3 : tie.Need-returns-3
 returns-3 c = tested false (c .enum-told2 .given .1) (record { on-true = λ e. false≢true e; on-false = λ e none. none })
 
 pub is-identity-spec : {M : Type 1} → statement M
-is-identity-spec = tie.close (tie.spec enum-known-self enum-told enum-told-2 returns returns-2 returns-3)
+is-identity-spec = tie.close (tie.spec (λ c. search needs) (λ c. search needs) (λ c. search needs) returns returns-2 returns-3)

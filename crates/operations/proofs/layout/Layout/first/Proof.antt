@@ -7,9 +7,6 @@ use Rattle.operations.proofs.Room.{product-below, max-below}
 use Rattle.operations.proofs.layout.Layout.first.Statement.{statement}
 use Rattle.operations.proofs.layout.Layout.first.Tie as tie
 
-larger-requires : tie.Need-larger-requires
-larger-requires c κs = search needs
-
 room-below : (c : tie.After-larger) → c .before .args .cells * c .larger .result ≤ 2 ^ 32
 room-below c =
     let pre = c .before .pre in
@@ -32,4 +29,4 @@ unfolding firstLayout
 returns c = rw (c .larger .ensures)
 
 pub first-spec : {M : Type 1} → statement M
-first-spec = tie.close (tie.spec larger-requires mul-room mul-t5 add-t10 returns)
+first-spec = tie.close (tie.spec (λ c κs. search needs) mul-room mul-t5 add-t10 returns)

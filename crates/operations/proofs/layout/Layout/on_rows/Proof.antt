@@ -31,12 +31,6 @@ inverse-requires c κs = task (c .before .before) .fits .factor
 on-lines-requires : tie.Need-on-lines-requires
 on-lines-requires c κs = let s = c .before .before .before .before in (matrix-held (s .pre .0), s .pre .1)
 
-enum-told : tie.Need-enum-told
-enum-told c = search needs
-
-enum-told-2 : tie.Need-enum-told-2
-enum-told-2 c = search needs
-
 same-length : tie.Need-same-length
 same-length c = c .before .before .before .on-lines .kept .1 .0
 
@@ -52,12 +46,6 @@ on-lines-requires-2 c κs =
     let a = c .before .before .before .before .on-lines in
     let ready = follower-ready (task s) (a .last .1 .0) (a .result) (a .ensures) (c .before .enum-told .given .1) in
     (ready .held, (ready .small, ready .fits))
-
-enum-told-3 : tie.Need-enum-told-3
-enum-told-3 c = search needs
-
-enum-told-4 : tie.Need-enum-told-4
-enum-told-4 c = search needs
 
 same-length-2 : tie.Need-same-length-2
 same-length-2 c = c .before .before .before .on-lines2 .kept .1 .0 ∙ c .before .before .before .before .before .before .before .before .on-lines .kept .1 .0
@@ -103,20 +91,5 @@ returns-4 c =
 pub on-rows-spec : {M : Type 1} → statement M
 on-rows-spec =
     tie.close
-    (tie.spec
-    is-identity-requires
-    returns
-    inverse-requires
-    on-lines-requires
-    enum-told
-    enum-told-2
-    same-length
-    returns-2
-    on-lines-requires-2
-    enum-told-3
-    enum-told-4
-    same-length-2
-    returns-3
-    on-lines-requires-3
-    same-length-3
-    returns-4)
+    (tie.spec is-identity-requires returns inverse-requires on-lines-requires (λ c. search needs) (λ c. search needs) same-length returns-2
+    on-lines-requires-2 (λ c. search needs) (λ c. search needs) same-length-2 returns-3 on-lines-requires-3 same-length-3 returns-4)

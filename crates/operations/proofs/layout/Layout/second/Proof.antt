@@ -7,9 +7,6 @@ use Rattle.operations.proofs.Room.{product-below, max-below}
 use Rattle.operations.proofs.layout.Layout.second.Statement.{statement}
 use Rattle.operations.proofs.layout.Layout.second.Tie as tie
 
-larger-requires : tie.Need-larger-requires
-larger-requires c κs = search needs
-
 -- the products in the places
 record Below (c : tie.After-larger) : Type 0 where
   pub room : c .before .args .cells * c .larger .result ≤ 2 ^ 32
@@ -37,9 +34,6 @@ mul-end-2 c = omega (arith, below c)
 add-end : tie.Need-add-end
 add-end c = omega (arith, below c)
 
-sub-kept : tie.Need-sub-kept
-sub-kept c = search needs
-
 mul-t8 : tie.Need-mul-t8
 mul-t8 c = omega (arith, below c)
 
@@ -65,17 +59,4 @@ returns c = rw (c .larger .ensures)
 pub second-spec : {M : Type 1} → statement M
 second-spec =
     tie.close
-    (tie.spec
-    larger-requires
-    mul-room
-    mul-end
-    mul-end-2
-    add-end
-    sub-kept
-    mul-t8
-    add-t9
-    mul-t12
-    add-t13
-    mul-t14
-    add-t15
-    returns)
+    (tie.spec (λ c κs. search needs) mul-room mul-end mul-end-2 add-end (λ c. search needs) mul-t8 add-t9 mul-t12 add-t13 mul-t14 add-t15 returns)

@@ -5,15 +5,6 @@ use Rattle.operations.proofs.Room.{slots-below, max-below}
 use Rattle.operations.proofs.layout.Layout.work_slots.Statement.{statement}
 use Rattle.operations.proofs.layout.Layout.work_slots.Tie as tie
 
-mul-result : tie.Need-mul-result
-mul-result c = search needs
-
-larger-requires : tie.Need-larger-requires
-larger-requires c κs = search needs
-
-add-result : tie.Need-add-result
-add-result c = search needs
-
 mul-result-2 : tie.Need-mul-result-2
 mul-result-2 c =
     let pre = c .before .pre in
@@ -23,4 +14,4 @@ returns : tie.Need-returns
 returns c = rw (c .larger .ensures)
 
 pub work-slots-spec : {M : Type 1} → statement M
-work-slots-spec = tie.close (tie.spec mul-result larger-requires add-result mul-result-2 returns)
+work-slots-spec = tie.close (tie.spec (λ c. search needs) (λ c κs. search needs) (λ c. search needs) mul-result-2 returns)

@@ -60,17 +60,11 @@ returns : tie.Need-returns
 unfolding refusal
 returns c = reads-sheet (bytes (c .before)) (rw (lt-ltb (length (sheetOf (c .before .before))) 16 (c .if1 .taken)))
 
-count-exceeds-requires : tie.Need-count-exceeds-requires
-count-exceeds-requires c κs = search needs
-
 returns-2 : tie.Need-returns-2
 unfolding refusal
 returns-2 c =
     let c₁ = c .before .before in
     reads-sheet (bytes (c₁ .before)) (rw (long c₁, ← c .before .count-exceeds .ensures, c .if2 .taken))
-
-offset-differs-requires : tie.Need-offset-differs-requires
-offset-differs-requires c κs = search needs
 
 returns-3 : tie.Need-returns-3
 unfolding refusal
@@ -78,12 +72,6 @@ returns-3 c =
     let c₂ = c .before .before in
     let c₁ = c₂ .before .before in
     reads-sheet (bytes (c₁ .before)) (rw (long c₁, counts c₂, ← c .before .offset-differs .ensures, c .if3 .taken))
-
-add-start : tie.Need-add-start
-add-start c = search needs
-
-start-requires : tie.Need-start-requires
-start-requires c κs = search needs
 
 returns-4 : tie.Need-returns-4
 unfolding refusal
@@ -94,9 +82,6 @@ returns-4 c =
     let b = sheetOf (start₃ c₃) in
     reads-sheet (bytes (c₁ .before)) (rw (long c₁, counts c₂, offsets c₃, ne-eqb (length b) (startAt b 4) (λ e. c .if4 .taken (e ∙ sym (c .before .start .ensures .is)))))
 
-vertices-do-not-rise-requires : tie.Need-vertices-do-not-rise-requires
-vertices-do-not-rise-requires c κs = search needs
-
 returns-5 : tie.Need-returns-5
 unfolding refusal
 returns-5 c =
@@ -105,9 +90,6 @@ returns-5 c =
     let c₂ = c₃ .before .before in
     let c₁ = c₂ .before .before in
     reads-sheet (bytes (c₁ .before)) (rw (long c₁, counts c₂, offsets c₃, ends c₄, ← c .before .vertices-do-not-rise .ensures, c .if5 .taken))
-
-cells-do-not-rise-requires : tie.Need-cells-do-not-rise-requires
-cells-do-not-rise-requires c κs = search needs
 
 returns-6 : tie.Need-returns-6
 unfolding refusal
@@ -147,19 +129,5 @@ returns-8 c =
 pub read-spec : {M : Type 1} → statement M
 read-spec =
     tie.close
-    (tie.spec
-    returns
-    count-exceeds-requires
-    returns-2
-    offset-differs-requires
-    returns-3
-    add-start
-    start-requires
-    returns-4
-    vertices-do-not-rise-requires
-    returns-5
-    cells-do-not-rise-requires
-    returns-6
-    face-missing-requires
-    returns-7
-    returns-8)
+    (tie.spec returns (λ c κs. search needs) returns-2 (λ c κs. search needs) returns-3 (λ c. search needs) (λ c κs. search needs) returns-4
+    (λ c κs. search needs) returns-5 (λ c κs. search needs) returns-6 face-missing-requires returns-7 returns-8)
