@@ -1,7 +1,10 @@
 -- What the proofs of the crate share.
 pub mod Words
 pub mod Store
+pub mod Blocks
+pub mod Zeros
 pub mod Spans
 pub mod Holding
 pub mod Operations
+pub mod Subtraction
 pub mod Places

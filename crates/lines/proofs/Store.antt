@@ -28,8 +28,9 @@ module _ (w : List ℤ) (i : ℕ) (x : ℤ) (inside : i < length w) where
 
 -- ---- a line that is set place by place
 
-pub lineSet-same : (w : List ℤ) (target width : ℕ) (line : ℕ → ℤ) → Small w → ((t : ℕ) → at w (target + t) ≡ line t) → LineSet w target width line w
-lineSet-same w target width line s e = record { same-length = refl; on = λ t l. e t; off = λ i o. refl; small = s }
+pub lineSet-same : (w : List ℤ) (target width : ℕ) (line : ℕ → ℤ) → Small w → ((t : ℕ) → t < width → at w (target + t) ≡ line t)
+    → LineSet w target width line w
+lineSet-same w target width line s e = record { same-length = refl; on = e; off = λ i o. refl; small = s }
 
 pub lineSet-none : (w : List ℤ) (target : ℕ) (line : ℕ → ℤ) → Small w → LineSet w target 0 line w
 lineSet-none w target line s = record { same-length = refl; on = λ t l. absurd (omega arith); off = λ i o. refl; small = s }
@@ -81,6 +82,16 @@ module _ (w : List ℤ) (a b : ℕ) (a-inside : a < length w) (b-inside : b < le
 
   pub small-exchange : Small w → Small (exchange w a b)
   small-exchange s = small-set (set w a (at w b)) b (at w a) b-inside′ (small-set w a (at w b) a-inside s (s .bound b)) (s .bound a)
+
+-- a line exchanged with itself
+pub swapped-one : (w : List ℤ) (first second width : ℕ) → first ≡ second → Small w → LinesSwapped w first second width w
+swapped-one w first second width e s = record {
+  same-length = refl;
+  on-first = λ t l. ap (λ (a : ℕ). at w (a + t)) e;
+  on-second = λ t l. ap (λ (a : ℕ). at w (a + t)) (sym e);
+  off = λ i o p. refl;
+  small = s;
+}
 
 pub swapped-none : (w : List ℤ) (first second : ℕ) → Small w → LinesSwapped w first second 0 w
 swapped-none w first second s = record {

@@ -1,7 +1,6 @@
 -- The elementary operations of the code, and what a call of one asks.
 use mathlib.Core.Path.{_≡_}
 use mathlib.Core.Logic.{_≢_}
-use mathlib.Core.Bool.{Bool, true, false}
 use mathlib.Core.List.{List}
 use Prim.Native.Nat.{ℕ, _<_, _≤_}
 use lib.IntN.{ℤ, pos, natAbs}
@@ -46,8 +45,3 @@ abbrev pub Identity : theory.Operation → Type 0
 Identity (theory.subtract i k q) = q ≡ pos 0
 Identity (theory.swap i k) = ⊥
 Identity (theory.negate k) = ⊥
-
--- what a test for it answers
-pub record IdentityTest (op : theory.Operation) (r : Bool) : Type 0 where
-  pub on-true : r ≡ true → Identity op
-  pub on-false : r ≡ false → Identity op → ⊥

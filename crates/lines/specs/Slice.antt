@@ -1,6 +1,7 @@
 -- Lines of a slice, and what an operation on them leaves. A slice is the list of its entries; here `limit` is the limit of an entry.
 use mathlib.Core.Path.{_≡_}
-use mathlib.Core.Logic.{_⊎_}
+use mathlib.Core.Logic.{_⊎_, _≢_}
+use mathlib.Core.Bool.{Bool, true}
 use mathlib.Core.List.{List}
 use Prim.Native.Nat.{ℕ, _+_, _*_, _<_, _≤_}
 use lib.ListN.{length, getD}
@@ -28,6 +29,21 @@ Apart a b width = (a + width ≤ b) ⊎ (b + width ≤ a)
 -- place i is not on the line at a
 abbrev pub Off : ℕ → ℕ → ℕ → Type 0
 Off a width i = (i < a) ⊎ (a + width ≤ i)
+
+-- what a test for 0 of the n entries from a on tells
+pub record ZerosTold (w : List ℤ) (a n : ℕ) (r : Bool) : Type 0 where
+  pub zeros : r ≡ true → (t : ℕ) → t < n → at w (a + t) ≡ pos 0
+
+-- the line at a is 0 from place `from` up to place r, which is at most its width
+pub record ZerosTo (w : List ℤ) (a from width r : ℕ) : Type 0 where
+  pub begins : from ≤ r
+  pub ends : r ≤ width
+  pub zeros : (t : ℕ) → from ≤ t → t < r → at w (a + t) ≡ pos 0
+
+-- r is the first place from `from` on where it is not 0, or its width
+pub record FirstNonzero (w : List ℤ) (a from width r : ℕ) : Type 0 where
+  pub passed : ZerosTo w a from width r
+  pub found : r < width → at w (a + r) ≢ pos 0
 
 -- w′ is w but for the line at `target`, which now holds `line`; all its entries lie within the limit
 pub record LineSet (w : List ℤ) (target width : ℕ) (line : ℕ → ℤ) (w′ : List ℤ) : Type 0 where

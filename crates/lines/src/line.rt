@@ -5,7 +5,7 @@ ghost use mathlib.Core.Logic.{_⊎_};
 ghost use Prim.Native.Nat.{_+_, _≤_};
 ghost use lib.ListN.{length, replicate};
 ghost use lib.IntN.{pos, natAbs};
-ghost use Rattle.lines.specs.Slice.{limit, Small, Apart, Subtracted, Swapped, Negated};
+ghost use Rattle.lines.specs.Slice.{limit, Small, Apart, ZerosTold, ZerosTo, FirstNonzero, Subtracted, Swapped, Negated};
 use crate::matrix::Matrix;
 
 // What an operation answers.
@@ -14,17 +14,63 @@ pub enum Effect {
     TooWide,
 }
 
-// Takes q times the line at `source` from the line at `target`.
-pub fn subtract(w: &mut [i32], target: usize, source: usize, width: usize, q: i64) -> Effect
+// How many places are tested for 0 at once.
+const BLOCK: usize = 16;
+
+// Whether the BLOCK entries from `at` on are 0. The loop has no way out before its end, so that the compiler tests several entries at once.
+fn is_zero_block(w: &[i32], at: usize) -> bool
+    requires { ⌜ (at + 16 ≤ length (now w)) × Small (now w) ⌝ }
+    ensures { λ r. ⌜ ZerosTold (now (w .entry)) at 16 r ⌝ }
+{
+    let mut nonzero = false;
+    let mut t: usize = 0;
+    while t < BLOCK {
+        if w[at + t] != 0 {
+            nonzero = true;
+        }
+        t = t + 1;
+    }
+    !nonzero
+}
+
+// A place from `from` on before which the line at `at` is 0, found block by block.
+fn skip_zero_blocks(w: &[i32], at: usize, from: usize, width: usize) -> usize
+    requires { ⌜ (at + width ≤ length (now w)) × (from ≤ width) × Small (now w) ⌝ }
+    ensures { λ r. ⌜ ZerosTo (now (w .entry)) at from width r ⌝ }
+{
+    let mut t = from;
+    while t + BLOCK <= width {
+        if !is_zero_block(w, at + t) {
+            return t;
+        }
+        t = t + BLOCK;
+    }
+    t
+}
+
+// The first place from `from` on where the line at `at` is not 0, or its width.
+pub fn first_nonzero(w: &[i32], at: usize, from: usize, width: usize) -> usize
+    requires { ⌜ (at + width ≤ length (now w)) × (from ≤ width) × Small (now w) ⌝ }
+    ensures { λ r. ⌜ FirstNonzero (now (w .entry)) at from width r ⌝ }
+{
+    let mut t = skip_zero_blocks(w, at, from, width);
+    while t < width {
+        if w[at + t] != 0 {
+            return t;
+        }
+        t = t + 1;
+    }
+    width
+}
+
+// Takes q times the line at `source` from the line at `target`, place by place.
+pub fn subtract_places(w: &mut [i32], target: usize, source: usize, width: usize, q: i64) -> Effect
     requires { ⌜ (target + width ≤ length (now w)) × (source + width ≤ length (now w)) ⌝ }
     requires { ⌜ Apart target source width ⌝ }
     requires { ⌜ Small (now w) ⌝ }
     requires { ⌜ natAbs q ≤ limit ⌝ }
     ensures { λ r. ⌜ Subtracted (now (w .entry)) target source width q r (now (w .exit)) ⌝ }
 {
-    if q == 0 {
-        return Effect::Done;
-    }
     let mut t: usize = 0;
     while t < width {
         let x = w[target + t] as i64;
@@ -42,6 +88,38 @@ pub fn subtract(w: &mut [i32], target: usize, source: usize, width: usize, q: i6
     Effect::Done
 }
 
+// The same for one block: where the source is 0 the target keeps its entries.
+fn subtract_block(w: &mut [i32], target: usize, source: usize, q: i64) -> Effect
+    requires { ⌜ (target + 16 ≤ length (now w)) × (source + 16 ≤ length (now w)) ⌝ }
+    requires { ⌜ Apart target source 16 ⌝ }
+    requires { ⌜ Small (now w) ⌝ }
+    requires { ⌜ natAbs q ≤ limit ⌝ }
+    ensures { λ r. ⌜ Subtracted (now (w .entry)) target source 16 q r (now (w .exit)) ⌝ }
+{
+    if is_zero_block(w, source) {
+        return Effect::Done;
+    }
+    subtract_places(w, target, source, BLOCK, q)
+}
+
+// Takes q times the line at `source` from the line at `target`, block by block.
+pub fn subtract(w: &mut [i32], target: usize, source: usize, width: usize, q: i64) -> Effect
+    requires { ⌜ (target + width ≤ length (now w)) × (source + width ≤ length (now w)) ⌝ }
+    requires { ⌜ Apart target source width ⌝ }
+    requires { ⌜ Small (now w) ⌝ }
+    requires { ⌜ natAbs q ≤ limit ⌝ }
+    ensures { λ r. ⌜ Subtracted (now (w .entry)) target source width q r (now (w .exit)) ⌝ }
+{
+    let mut t: usize = 0;
+    while t + BLOCK <= width {
+        let Effect::Done = subtract_block(w, target + t, source + t, q) else {
+            return Effect::TooWide;
+        };
+        t = t + BLOCK;
+    }
+    subtract_places(w, target + t, source + t, width - t, q)
+}
+
 // Exchanges the lines at `first` and `second`, which are one line or apart.
 pub fn swap(w: &mut [i32], first: usize, second: usize, width: usize) -> Effect
     requires { ⌜ (first + width ≤ length (now w)) × (second + width ≤ length (now w)) ⌝ }
@@ -49,6 +127,9 @@ pub fn swap(w: &mut [i32], first: usize, second: usize, width: usize) -> Effect
     requires { ⌜ Small (now w) ⌝ }
     ensures { λ r. ⌜ Swapped (now (w .entry)) first second width r (now (w .exit)) ⌝ }
 {
+    if first == second {
+        return Effect::Done;
+    }
     let mut t: usize = 0;
     while t < width {
         let x = w[first + t];

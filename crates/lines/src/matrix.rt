@@ -38,15 +38,15 @@ impl Matrix {
         w[at] as i64
     }
 
-    // Does the operation to the lines.
-    pub fn on_lines(self, w: &mut [i32], op: Operation) -> Effect
+    // Does the operation to the lines, where they are narrow: a subtraction goes place by place.
+    fn on_narrow_lines(self, w: &mut [i32], op: Operation) -> Effect
         requires { ⌜ Held (length (now w)) self ⌝ }
         requires { ⌜ Small (now w) ⌝ }
         requires { ⌜ Fits (self .lines) (operationOf op) ⌝ }
         ensures { λ r. ⌜ Became self (now (w .entry)) (onRows (operationOf op) (contents self (now (w .entry)))) r (now (w .exit)) ⌝ }
     {
         match op {
-            Operation::Subtract(i, k, q) => line::subtract(
+            Operation::Subtract(i, k, q) => line::subtract_places(
                 w,
                 self.line(i),
                 self.line(k),
@@ -56,6 +56,19 @@ impl Matrix {
             Operation::Swap(i, k) => line::swap(w, self.line(i), self.line(k), self.width),
             Operation::Negate(k) => line::negate(w, self.line(k), self.width),
         }
+    }
+
+    // Does the operation to the lines.
+    pub fn on_lines(self, w: &mut [i32], op: Operation) -> Effect
+        requires { ⌜ Held (length (now w)) self ⌝ }
+        requires { ⌜ Small (now w) ⌝ }
+        requires { ⌜ Fits (self .lines) (operationOf op) ⌝ }
+        ensures { λ r. ⌜ Became self (now (w .entry)) (onRows (operationOf op) (contents self (now (w .entry)))) r (now (w .exit)) ⌝ }
+    {
+        if let Operation::Subtract(i, k, q) = op {
+            return line::subtract(w, self.line(i), self.line(k), self.width, q);
+        }
+        self.on_narrow_lines(w, op)
     }
 
     // The places of line i, as a matrix of that many lines of one entry.
@@ -78,12 +91,12 @@ impl Matrix {
         ensures { λ r. ⌜ Became self (now (w .entry)) (onColumns (operationOf op) (contents self (now (w .entry)))) r (now (w .exit)) ⌝ }
     {
         if let Operation::Subtract(_, k, _) = op {
-            return self.places(k).on_lines(w, op);
+            return self.places(k).on_narrow_lines(w, op);
         }
         let lines = self.lines;
         let mut i: usize = 0;
         while i < lines {
-            let Effect::Done = self.places(i).on_lines(w, op) else {
+            let Effect::Done = self.places(i).on_narrow_lines(w, op) else {
                 return Effect::TooWide;
             };
             i = i + 1;

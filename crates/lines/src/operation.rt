@@ -1,7 +1,7 @@
 // The elementary operations on the lines of a matrix, or on the places of every line.
 ghost use mathlib.Core.Path.{_≡_};
 ghost use Rattle.matrices.specs.Operation as theory;
-ghost use Rattle.lines.specs.Operations.{operationOf, FactorWithin, IdentityTest};
+ghost use Rattle.lines.specs.Operations.{operationOf, FactorWithin};
 
 // `Subtract(i, k, q)` takes q times line k from line i, `Swap(i, k)` exchanges lines i and k, `Negate(k)` negates line k.
 pub enum Operation {
@@ -11,17 +11,6 @@ pub enum Operation {
 }
 
 impl Operation {
-    // Whether it changes nothing, as a subtraction of 0 times a line.
-    pub fn is_identity(self) -> bool
-        ensures { λ r. ⌜ IdentityTest (operationOf self) r ⌝ }
-    {
-        match self {
-            Operation::Subtract(_, _, q) => q == 0,
-            Operation::Swap(_, _) => false,
-            Operation::Negate(_) => false,
-        }
-    }
-
     // What undoes it on the other side of a product.
     pub fn inverse(self) -> Operation
         requires { ⌜ FactorWithin (operationOf self) ⌝ }

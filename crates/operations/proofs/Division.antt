@@ -25,6 +25,11 @@ unfolding floor
 floor-zero (pos d) = ap pos (NatL.zero-div d)
 floor-zero (negsuc d) = refl
 
+pub floor-one : (x : ℤ) → floor x (pos 1) ≡ x
+unfolding floor
+floor-one (pos x) = ap pos (NatL.div-one x)
+floor-one (negsuc x) = ap negsuc (NatL.div-one x)
+
 pub natAbs-quotZ : (a d : ℤ) → natAbs (quotZ a d) ≤ natAbs a
 natAbs-quotZ (pos a) (pos d) = NatL.div-le-self a d
 natAbs-quotZ (pos a) (negsuc d) = rw natAbs-neg (NatL.div-le-self a (suc d))

@@ -1,6 +1,7 @@
 -- The loops of the scan for a pivot. `Along`: a row has been scanned up to place j; `Down`: the rows up to i. Each with what a turn, an entry of
 -- absolute value 1 and the loop's end make of it.
-use mathlib.Core.Path.{_≡_, refl, sym, ap, _∙_}
+use mathlib.Core.Path.{_≡_, refl, sym, ap, subst, _∙_}
+use mathlib.Core.List.{List}
 use mathlib.Core.Logic.{_≢_}
 use Prim.Native.Nat.{ℕ, zero, suc, _+_, _-_, _<_, _≤_}
 use native.Mathlib.Omega.{arith}
@@ -9,6 +10,10 @@ use lib.IntN.{ℤ, pos, negsuc, natAbs}
 use Rattle.matrices.specs.Matrix.{Matrix}
 use Rattle.reduction_steps.specs.Pivot.{Choice, none, place, better, alongRow, downRows}
 use Rattle.reduction_steps.specs.PivotLaws.{alongRow-one, downRows-one}
+use Rattle.lines.specs.Slice.{at, lineAt, FirstNonzero}
+use Rattle.lines.specs.Matrices.{contents}
+use Rattle.lines.specs.declared.matrix.Matrix as lines
+use Rattle.operations.proofs.Choosing.{better-zero}
 use Rattle.operations.specs.Scan.{choiceAt, choiceOf, SizeOf, IsBest}
 use Rattle.operations.specs.declared.pivot.Best.{Best}
 
@@ -68,6 +73,25 @@ module _ {A : Matrix} {i k n : ℕ} {c : Choice} {j : ℕ} {b : Best} (h : Along
         ∙ ap (alongRow A i (n - (j + 1)) (j + 1)) (choice-one b′ e)
         ∙ alongRow-one A (b′ .row) (b′ .column) (size-one A b′ h′ e) i (n - (j + 1)) (j + 1)
         ∙ sym (choice-one b′ e))
+
+-- places that hold 0 change nothing
+pub along-zeros :
+    {A : Matrix} {i k n : ℕ} {c : Choice} {b : Best} {j : ℕ} → Along A i k n c j b → (t : ℕ) → j + t ≤ n → ((s : ℕ) → s < t → A i (j + s) ≡ pos 0)
+    → Along A i k n c (j + t) b
+along-zeros {A} {i} {k} {n} {c} {b} {j} h zero l zeros = subst (λ (x : ℕ). Along A i k n c x b) (omega arith) h
+along-zeros {A} {i} {k} {n} {c} {b} {j} h (suc t) l zeros =
+    subst (λ (x : ℕ). Along A i k n c x b) (omega arith)
+    (along-next (along-zeros h t (omega arith) (λ s m. zeros s (omega arith))) (omega arith) (h .best)
+    (sym (better-zero A i (j + t) (choiceOf b) (ap natAbs (zeros t (omega arith))))))
+
+-- a row whose first nonzero entry stands at place j is scanned from there
+pub along-first :
+    (m : lines.Matrix) (w : List ℤ) {i k a j : ℕ} {b : Best} → IsBest (contents m w) b → a ≡ lineAt (m .at) (m .width) i → FirstNonzero w a k (m .width) j
+    → Along (contents m w) i k (m .width) (choiceOf b) j b
+along-first m w {i} {k} {a} {j} {b} h e first =
+    subst (λ (x : ℕ). Along (contents m w) i k (m .width) (choiceOf b) x b) (omega (arith, first .passed .begins))
+    (along-zeros (along-starts (contents m w) i k (m .width) h) (j - k) (omega (arith, first .passed .begins, first .passed .ends))
+    (λ s l. ap (λ (x : ℕ). at w (x + (k + s))) (sym e) ∙ first .passed .zeros (k + s) (omega arith) (omega arith)))
 
 -- ---- down the rows
 

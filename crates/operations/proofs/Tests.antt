@@ -1,14 +1,16 @@
 -- Scans that look for an entry. `any` is what a scan of a row or a column answers (`columnKeeps-any`, `rowKeeps-any`,
 -- `rowIndivisible-any`), and `firstIndivisible` the scan of step e: each with what a turn of the loop that finds the entry, one that
 -- does not, and the loop's end make of it. `firstIndivisible-one`: a pivot of 1 divides all.
-use mathlib.Core.Path.{_≡_, refl, sym, ap, _∙_}
+use mathlib.Core.Path.{_≡_, refl, sym, ap, subst, _∙_}
+use mathlib.Core.List.{List}
+use native.Mathlib.Decide.{decLt}
 use mathlib.Core.Bool.{Bool, true, false, not, _||_}
 use Prim.Native.Nat.{ℕ, zero, suc, _+_, _-_, _<_, _≤_}
 use native.Mathlib.Nat as NatL
 use native.Mathlib.Omega.{arith}
 use native.Mathlib.Numerals.{add-one}
-use borrow.Author.Tests.{ne-eqb}
-use lib.Dec.{eqb}
+use borrow.Author.Tests.{ne-eqb, lt-ltb, le-ltb}
+use lib.Dec.{eqb, ltb}
 use lib.IntN.{ℤ, pos, natAbs}
 use lib.Signed.{_<ℤ_, remZ}
 use mir.Syntax.{w64}
@@ -18,6 +20,9 @@ use Rattle.integers.specs.Order.{natAbs-zero}
 use Rattle.integers.specs.Division.{divides}
 use Rattle.integers.specs.Truncate.{natAbs-remZ}
 use Rattle.matrices.specs.Matrix.{Matrix}
+use Rattle.lines.specs.Slice.{at, lineAt, FirstNonzero}
+use Rattle.lines.specs.Matrices.{contents}
+use Rattle.lines.specs.declared.matrix.Matrix as lines
 use Rattle.lines.proofs.Words.{read}
 use Rattle.operations.proofs.Division.{of-bits, remainder-zero, zero-remainder}
 use Rattle.reduction_steps.specs.Step.{columnKeeps, rowKeeps, rowIndivisible, noRow, row, firstIndivisible}
@@ -70,6 +75,12 @@ module _ {f : ℕ → Bool} {s n i : ℕ} (h : Looking f s n i) where
   pub looking-ends : n ≤ i → any f (n - s) s ≡ false
   looking-ends l = h .rest ∙ any-end f l
 
+-- places that do not pass
+pub looking-none : {f : ℕ → Bool} {s n i : ℕ} → Looking f s n i → (t : ℕ) → i + t ≤ n → ((x : ℕ) → x < t → f (i + x) ≡ false) → Looking f s n (i + t)
+looking-none {f} {s} {n} {i} h zero l none = subst (λ (x : ℕ). Looking f s n x) (omega arith) h
+looking-none {f} {s} {n} {i} h (suc t) l none =
+    subst (λ (x : ℕ). Looking f s n x) (omega arith) (looking-next (looking-none h t (omega arith) (λ x m. none x (omega arith))) (omega arith) (none t (omega arith)))
+
 -- ---- the scans of steps c, d and e
 
 abbrev pub nonzero : ℤ → Bool
@@ -93,6 +104,30 @@ module _ (A : Matrix) where
   unfolding rowIndivisible any
   rowIndivisible-any d i zero j = refl
   rowIndivisible-any d i (suc more) j = rw (rowIndivisible-any d i more (suc j))
+
+-- a row keeps a nonzero entry after place k exactly where the first one stands before its end
+pub rowKeeps-first :
+    (m : lines.Matrix) (w : List ℤ) (k a r : ℕ) → k < m .width → a ≡ lineAt (m .at) (m .width) k → FirstNonzero w a (k + 1) (m .width) r
+    → ltb r (m .width) ≡ rowKeeps (contents m w) k (m .width - suc k) (suc k)
+rowKeeps-first m w k a r below e first = pick (decLt r (m .width)) ∙ sym (rowKeeps-any (contents m w) k (m .width - suc k) (suc k))
+  where
+    test : ℕ → Bool
+    test b = nonzero (contents m w k b)
+
+    entry-is : (b : ℕ) → contents m w k b ≡ at w (a + b)
+    entry-is b = ap (λ (x : ℕ). at w (x + b)) (sym e)
+
+    there : Looking test (suc k) (m .width) r
+    there =
+        subst (λ (x : ℕ). Looking test (suc k) (m .width) x) (omega (arith, first .passed .begins))
+        (looking-none (looking-after test below) (r - (k + 1)) (omega (arith, first .passed .begins, first .passed .ends))
+        (λ x l. rw (entry-is (k + 1 + x) ∙ first .passed .zeros (k + 1 + x) (omega arith) (omega arith))))
+
+    pick : Dec (r < m .width) → ltb r (m .width) ≡ any test (m .width - suc k) (suc k)
+    pick (yes l) =
+        lt-ltb r (m .width) l
+        ∙ sym (looking-found there l (rw (ne-eqb (natAbs (contents m w k r)) 0 (λ z. first .found l (sym (entry-is r) ∙ natAbs-zero (contents m w k r) z)))))
+    pick (no l) = le-ltb r (m .width) (omega arith) ∙ sym (looking-ends there (omega arith))
 
 -- the tests as the machine makes them, on the bits of the entry r that was read
 module _ (x r : ℤ) (fits : SFits w64 r) (is : r ≡ x) where

@@ -118,9 +118,6 @@ impl Layout {
         requires { ⌜ Fits (self .matrix .lines) (operationOf op) ⌝ }
         ensures { λ r. ⌜ Operated self (onRow limit (sizesOf self) (operationOf op) (stateOf self (now (w .entry)))) r (now (w .exit)) ⌝ }
     {
-        if op.is_identity() {
-            return Effect::Done;
-        }
         let inverse = op.inverse();
         let Effect::Done = self.matrix.on_lines(w, op) else {
             return Effect::TooWide;
@@ -138,9 +135,6 @@ impl Layout {
         requires { ⌜ Fits (self .matrix .width) (operationOf op) × Alone (self .matrix) (now w) (operationOf op) ⌝ }
         ensures { λ r. ⌜ Operated self (onColumn limit (sizesOf self) (operationOf op) (stateOf self (now (w .entry)))) r (now (w .exit)) ⌝ }
     {
-        if op.is_identity() {
-            return Effect::Done;
-        }
         let inverse = op.inverse();
         let Effect::Done = self.matrix.on_places(w, op) else {
             return Effect::TooWide;

@@ -1,4 +1,5 @@
-// Step a: the pivot by the rule of release 1. The scan goes row by row and ends at the first entry of absolute value 1.
+// Step a: the pivot by the rule of release 1. The scan goes row by row, in each from its first nonzero entry on, and ends at the first
+// entry of absolute value 1.
 ghost use mathlib.Core.Path.{_≡_};
 ghost use Prim.Native.Nat.{_+_, _-_, _<_, _≤_};
 ghost use lib.ListN.{length};
@@ -7,6 +8,7 @@ ghost use lib.IntN.{pos, natAbs};
 ghost use Rattle.lines.specs.Slice.{limit, Small};
 ghost use Rattle.lines.specs.Matrices.{Held, contents};
 ghost use Rattle.operations.specs.Scan.{noBest, IsBest, choiceOf, pivotChoice};
+use lines::line::first_nonzero;
 use lines::matrix::Matrix;
 
 // The entry chosen so far: its absolute value, 0 where there is none, and its place.
@@ -78,9 +80,9 @@ fn along_row(m: Matrix, w: &[i32], i: usize, k: usize, best: Best) -> Best
         (choiceOf r ≡ steps.alongRow (contents m (now (w .entry))) i (m .width - k) k (choiceOf best))
         ⌝ }
 {
-    let mut chosen = best;
-    let mut j = k;
     let width = m.width;
+    let mut chosen = best;
+    let mut j = first_nonzero(w, m.line(i), k, width);
     while j < width {
         chosen = better(m, w, i, j, chosen);
         if chosen.size == 1 {

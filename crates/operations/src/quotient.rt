@@ -14,5 +14,8 @@ pub fn quotient(x: i64, d: i64) -> i64
     if x == 0 {
         return 0;
     }
+    if d == 1 {
+        return x;
+    }
     if x % d < 0 { x / d - 1 } else { x / d }
 }

@@ -5,8 +5,10 @@ ghost use lib.Signed.{_<ℤ_};
 ghost use Prim.Native.Nat.{suc, _+_, _-_, _<_, _≤_};
 ghost use lib.ListN.{length};
 ghost use Rattle.reduction_steps.specs.Step.{columnKeeps, rowKeeps, rowIndivisible, firstIndivisible};
+ghost use Rattle.lines.specs.Slice.{Small};
 ghost use Rattle.lines.specs.Matrices.{Held, contents};
 ghost use Rattle.operations.specs.Scan.{indivisibleRow};
+use lines::line::first_nonzero;
 use lines::matrix::Matrix;
 
 // Step c: whether column k keeps a nonzero entry below row k.
@@ -28,19 +30,11 @@ pub fn column_keeps(m: Matrix, w: &[i32], k: usize) -> bool
 
 // Step d: whether row k keeps a nonzero entry to the right of column k.
 pub fn row_keeps(m: Matrix, w: &[i32], k: usize) -> bool
-    requires { ⌜ Held (length (now w)) m ⌝ }
+    requires { ⌜ Held (length (now w)) m × Small (now w) ⌝ }
     requires { ⌜ (k < m .lines) × (k < m .width) ⌝ }
     ensures { λ r. ⌜ r ≡ rowKeeps (contents m (now (w .entry))) k (m .width - suc k) (suc k) ⌝ }
 {
-    let mut j = k + 1;
-    let width = m.width;
-    while j < width {
-        if m.entry(w, k, j) != 0 {
-            return true;
-        }
-        j = j + 1;
-    }
-    false
+    first_nonzero(w, m.line(k), k + 1, m.width) < m.width
 }
 
 pub enum Indivisible {

@@ -1,178 +1,84 @@
--- `line::subtract` meets its contract. The invariant: the places passed hold the difference, which lies within the limit. The measure is
--- what is left of the line. Assumes nothing.
+-- `line::subtract` meets its contract. The invariant: the blocks passed hold the difference. The measure is what is left of the line.
+-- Assumes nothing.
 use mathlib.Core.Path.{_≡_, sym, subst, _∙_}
-use mathlib.Core.Logic.{inl, inr, ⊎-elim}
-use mathlib.Core.List.{List}
-use Prim.Native.Nat.{ℕ, _+_, _-_, _<_, _≤_}
+use Prim.Native.Nat.{ℕ, _+_, _-_, _≤_}
 use native.Mathlib.Omega.{arith}
-use lib.ListN.{length, set}
-use lib.IntN.{ℤ, pos, natAbs, _-ℤ_, _*ℤ_}
-use native.Mathlib.Nat as NatL
-use Rattle.integers.specs.Ring.{zero-mul, add-zero}
-use mir.Syntax.{w32, w64}
-use mir.Val.{SFits, toZ}
-use Rattle.lines.specs.Slice.{limit, at, Apart, LineSet, Beyond, difference}
-use mir.Facts.{sfits-lit}
-use Rattle.lines.proofs.Store.{lineSet-same, lineSet-none, lineSet-more}
-use Rattle.lines.proofs.Words.{read, product, zero-of-bits, less, read-entry, read-wide, entry-fits, wide-fits, cast-fits, product-fits, less-fits, read-less, beyond-low, beyond-high, within}
+use borrow.Author.Needs.{needs}
+use lib.IntN.{ℤ}
+use mir.Syntax.{w64}
+use mir.Val.{toZ, ofZ}
+use Rattle.lines.specs.Slice.{Subtracted}
+use Rattle.lines.specs.declared.line.Effect.{Effect}
+use Rattle.lines.specs.declared.line.Effect.the-variants.{Done, TooWide}
+use Rattle.lines.proofs.Blocks.{Partly, begun, part-inside, part-apart, part-done, part-beyond, part-last, factor-read}
 use Rattle.lines.proofs.line.subtract.Statement.{statement}
 use Rattle.lines.proofs.line.subtract.Tie as tie
 
-record Invariant (w₀ : List ℤ) (target source width : ℕ) (q : ℤ) (t : ℕ) (w : List ℤ) : Type 0 where
-  below : t ≤ width
-  target-inside : target + width ≤ length w₀
-  source-inside : source + width ≤ length w₀
-  apart : Apart target source width
-  factor : natAbs q ≤ limit
-  so-far : LineSet w₀ target t (difference w₀ target source q) w
-
--- ---- a turn of the loop
-
-module _ {w₀ : List ℤ} {target source width : ℕ} {q : ℤ} {t : ℕ} {w : List ℤ} (inv : Invariant w₀ target source width q t w) (more : t < width) where
-  target-small : natAbs (at w (target + t)) ≤ limit
-  target-small = inv .so-far .small .bound (target + t)
-
-  source-small : natAbs (at w (source + t)) ≤ limit
-  source-small = inv .so-far .small .bound (source + t)
-
-  target-same : at w (target + t) ≡ at w₀ (target + t)
-  target-same = inv .so-far .off (target + t) (inr (omega arith))
-
-  source-same : at w (source + t) ≡ at w₀ (source + t)
-  source-same = inv .so-far .off (source + t) (⊎-elim (λ l. inr (omega arith)) (λ l. inl (omega arith)) (inv .apart))
-
-  cast-target : SFits w64 (read w32 (at w (target + t)))
-  cast-target = cast-fits (at w (target + t)) (entry-fits (at w (target + t)) target-small)
-
-  cast-source : SFits w64 (read w32 (at w (source + t)))
-  cast-source = cast-fits (at w (source + t)) (entry-fits (at w (source + t)) source-small)
-
-  product-word : SFits w64 (product q (at w (source + t)))
-  product-word = product-fits (at w (target + t)) q (at w (source + t)) target-small (inv .factor) source-small
-
-  less-word : SFits w64 (less (at w (target + t)) q (at w (source + t)))
-  less-word = less-fits (at w (target + t)) q (at w (source + t)) target-small (inv .factor) source-small
-
-  -- the difference as the machine computes it
-  abbrev computed : ℤ
-  computed = read w64 (less (at w (target + t)) q (at w (source + t)))
-
-  computed-is : computed ≡ difference w₀ target source q t
-  computed-is =
-      read-less (at w (target + t)) q (at w (source + t)) target-small (inv .factor) source-small
-      ∙ rw (target-same, source-same)
-
-  too-wide : limit < natAbs computed → Beyond w₀ width (difference w₀ target source q) w
-  too-wide l = record {
-    same-length = inv .so-far .same-length;
-    place = t;
-    below = more;
-    beyond = subst (λ (z : ℤ). limit < natAbs z) computed-is l;
-    small = inv .so-far .small;
-  }
-
-  again : natAbs computed ≤ limit → Invariant w₀ target source width q (t + 1) (set w (target + t) (read w32 computed))
-  again l = record {
-    below = omega arith;
-    target-inside = inv .target-inside;
-    source-inside = inv .source-inside;
-    apart = inv .apart;
-    factor = inv .factor;
-    so-far = subst (λ (z : ℤ). LineSet w₀ target (t + 1) (difference w₀ target source q) (set w (target + t) z))
-        (sym computed-is ∙ sym (read-entry computed l))
-        (lineSet-more w₀ w target t (difference w₀ target source q) (omega arith) (inv .so-far) (subst (λ (z : ℤ). natAbs z ≤ limit) computed-is l));
-  }
-
--- ---- the ways out
-
-ended : {w₀ : List ℤ} {target source width : ℕ} {q : ℤ} {t : ℕ} {w : List ℤ} → Invariant w₀ target source width q t w → width ≤ t
-    → LineSet w₀ target width (difference w₀ target source q) w
-ended {w₀} {target} {source} {width} {q} {t} {w} inv done =
-    subst (λ (n : ℕ). LineSet w₀ target n (difference w₀ target source q) w) (NatL.le-antisymm (inv .below) done) (inv .so-far)
-
-less-zero : (x q y : ℤ) → q ≡ pos 0 → x -ℤ q *ℤ y ≡ x
-less-zero x q y e = rw (e, zero-mul y, add-zero x)
-
 abbrev Inv-loop : tie.InvT-loop
-Inv-loop w₀ target source width q t₀ w t = Invariant w₀ target source width (toZ w64 q) t w
+Inv-loop w₀ target source width q t₀ w t = Partly w₀ target source width (toZ w64 q) t w
 
 abbrev μ-loop : tie.MeasureT-loop
 μ-loop w₀ target source width q t₀ w t = width - t
 
-returns : tie.Need-returns Inv-loop μ-loop
-returns c =
-    let w = c .before .args .w .now in let target = c .before .args .target in let source = c .before .args .source in
-    let q-zero = zero-of-bits (wide-fits (c .before .args .q) (c .before .pre .1 .1 .1)) (c .if1 .taken) in
-    lineSet-same w target (c .before .args .width) (difference w target source (c .before .args .q)) (c .before .pre .1 .1 .0)
-    (λ t. sym (less-zero (at w (target + t)) (c .before .args .q) (at w (source + t)) q-zero))
-
 loop-holds : tie.Need-loop-holds Inv-loop μ-loop
-loop-holds c =
-    let q = c .before .args .q in
-    record {
-      below = omega arith;
-      target-inside = c .before .pre .0 .0;
-      source-inside = c .before .pre .0 .1;
-      apart = c .before .pre .1 .0;
-      factor = subst (λ (k : ℤ). natAbs k ≤ limit) (sym (read-wide q (c .before .pre .1 .1 .1))) (c .before .pre .1 .1 .1);
-      so-far = lineSet-none (c .before .args .w .now) (c .before .args .target)
-          (difference (c .before .args .w .now) (c .before .args .target) (c .before .args .source) (read w64 q)) (c .before .pre .1 .1 .0);
-    }
+loop-holds c = begun (c .args .q) (c .pre .0) (c .pre .1 .0) (c .pre .1 .1 .0) (c .pre .1 .1 .1)
 
-cast-x : tie.Need-cast-x Inv-loop μ-loop
-cast-x c = cast-target (c .before .before .loop .inv) (c .before .loop-test .taken)
+add-loop : tie.Need-add-loop Inv-loop μ-loop
+add-loop c = omega (arith, c .loop .inv .below)
 
-cast-y : tie.Need-cast-y Inv-loop μ-loop
-cast-y c = cast-source (c .before .before .before .loop .inv) (c .before .before .loop-test .taken)
+subtract-block-requires : tie.Need-subtract-block-requires Inv-loop μ-loop
+subtract-block-requires c κs =
+    let partly = c .before .before .loop .inv in let inside = c .before .loop-test .taken in
+    (part-inside partly 16 inside, (part-apart partly 16 inside, (partly .so-far .small, partly .factor)))
 
-mul-v : tie.Need-mul-v Inv-loop μ-loop
-mul-v c = product-word (c .before .before .before .loop .inv) (c .before .before .loop-test .taken)
+enum-told : tie.Need-enum-told Inv-loop μ-loop
+enum-told c = search needs
 
-sub-v : tie.Need-sub-v Inv-loop μ-loop
-sub-v c = less-word (c .before .before .before .loop .inv) (c .before .before .loop-test .taken)
-
-sub-if2 : tie.Need-sub-if2 Inv-loop μ-loop
-sub-if2 c = sfits-lit tt
+enum-told-2 : tie.Need-enum-told-2 Inv-loop μ-loop
+enum-told-2 c = search needs
 
 same-length : tie.Need-same-length Inv-loop μ-loop
-same-length c = c .before .before .before .before .loop .inv .so-far .same-length
+same-length c = c .before .before .before .subtract-block .kept .0 ∙ c .before .before .before .before .before .before .loop .inv .so-far .same-length
+
+-- what the subtraction from a block came to
+became :
+    (c : tie.After-subtract-block Inv-loop μ-loop) (r : Effect) → c .subtract-block .result ≡ r
+    → (let loop = c .before .before .before .loop in let args = c .before .before .before .before .args in
+    Subtracted (loop .w) (args .target + loop .t) (args .source + loop .t) 16 (toZ w64 (ofZ w64 (args .q))) r (c .subtract-block .last .0))
+became c r e =
+    let loop = c .before .before .before .loop in let args = c .before .before .before .before .args in
+    subst (λ (r : Effect). Subtracted (loop .w) (args .target + loop .t) (args .source + loop .t) 16 (toZ w64 (ofZ w64 (args .q))) r (c .subtract-block .last .0)) e
+    (c .subtract-block .ensures)
+
+returns : tie.Need-returns Inv-loop μ-loop
+returns c =
+    let called = c .before .before .before in let loop = called .before .before .before in let start = loop .before in
+    factor-read (start .args .w .now) (start .args .target) (start .args .source) (start .args .width) (start .args .q) (start .pre .1 .1 .1) TooWide (called .subtract-block .last .0)
+    (part-beyond (loop .loop .inv) 16 (called .before .before .loop-test .taken) (became called TooWide (c .enum-told2 .given .1)))
+
+loop-again : tie.Need-loop-again Inv-loop μ-loop
+loop-again c =
+    let called = c .before .before .before in let loop = called .before .before .before in
+    part-done (loop .loop .inv) 16 (called .before .before .loop-test .taken) (became called Done (c .enum-told .given .1))
+
+subtract-places-requires : tie.Need-subtract-places-requires Inv-loop μ-loop
+subtract-places-requires c κs =
+    let loop = c .before .before .loop in let rest = c .before .before .before .args .width - loop .t in
+    let inside : loop .t + rest ≤ c .before .before .before .args .width = omega (arith, loop .inv .below) in
+    (part-inside (loop .inv) rest inside, (part-apart (loop .inv) rest inside, (loop .inv .so-far .small, loop .inv .factor)))
+
+same-length-2 : tie.Need-same-length-2 Inv-loop μ-loop
+same-length-2 c = c .before .subtract-places .kept .0 ∙ c .before .before .before .before .loop .inv .so-far .same-length
 
 returns-2 : tie.Need-returns-2 Inv-loop μ-loop
 returns-2 c =
-    let start = c .before .before .before .before .before .before in let inv = c .before .before .before .before .loop .inv in let more = c .before .before .before .loop-test .taken in
-    subst (λ (k : ℤ). Beyond (start .args .w .now) (start .args .width) (difference (start .args .w .now) (start .args .target) (start .args .source) k) (c .before .before .before .before .loop .w))
-    (read-wide (start .args .q) (start .pre .1 .1 .1)) (too-wide inv more (beyond-low (computed inv more) (c .if2 .taken)))
-
-same-length-2 : tie.Need-same-length-2 Inv-loop μ-loop
-same-length-2 c = c .before .before .before .before .before .loop .inv .so-far .same-length
-
-returns-3 : tie.Need-returns-3 Inv-loop μ-loop
-returns-3 c =
-    let start = c .before .before .before .before .before .before .before in let inv = c .before .before .before .before .before .loop .inv in let more = c .before .before .before .before .loop-test .taken in
-    subst (λ (k : ℤ). Beyond (start .args .w .now) (start .args .width) (difference (start .args .w .now) (start .args .target) (start .args .source) k) (c .before .before .before .before .before .loop .w))
-    (read-wide (start .args .q) (start .pre .1 .1 .1)) (too-wide inv more (beyond-high (computed inv more) (c .if3 .taken)))
-
-stays : (c : tie.Else3 Inv-loop μ-loop) → natAbs (computed (c .before .before .before .before .before .loop .inv) (c .before .before .before .before .loop-test .taken)) ≤ limit
-stays c = within (computed (c .before .before .before .before .before .loop .inv) (c .before .before .before .before .loop-test .taken)) (c .before .if2 .left) (c .if3 .left)
-
-cast-w : tie.Need-cast-w Inv-loop μ-loop
-cast-w c = entry-fits (computed (c .before .before .before .before .before .loop .inv) (c .before .before .before .before .loop-test .taken)) (stays c)
-
-loop-again : tie.Need-loop-again Inv-loop μ-loop
-loop-again c = again (c .before .before .before .before .before .loop .inv) (c .before .before .before .before .loop-test .taken) (stays c)
-
-same-length-3 : tie.Need-same-length-3 Inv-loop μ-loop
-same-length-3 c = c .before .loop .inv .so-far .same-length
-
-returns-4 : tie.Need-returns-4 Inv-loop μ-loop
-returns-4 c =
-    let start = c .before .before .before in
-    subst (λ (k : ℤ). LineSet (start .args .w .now) (start .args .target) (start .args .width) (difference (start .args .w .now) (start .args .target) (start .args .source) k) (c .before .loop .w))
-    (read-wide (start .args .q) (start .pre .1 .1 .1)) (ended (c .before .loop .inv) (c .loop-test .left))
+    let called = c .before .subtract-places in let loop = c .before .before .before .before in let start = loop .before in
+    let rest = start .args .width - loop .loop .t in
+    factor-read (start .args .w .now) (start .args .target) (start .args .source) (start .args .width) (start .args .q) (start .pre .1 .1 .1) (called .result) (called .last .0)
+    (part-last (loop .loop .inv) rest (omega (arith, loop .loop .inv .below)) (omega (arith, loop .loop .inv .below)) (called .result) (called .last .0) (called .ensures))
 
 pub subtract-spec : {M : Type 1} → statement M
 subtract-spec =
     tie.close
-    (tie.spec Inv-loop μ-loop returns loop-holds (λ c. omega arith) (λ c. omega arith) (λ c. omega arith) cast-x (λ c. omega arith) (λ c. omega arith)
-    (λ c. omega arith) cast-y mul-v sub-v sub-if2 same-length returns-2 same-length-2 returns-3 cast-w (λ c. omega arith) (λ c. omega arith)
-    (λ c. omega arith) (λ c. omega arith) (λ c. omega arith) loop-again same-length-3 returns-4)
+    (tie.spec Inv-loop μ-loop loop-holds add-loop (λ c. search needs) (λ c. search needs) subtract-block-requires enum-told
+    enum-told-2 same-length returns (λ c. search needs) (λ c. search needs) loop-again (λ c. search needs) (λ c. search needs) (λ c. search needs) subtract-places-requires same-length-2 returns-2)

@@ -241,8 +241,13 @@ module _ (t : ℕ) (c : column-pass-lts.After-enum-told (column-pass-calls t) (c
 
 column-pass-row-keeps-requires : (t : ℕ) → column-pass-lts.Need-row-keeps-requires (column-pass-calls t) (column-pass-at t) column-pass.Post
 column-pass-row-keeps-requires t c κs =
-    let h = column-start t (c .before) .pre .1 in
-    (held-matrix (laid-kept (c .before .before .before .before .clear-row .last .1 .0) (h .laid) (c .before .before .before .before .clear-row .kept .1 .0)), (h .ready .ready .row, h .ready .ready .column))
+    let h = column-start t (c .before) .pre .1 in (
+      (
+        held-matrix (laid-kept (c .before .before .before .before .clear-row .last .1 .0) (h .laid) (c .before .before .before .before .clear-row .kept .1 .0)),
+        columns-made t (c .before) .kept .small,
+      ),
+      (h .ready .ready .row, h .ready .ready .column),
+    )
 
 column-to-choice :
     (t : ℕ) (c : column-pass-lts.Then1 (column-pass-calls t) (column-pass-at t) column-pass.Post)

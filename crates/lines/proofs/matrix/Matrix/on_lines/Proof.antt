@@ -1,143 +1,32 @@
--- `Matrix::on_lines` meets its contract, by what `line::subtract`, `line::swap` and `line::negate` ensure of lines of the matrix. Assumes
--- nothing.
-use mathlib.Core.Path.{_≡_, refl, sym, subst}
-use mathlib.Core.Logic.{inl}
-use Prim.Native.Nat.{_≤_}
-use lib.IntN.{ℤ, natAbs}
-use mir.Syntax.{w64}
-use Rattle.matrices.specs.Operation.{subtract, swap, negate, onRows}
-use Rattle.lines.specs.Slice.{limit}
-use Rattle.lines.specs.Matrices.{contents, Became}
-use Rattle.lines.specs.Operations.{Fits}
-use Rattle.lines.proofs.Words.{read, read-wide}
-use Rattle.lines.proofs.Spans.{Span, line-span, span-inside, spans-apart, spans-one-or-apart}
-use Rattle.lines.proofs.Operations.{subtract-lines, swap-lines, negate-line, fits-case, became-case}
+-- `Matrix::on_lines` meets its contract: a subtraction by what `line::subtract` ensures, another operation by `on_narrow_lines`. Assumes nothing.
 use borrow.Author.Needs.{needs}
+use Rattle.lines.proofs.Subtraction.{changed-below, taken-below, subtraction-asks, subtraction-came}
 use Rattle.lines.proofs.matrix.Matrix.on_lines.Statement.{statement}
 use Rattle.lines.proofs.matrix.Matrix.on_lines.Tie as tie
 
--- ---- a subtraction
-
-module _ (c : tie.After-op) where
-  abbrev subtracting : tie.Start
-  subtracting = c .before .before
-
-  subtract-fits : Fits (subtracting .args .self .lines) (subtract (c .op .given .0 .0) (c .op .given .0 .1 .0) (c .op .given .0 .1 .1 .0))
-  subtract-fits = fits-case (c .op .given .1) (subtracting .pre .1 .1)
-
 line-requires : tie.Need-line-requires
-line-requires c κs = search (needs, subtract-fits (c .before .before) .within .changed)
+line-requires c κs =
+    let at = c .before .before in
+    search (needs, changed-below (at .op .given .1) (at .before .before .args .self) (at .before .before .pre .1 .1))
 
 line-requires-2 : tie.Need-line-requires-2
-line-requires-2 c κs = search (needs, subtract-fits (c .before .before .before) .within .taken)
-
-module _ (c : tie.After-line2) where
-  abbrev subtraction : tie.After-op
-  subtraction = c .before .before .before .before
-
-  target : Span (subtracting subtraction .args .self) (c .before .line .result) (subtraction .op .given .0 .0) 0 (subtracting subtraction .args .self .width)
-  target =
-      line-span (subtracting subtraction .args .self) (c .before .line .result) (subtraction .op .given .0 .0) (c .before .line .ensures)
-      (subtract-fits subtraction .within .changed)
-
-  source : Span (subtracting subtraction .args .self) (c .line2 .result) (subtraction .op .given .0 .1 .0) 0 (subtracting subtraction .args .self .width)
-  source =
-      line-span (subtracting subtraction .args .self) (c .line2 .result) (subtraction .op .given .0 .1 .0) (c .line2 .ensures)
-      (subtract-fits subtraction .within .taken)
-
-  factor-read : read w64 (subtraction .op .given .0 .1 .1 .0) ≡ subtraction .op .given .0 .1 .1 .0
-  factor-read = read-wide (subtraction .op .given .0 .1 .1 .0) (subtract-fits subtraction .factor)
+line-requires-2 c κs =
+    let at = c .before .before .before in
+    search (needs, taken-below (at .op .given .1) (at .before .before .args .self) (at .before .before .pre .1 .1))
 
 subtract-requires : tie.Need-subtract-requires
 subtract-requires c κs =
-    let start = subtracting (subtraction c) in let fits = subtract-fits (subtraction c) in (
-      (span-inside (target c) (start .pre .0), span-inside (source c) (start .pre .0)),
-      (
-        spans-apart (target c) (source c) (inl (fits .within .distinct)),
-        (start .pre .1 .0, subst (λ (q : ℤ). natAbs q ≤ limit) (sym (factor-read c)) (fits .factor)),
-      ),
-    )
+    let at = c .before .before .before .before in let start = at .before .before in
+    subtraction-asks (at .op .given .1) (start .args .self) (start .pre .1 .1) (c .before .line .ensures) (c .line2 .ensures) (start .pre .0) (start .pre .1 .0)
 
 returns : tie.Need-returns
 returns c =
-    let at = c .before .before in let args = subtracting (subtraction at) .args in let given = subtraction at .op .given in
+    let lines = c .before .before in let at = lines .before .before .before .before in let start = at .before .before in
     let called = c .before .subtract in
-    became-case (given .1) (args .self) (args .w .now) (called .last .0) (called .result)
-    (subst (λ (q : ℤ). Became (args .self) (args .w .now) (onRows (subtract (given .0 .0) (given .0 .1 .0) q) (contents (args .self) (args .w .now))) (called .result) (called .last .0))
-    (factor-read at)
-    (subtract-lines (target at) (source at) (args .w .now) (called .last .0) (read w64 (given .0 .1 .1 .0)) (called .result) (called .ensures)))
-
--- ---- an exchange
-
-module _ (c : tie.After-op2) where
-  abbrev swapping : tie.Start
-  swapping = c .before .before
-
-  swap-fits : Fits (swapping .args .self .lines) (swap (c .op2 .given .0 .0) (c .op2 .given .0 .1 .0))
-  swap-fits = fits-case (c .op2 .given .1) (swapping .pre .1 .1)
-
-line-requires-3 : tie.Need-line-requires-3
-line-requires-3 c κs = search (needs, swap-fits (c .before .before) .within .first)
-
-line-requires-4 : tie.Need-line-requires-4
-line-requires-4 c κs = search (needs, swap-fits (c .before .before .before) .within .second)
-
-module _ (c : tie.After-line4) where
-  abbrev exchange : tie.After-op2
-  exchange = c .before .before .before .before
-
-  first : Span (swapping exchange .args .self) (c .before .line3 .result) (exchange .op2 .given .0 .0) 0 (swapping exchange .args .self .width)
-  first =
-      line-span (swapping exchange .args .self) (c .before .line3 .result) (exchange .op2 .given .0 .0) (c .before .line3 .ensures)
-      (swap-fits exchange .within .first)
-
-  second : Span (swapping exchange .args .self) (c .line4 .result) (exchange .op2 .given .0 .1 .0) 0 (swapping exchange .args .self .width)
-  second =
-      line-span (swapping exchange .args .self) (c .line4 .result) (exchange .op2 .given .0 .1 .0) (c .line4 .ensures)
-      (swap-fits exchange .within .second)
-
-swap-requires : tie.Need-swap-requires
-swap-requires c κs =
-    let start = swapping (exchange c) in
-    ((span-inside (first c) (start .pre .0), span-inside (second c) (start .pre .0)), (spans-one-or-apart (first c) (second c) (inl refl), start .pre .1 .0))
-
-returns-2 : tie.Need-returns-2
-returns-2 c =
-    let at = c .before .before in let args = swapping (exchange at) .args in let called = c .before .swap in
-    became-case (exchange at .op2 .given .1) (args .self) (args .w .now) (called .last .0) (called .result)
-    (swap-lines (first at) (second at) (args .w .now) (called .last .0) (called .result) (called .ensures))
-
--- ---- a negation
-
-module _ (c : tie.After-op3) where
-  abbrev negating : tie.Start
-  negating = c .before .before
-
-  negate-fits : Fits (negating .args .self .lines) (negate (c .op3 .given .0 .0))
-  negate-fits = fits-case (c .op3 .given .1) (negating .pre .1 .1)
-
-line-requires-5 : tie.Need-line-requires-5
-line-requires-5 c κs = search (needs, negate-fits (c .before .before) .within)
-
-module _ (c : tie.After-line5) where
-  abbrev negation : tie.After-op3
-  negation = c .before .before .before
-
-  negated : Span (negating negation .args .self) (c .line5 .result) (negation .op3 .given .0 .0) 0 (negating negation .args .self .width)
-  negated =
-      line-span (negating negation .args .self) (c .line5 .result) (negation .op3 .given .0 .0) (c .line5 .ensures) (negate-fits negation .within)
-
-negate-requires : tie.Need-negate-requires
-negate-requires c κs = (span-inside (negated c) (negating (negation c) .pre .0), negating (negation c) .pre .1 .0)
-
-returns-3 : tie.Need-returns-3
-returns-3 c =
-    let at = c .before .before in let args = negating (negation at) .args in let called = c .before .negate in
-    became-case (negation at .op3 .given .1) (args .self) (args .w .now) (called .last .0) (called .result)
-    (negate-line (negated at) (args .w .now) (called .last .0) (called .result) (called .ensures))
+    subtraction-came (at .op .given .1) (start .args .self) (start .pre .1 .1) (lines .before .line .ensures) (lines .line2 .ensures) (start .args .w .now) (called .last .0) (called .result) (called .ensures)
 
 pub on-lines-spec : {M : Type 1} → statement M
 on-lines-spec =
     tie.close
-    (tie.spec (λ c. search needs) line-requires line-requires-2 subtract-requires (λ c. search needs) line-requires-3 line-requires-4 swap-requires
-    (λ c. search needs) line-requires-5 negate-requires (λ c. search needs) returns (λ c. search needs) returns-2 (λ c. search needs) returns-3)
+    (tie.spec (λ c. search needs) line-requires line-requires-2 subtract-requires (λ c. search needs) returns (λ c κs. search needs) (λ c. search needs)
+    (λ c. search needs))

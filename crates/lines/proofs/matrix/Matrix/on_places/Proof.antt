@@ -1,4 +1,4 @@
--- `Matrix::on_places` meets its contract, by what `on_lines` ensures of the places of a line. The invariant: the lines passed have been changed.
+-- `Matrix::on_places` meets its contract, by what `on_narrow_lines` ensures of the places of a line. The invariant: the lines passed have been changed.
 -- The measure is how many are left. Assumes nothing.
 use mathlib.Core.Path.{_≡_, refl, sym, subst, _∙_}
 use mathlib.Core.List.{List}
@@ -67,18 +67,18 @@ module _ (c : tie.After-op Inv-loop μ-loop) where
 places-requires : tie.Need-places-requires Inv-loop μ-loop
 places-requires c κs = search (needs, alone (c .before) .line)
 
-on-lines-requires : tie.Need-on-lines-requires Inv-loop μ-loop
-on-lines-requires c κs =
+on-narrow-lines-requires : tie.Need-on-narrow-lines-requires Inv-loop μ-loop
+on-narrow-lines-requires c κs =
     let op = c .before .before .before in let start = subtracting op in
     let ready = places-ready (c .before .places .ensures) (alone op .line) (start .pre .0) (fits-case (op .op .given .1) (start .pre .1 .1 .0)) in
     (ready .held, (start .pre .1 .0, ready .fits))
 
 same-length : tie.Need-same-length Inv-loop μ-loop
-same-length c = c .before .on-lines .kept .1 .0
+same-length c = c .before .on-narrow-lines .kept .1 .0
 
 returns : tie.Need-returns Inv-loop μ-loop
 returns c =
-    let op = c .before .before .before .before .before in let start = subtracting op in let called = c .before .on-lines in
+    let op = c .before .before .before .before .before in let start = subtracting op in let called = c .before .on-narrow-lines in
     subtract-became (op .op .given .1) (start .args .self) (start .args .w .now) (start .pre .1 .1 .1) (c .before .before .before .places .ensures) (start .pre .1 .1 .0)
     (called .last .1 .0) (called .result) (called .ensures)
 
@@ -97,8 +97,8 @@ module _ (c : tie.After-places2 Inv-loop μ-loop) where
   held : Held (length (head .loop .w)) (start .args .self)
   held = record { ends = omega (arith, start .pre .0 .ends, head .loop .inv .so-far .same-length) }
 
-on-lines-requires-2 : tie.Need-on-lines-requires-2 Inv-loop μ-loop
-on-lines-requires-2 c κs =
+on-narrow-lines-requires-2 : tie.Need-on-narrow-lines-requires-2 Inv-loop μ-loop
+on-narrow-lines-requires-2 c κs =
     let at = c .before in
     let ready = places-ready (at .places2 .ensures) (at .before .loop-test .taken) (held at) (start at .pre .1 .1 .0) in
     (ready .held, (head at .loop .inv .so-far .small, ready .fits))
@@ -111,18 +111,18 @@ enum-told-2 c = c .match2 .keys2
 
 -- what the operation on line i came to
 became :
-    (c : tie.After-on-lines2 Inv-loop μ-loop) (r : Effect) → c .on-lines2 .result ≡ r
+    (c : tie.After-on-narrow-lines2 Inv-loop μ-loop) (r : Effect) → c .on-narrow-lines2 .result ≡ r
     → (let at = c .before .before in let P = placesOf (start at .args .self) (head at .loop .i) in
-    Became P (head at .loop .w) (onRows (operationOf (start at .args .op)) (contents P (head at .loop .w))) r (c .on-lines2 .last .1 .0))
+    Became P (head at .loop .w) (onRows (operationOf (start at .args .op)) (contents P (head at .loop .w))) r (c .on-narrow-lines2 .last .1 .0))
 became c r e =
     let at = c .before .before in
-    became-places (start at .args .self) (head at .loop .i) (at .places2 .ensures) (operationOf (start at .args .op)) (head at .loop .w) (c .on-lines2 .last .1 .0) r
+    became-places (start at .args .self) (head at .loop .i) (at .places2 .ensures) (operationOf (start at .args .op)) (head at .loop .w) (c .on-narrow-lines2 .last .1 .0) r
     (subst
-    (λ (r : Effect). Became (at .places2 .result) (head at .loop .w) (onRows (operationOf (start at .args .op)) (contents (at .places2 .result) (head at .loop .w))) r (c .on-lines2 .last .1 .0))
-    e (c .on-lines2 .ensures))
+    (λ (r : Effect). Became (at .places2 .result) (head at .loop .w) (onRows (operationOf (start at .args .op)) (contents (at .places2 .result) (head at .loop .w))) r (c .on-narrow-lines2 .last .1 .0))
+    e (c .on-narrow-lines2 .ensures))
 
 same-length-2 : tie.Need-same-length-2 Inv-loop μ-loop
-same-length-2 c = let called = c .before .before .before in called .on-lines2 .kept .1 .0 ∙ head (called .before .before) .loop .inv .so-far .same-length
+same-length-2 c = let called = c .before .before .before in called .on-narrow-lines2 .kept .1 .0 ∙ head (called .before .before) .loop .inv .so-far .same-length
 
 returns-2 : tie.Need-returns-2 Inv-loop μ-loop
 returns-2 c =
@@ -148,5 +148,5 @@ returns-3 c = ended (c .before .loop .inv) (c .loop-test .left)
 pub on-places-spec : {M : Type 1} → statement M
 on-places-spec =
     tie.close
-    (tie.spec Inv-loop μ-loop enum-known-op places-requires on-lines-requires same-length returns loop-holds (λ c κs. search needs)
-    on-lines-requires-2 enum-told enum-told-2 same-length-2 returns-2 (λ c. omega arith) (λ c. omega arith) loop-again same-length-3 returns-3)
+    (tie.spec Inv-loop μ-loop enum-known-op places-requires on-narrow-lines-requires same-length returns loop-holds (λ c κs. search needs)
+    on-narrow-lines-requires-2 enum-told enum-told-2 same-length-2 returns-2 (λ c. omega arith) (λ c. omega arith) loop-again same-length-3 returns-3)

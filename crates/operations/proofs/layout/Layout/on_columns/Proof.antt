@@ -5,7 +5,6 @@ use borrow.Author.Needs.{needs}
 use Rattle.lines.specs.Operations.{operationOf}
 use Rattle.operations.proofs.Side.{columns, matrix-held}
 use Rattle.operations.proofs.Operate.{Task, wide-matrix, follower-ready, wide-follower, undone-ready, operated}
-use Rattle.operations.proofs.Unchanged.{unchanged}
 use Rattle.operations.proofs.layout.Layout.on_columns.Statement.{statement}
 use Rattle.operations.proofs.layout.Layout.on_columns.Tie as tie
 
@@ -19,30 +18,24 @@ task s = record {
   fits = s .pre .1 .1 .0;
 }
 
-is-identity-requires : tie.Need-is-identity-requires
-is-identity-requires c κs = tt
-
-returns : tie.Need-returns
-returns c = let s = c .before .before in unchanged (task s) (s .pre .1 .0) (c .before .is-identity .ensures .on-true (c .if1 .taken))
-
 inverse-requires : tie.Need-inverse-requires
-inverse-requires c κs = task (c .before .before) .fits .factor
+inverse-requires c κs = task c .fits .factor
 
 on-places-requires : tie.Need-on-places-requires
-on-places-requires c κs = let s = c .before .before .before .before in (matrix-held (s .pre .0), s .pre .1)
+on-places-requires c κs = let s = c .before .before in (matrix-held (s .pre .0), s .pre .1)
 
 same-length : tie.Need-same-length
 same-length c = c .before .before .before .on-places .kept .1 .0
 
-returns-2 : tie.Need-returns-2
-returns-2 c =
-    let s = c .before .before .before .before .before .before .before .before in
+returns : tie.Need-returns
+returns c =
+    let s = c .before .before .before .before .before .before in
     let a = c .before .before .before .on-places in
     wide-matrix (task s) (a .last .1 .0) (a .result) (a .ensures) (c .enum-told2 .given .1)
 
 on-lines-requires : tie.Need-on-lines-requires
 on-lines-requires c κs =
-    let s = c .before .before .before .before .before .before .before .before .before in
+    let s = c .before .before .before .before .before .before .before in
     let a = c .before .before .before .before .on-places in
     let ready = follower-ready (task s) (a .last .1 .0) (a .result) (a .ensures) (c .before .enum-told .given .1) in
     (ready .held, (ready .small, ready .fits))
@@ -50,9 +43,9 @@ on-lines-requires c κs =
 same-length-2 : tie.Need-same-length-2
 same-length-2 c = c .before .before .before .on-lines .kept .1 .0 ∙ c .before .before .before .before .before .before .before .before .on-places .kept .1 .0
 
-returns-3 : tie.Need-returns-3
-returns-3 c =
-    let s = c .before .before .before .before .before .before .before .before .before .before .before .before .before in
+returns-2 : tie.Need-returns-2
+returns-2 c =
+    let s = c .before .before .before .before .before .before .before .before .before .before .before in
     let a = c .before .before .before .before .before .before .before .before .on-places in
     let b = c .before .before .before .on-lines in
     wide-follower (task s)
@@ -61,7 +54,7 @@ returns-3 c =
 
 on-lines-requires-2 : tie.Need-on-lines-requires-2
 on-lines-requires-2 c κs =
-    let s = c .before .before .before .before .before .before .before .before .before .before .before .before .before .before in
+    let s = c .before .before .before .before .before .before .before .before .before .before .before .before in
     let a = c .before .before .before .before .before .before .before .before .before .on-places in
     let b = c .before .before .before .before .on-lines in
     let inverse = c .before .before .before .before .before .before .before .before .before .before .before .inverse in
@@ -75,9 +68,9 @@ on-lines-requires-2 c κs =
 same-length-3 : tie.Need-same-length-3
 same-length-3 c = c .before .on-lines2 .kept .1 .0 ∙ c .before .before .before .before .before .before .on-lines .kept .1 .0 ∙ c .before .before .before .before .before .before .before .before .before .before .before .on-places .kept .1 .0
 
-returns-4 : tie.Need-returns-4
-returns-4 c =
-    let s = c .before .before .before .before .before .before .before .before .before .before .before .before .before .before .before .before in
+returns-3 : tie.Need-returns-3
+returns-3 c =
+    let s = c .before .before .before .before .before .before .before .before .before .before .before .before .before .before in
     let a = c .before .before .before .before .before .before .before .before .before .before .before .on-places in
     let b = c .before .before .before .before .before .before .on-lines in
     let inverse = c .before .before .before .before .before .before .before .before .before .before .before .before .before .inverse in
@@ -91,5 +84,5 @@ returns-4 c =
 pub on-columns-spec : {M : Type 1} → statement M
 on-columns-spec =
     tie.close
-    (tie.spec is-identity-requires returns inverse-requires on-places-requires (λ c. search needs) (λ c. search needs) same-length returns-2
-    on-lines-requires (λ c. search needs) (λ c. search needs) same-length-2 returns-3 on-lines-requires-2 same-length-3 returns-4)
+    (tie.spec inverse-requires on-places-requires (λ c. search needs) (λ c. search needs) same-length returns
+    on-lines-requires (λ c. search needs) (λ c. search needs) same-length-2 returns-2 on-lines-requires-2 same-length-3 returns-3)
