@@ -30,6 +30,10 @@ Apart a b width = (a + width ≤ b) ⊎ (b + width ≤ a)
 abbrev pub Off : ℕ → ℕ → ℕ → Type 0
 Off a width i = (i < a) ⊎ (a + width ≤ i)
 
+-- how many places the code tests for 0 at once
+abbrev pub block : ℕ
+block = 8
+
 -- what a test for 0 of the n entries from a on tells
 pub record ZerosTold (w : List ℤ) (a n : ℕ) (r : Bool) : Type 0 where
   pub zeros : r ≡ true → (t : ℕ) → t < n → at w (a + t) ≡ pos 0

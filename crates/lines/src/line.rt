@@ -5,7 +5,7 @@ ghost use mathlib.Core.Logic.{_⊎_};
 ghost use Prim.Native.Nat.{_+_, _≤_};
 ghost use lib.ListN.{length, replicate};
 ghost use lib.IntN.{pos, natAbs};
-ghost use Rattle.lines.specs.Slice.{limit, Small, Apart, ZerosTold, ZerosTo, FirstNonzero, Subtracted, Swapped, Negated};
+ghost use Rattle.lines.specs.Slice.{limit, block, Small, Apart, ZerosTold, ZerosTo, FirstNonzero, Subtracted, Swapped, Negated};
 use crate::matrix::Matrix;
 
 // What an operation answers.
@@ -15,12 +15,12 @@ pub enum Effect {
 }
 
 // How many places are tested for 0 at once.
-const BLOCK: usize = 16;
+const BLOCK: usize = 8;
 
 // Whether the BLOCK entries from `at` on are 0. The loop has no way out before its end, so that the compiler tests several entries at once.
 fn is_zero_block(w: &[i32], at: usize) -> bool
-    requires { ⌜ (at + 16 ≤ length (now w)) × Small (now w) ⌝ }
-    ensures { λ r. ⌜ ZerosTold (now (w .entry)) at 16 r ⌝ }
+    requires { ⌜ (at + block ≤ length (now w)) × Small (now w) ⌝ }
+    ensures { λ r. ⌜ ZerosTold (now (w .entry)) at block r ⌝ }
 {
     let mut nonzero = false;
     let mut t: usize = 0;
@@ -90,11 +90,11 @@ pub fn subtract_places(w: &mut [i32], target: usize, source: usize, width: usize
 
 // The same for one block: where the source is 0 the target keeps its entries.
 fn subtract_block(w: &mut [i32], target: usize, source: usize, q: i64) -> Effect
-    requires { ⌜ (target + 16 ≤ length (now w)) × (source + 16 ≤ length (now w)) ⌝ }
-    requires { ⌜ Apart target source 16 ⌝ }
+    requires { ⌜ (target + block ≤ length (now w)) × (source + block ≤ length (now w)) ⌝ }
+    requires { ⌜ Apart target source block ⌝ }
     requires { ⌜ Small (now w) ⌝ }
     requires { ⌜ natAbs q ≤ limit ⌝ }
-    ensures { λ r. ⌜ Subtracted (now (w .entry)) target source 16 q r (now (w .exit)) ⌝ }
+    ensures { λ r. ⌜ Subtracted (now (w .entry)) target source block q r (now (w .exit)) ⌝ }
 {
     if is_zero_block(w, source) {
         return Effect::Done;

@@ -24,6 +24,7 @@ use Rattle.lines.specs.Slice.{at, lineAt, FirstNonzero}
 use Rattle.lines.specs.Matrices.{contents}
 use Rattle.lines.specs.declared.matrix.Matrix as lines
 use Rattle.lines.proofs.Words.{read}
+use Rattle.operations.specs.Scan.{ColumnReduced}
 use Rattle.operations.proofs.Division.{of-bits, remainder-zero, zero-remainder}
 use Rattle.reduction_steps.specs.Step.{columnKeeps, rowKeeps, rowIndivisible, noRow, row, firstIndivisible}
 
@@ -104,6 +105,18 @@ module _ (A : Matrix) where
   unfolding rowIndivisible any
   rowIndivisible-any d i zero j = refl
   rowIndivisible-any d i (suc more) j = rw (rowIndivisible-any d i more (suc j))
+
+-- where the pivot is 1, a reduced column keeps none
+pub columnKeeps-one : (A : Matrix) {k rows : ℕ} → k < rows → ColumnReduced A k rows → A k k ≡ pos 1 → columnKeeps A k (rows - suc k) (suc k) ≡ false
+columnKeeps-one A {k} {rows} below reduced e =
+    columnKeeps-any A k (rows - suc k) (suc k)
+    ∙ looking-ends
+    (looking-none (looking-starts (λ a. nonzero (A a k)) below) (rows - suc k) (omega arith)
+    (λ x l. rw (zero-size (suc k + x) (omega arith) (omega arith))))
+    (omega arith)
+  where
+    zero-size : (i : ℕ) → k < i → i < rows → natAbs (A i k) ≡ 0
+    zero-size i a b = omega (arith, reduced .less i a b, ap natAbs e)
 
 -- a row keeps a nonzero entry after place k exactly where the first one stands before its end
 pub rowKeeps-first :

@@ -1,6 +1,6 @@
 -- What the scans of the matrix answer.
 use mathlib.Core.Path.{_≡_}
-use Prim.Native.Nat.{ℕ, zero, suc}
+use Prim.Native.Nat.{ℕ, zero, suc, _<_}
 use lib.IntN.{ℤ, pos, negsuc, natAbs}
 use Rattle.matrices.specs.Matrix.{Matrix}
 use Rattle.reduction_steps.specs.Pivot.{Choice, none, place}
@@ -39,3 +39,7 @@ pivotChoice pivot.Nothing = none
 abbrev pub indivisibleRow : Indivisible → Row
 indivisibleRow (indivisible.Row i) = row i
 indivisibleRow indivisible.Nothing = noRow
+
+-- below row k, column k of a matrix of so many rows holds numbers of lesser absolute value than the pivot
+pub record ColumnReduced (A : Matrix) (k rows : ℕ) : Type 0 where
+  pub less : (i : ℕ) → k < i → i < rows → natAbs (A i k) < natAbs (A k k)

@@ -7,16 +7,19 @@ ghost use lib.ListN.{length};
 ghost use Rattle.reduction_steps.specs.Step.{columnKeeps, rowKeeps, rowIndivisible, firstIndivisible};
 ghost use Rattle.lines.specs.Slice.{Small};
 ghost use Rattle.lines.specs.Matrices.{Held, contents};
-ghost use Rattle.operations.specs.Scan.{indivisibleRow};
+ghost use Rattle.operations.specs.Scan.{ColumnReduced, indivisibleRow};
 use lines::line::first_nonzero;
 use lines::matrix::Matrix;
 
-// Step c: whether column k keeps a nonzero entry below row k.
+// Step c: whether column k keeps a nonzero entry below row k, each of which is a remainder by the pivot. By 1 all remainders are 0.
 pub fn column_keeps(m: Matrix, w: &[i32], k: usize) -> bool
     requires { ⌜ Held (length (now w)) m ⌝ }
-    requires { ⌜ (k < m .lines) × (k < m .width) ⌝ }
+    requires { ⌜ (k < m .lines) × (k < m .width) × ColumnReduced (contents m (now w)) k (m .lines) ⌝ }
     ensures { λ r. ⌜ r ≡ columnKeeps (contents m (now (w .entry))) k (m .lines - suc k) (suc k) ⌝ }
 {
+    if m.entry(w, k, k) == 1 {
+        return false;
+    }
     let mut i = k + 1;
     let lines = m.lines;
     while i < lines {

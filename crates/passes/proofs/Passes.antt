@@ -20,13 +20,16 @@ use Rattle.reduction_steps.specs.State.{Sizes, State, Outcome, tooWide, made, a
 use Rattle.reduction_steps.specs.Step.{quotient, rowPass, columnPass}
 use Rattle.reduction_laws.specs.Letters.{ReadyC}
 use Rattle.reduction_laws.specs.Led.{Led, led-row, led-column}
-use Rattle.lines.specs.Slice.{limit, Small}
+use Rattle.lines.specs.Slice.{limit, at, lineAt, Small, FirstNonzero}
 use Rattle.lines.specs.Matrices.{contents}
 use Rattle.operations.specs.Laid.{Laid, sizesOf, stateOf}
 use Rattle.operations.specs.declared.layout.Layout.{Layout}
+use Rattle.operations.proofs.Division.{floor-zero}
+use Rattle.operations.proofs.Unchanged.{columns-unchanged}
 use Rattle.refusal.specs.declared.Refusal.the-variants as Refusal
 use Rattle.passes.specs.Answer.{Placed, ColumnClear, rowPassOf, columnPassOf, PassMade, PassRefused}
-use Rattle.passes.proofs.States.{entry-state, shaped-state, rowsDone-moves}
+use Rattle.lines.proofs.Spans.{line-span, span-inside}
+use Rattle.passes.proofs.States.{held-matrix, entry-state, shaped-state, rowsDone-moves}
 
 -- ---- one operation of a pass
 
@@ -225,6 +228,39 @@ module _ {W : Layout} {k : ℕ} {w₀ : List ℤ} {j : ℕ} {w : List ℤ} (h : 
       sym column-rest
       ∙ columnPass-wide limit (sizesOf W) k (W .matrix .width - suc j) j (stateOf W w)
       (column-operation e ∙ o)
+
+-- row k lies within the slice
+module _ {W : Layout} {k n : ℕ} {s : State} (laid : Laid n W) (ready : ReadyC (sizesOf W) k s) where
+  pub row-inside : {a : ℕ} → a ≡ lineAt (W .matrix .at) (W .matrix .width) k → a + W .matrix .width ≤ n
+  row-inside {a} e = span-inside (line-span (W .matrix) a k e (ready .row)) (held-matrix laid)
+
+-- a column whose entry in row k is 0
+pub columns-zero :
+    {W : Layout} {k : ℕ} {w₀ : List ℤ} {j : ℕ} {w : List ℤ} → ColumnPassing W k w₀ j w → j < W .matrix .width → contents (W .matrix) w k j ≡ pos 0
+    → ColumnPassing W k w₀ (j + 1) w
+columns-zero {W} {k} {w₀} {j} {w} h below e =
+    columns-next h below (sym (ap (λ (x : ℤ). floor x (contents (W .matrix) w k k)) e ∙ floor-zero (contents (W .matrix) w k k))) refl (h .clear .small)
+    (columns-unchanged W w (h .clear .laid) (h .clear .small) (subtract j k (pos 0)) refl (record {
+      within = record { changed = below; taken = h .clear .ready .ready .column; distinct = λ same. omega (arith, h .from) };
+      factor = omega arith;
+    }))
+
+pub columns-zeros :
+    {W : Layout} {k : ℕ} {w₀ : List ℤ} {j : ℕ} {w : List ℤ} → ColumnPassing W k w₀ j w → (t : ℕ) → j + t ≤ W .matrix .width
+    → ((s : ℕ) → s < t → contents (W .matrix) w k (j + s) ≡ pos 0) → ColumnPassing W k w₀ (j + t) w
+columns-zeros {W} {k} {w₀} {j} {w} h zero l zeros = subst (λ (x : ℕ). ColumnPassing W k w₀ x w) (omega arith) h
+columns-zeros {W} {k} {w₀} {j} {w} h (suc t) l zeros =
+    subst (λ (x : ℕ). ColumnPassing W k w₀ x w) (omega arith)
+    (columns-zero (columns-zeros h t (omega arith) (λ s m. zeros s (omega arith))) (omega arith) (zeros t (omega arith)))
+
+-- the first nonzero entry of row k, which stands at a, from column j on
+pub columns-first :
+    {W : Layout} {k : ℕ} {w₀ : List ℤ} {j : ℕ} {w : List ℤ} → ColumnPassing W k w₀ j w → {a r : ℕ} → a ≡ lineAt (W .matrix .at) (W .matrix .width) k
+    → FirstNonzero w a j (W .matrix .width) r → ColumnPassing W k w₀ r w
+columns-first {W} {k} {w₀} {j} {w} h {a} {r} e first =
+    subst (λ (x : ℕ). ColumnPassing W k w₀ x w) (omega (arith, first .passed .begins))
+    (columns-zeros h (r - j) (omega (arith, first .passed .begins, first .passed .ends))
+    (λ s l. ap (λ (x : ℕ). at w (x + (j + s))) (sym e) ∙ first .passed .zeros (j + s) (omega arith) (omega arith)))
 
 -- after the last column
 pub columns-end : {W : Layout} {k : ℕ} {w₀ : List ℤ} {j : ℕ} {w : List ℤ} → ColumnPassing W k w₀ j w → W .matrix .width ≤ j → PassMade W (columnPassOf W k w₀) (length w₀) w

@@ -1,9 +1,10 @@
-// The passes of steps c and d. An operation that goes too wide ends the call there: the slice is cleared. A quotient of 0 changes nothing, and no
-// operation is called for it.
+// The passes of steps c and d. An operation that goes too wide ends the call there: the slice is cleared. An entry of 0 has the quotient 0, which
+// changes nothing, and no operation is called for it.
 ghost use lib.ListN.{length};
 ghost use Rattle.passes.specs.Answer.{Placed, ColumnClear, rowPassOf, columnPassOf, Passed};
 use lines::line::Effect;
 use lines::line::clear;
+use lines::line::first_nonzero;
 use lines::operation::Operation;
 use operations::layout::Layout;
 use operations::quotient::quotient;
@@ -44,18 +45,14 @@ pub fn clear_row(layout: Layout, w: &mut [i32], k: usize) -> Pass
 {
     let m = layout.matrix;
     let columns = m.width;
-    let mut j = k + 1;
+    let mut j = first_nonzero(w, m.line(k), k + 1, columns);
     while j < columns {
         let q = quotient(m.entry(w, k, j), m.entry(w, k, k));
-        if q == 0 {
-            j = j + 1;
-            continue;
-        }
         let Effect::Done = layout.on_columns(w, Operation::Subtract(j, k, q)) else {
             clear(w);
             return Pass::Refused(Refusal::TooWide);
         };
-        j = j + 1;
+        j = first_nonzero(w, m.line(k), j + 1, columns);
     }
     Pass::Made
 }

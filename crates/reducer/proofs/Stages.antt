@@ -1,7 +1,7 @@
 -- Where the functions of a stage go, with what holds there (`Onward`): to-rows, rows-to-choice, rows-to-columns, columns-to-choice, row-clear,
 -- columns-again. How a stage ends: onward-ends where it goes on, again where no round is left, exhausted, cleared, and pass-stops and add-stops where
 -- it goes too wide.
-use mathlib.Core.Path.{_≡_, refl, sym, ap, _∙_, subst}
+use mathlib.Core.Path.{_≡_, refl, sym, ap, _∙_, subst, subst₂}
 use mathlib.Core.Bool.{Bool, true, false}
 use mathlib.Core.List.{List}
 use Prim.Native.Nat.{ℕ, suc, _+_, _-_, _≤_, _<_}
@@ -11,7 +11,7 @@ use native.Mathlib.Omega.{arith}
 use lib.IntN.{ℤ, pos, negsuc, natAbs}
 use lib.ListN.{length, replicate}
 use Rattle.integers.specs.Division.{_∣ℤ_}
-use Rattle.integers.specs.Floor.{dvd-iff-modulo}
+use Rattle.integers.specs.Floor.{dvd-iff-modulo, natAbs-modulo}
 use Rattle.matrices.specs.Operation.{subtract}
 use Rattle.reduction_steps.specs.State.{Outcome, tooWide, made, onRow}
 use Rattle.reduction_steps.specs.Pivot.{Choice, none, place, release1, Least}
@@ -27,6 +27,7 @@ use Rattle.lines.specs.Matrices.{contents}
 use Rattle.refusal.specs.declared.Refusal.{Refusal}
 use Rattle.refusal.specs.declared.Refusal.the-variants as refusal
 use Rattle.operations.specs.Laid.{Laid, sizesOf, stateOf}
+use Rattle.operations.specs.Scan.{ColumnReduced}
 use Rattle.operations.specs.declared.layout.Layout.{Layout}
 use Rattle.passes.specs.declared.pass.Pass.{Pass}
 use Rattle.passes.specs.declared.pass.Pass.the-variants as pass
@@ -166,6 +167,15 @@ module _ {W : Layout} {k : ℕ} {w : List ℤ} (h : Placed W k w) where
 
     rows-still-done : RowsDone W k w′
     rows-still-done = rowsDone-moves (after-rows .moves) (h .ready .shaped) (h .rows-done)
+
+    -- the pass has left remainders
+    pub column-reduced : ColumnReduced (contents (W .matrix) w′) k (W .matrix .lines)
+    column-reduced = record {
+      less = λ i a b. subst₂ (λ (x y : ℤ). natAbs x < natAbs y)
+          (sym (after-rows .remainder i a b) ∙ entry-state W w′ i k b (h .ready .column))
+          (sym (after-rows .pivot) ∙ entry-state W w′ k k (h .ready .row) (h .ready .column))
+          (natAbs-modulo (matrixOf W w i k) (matrixOf W w k k) (h .ready .positive));
+    }
 
     -- the test, read from the slice
     column-test : (b : Bool) → b ≡ columnKeeps (contents (W .matrix) w′) k (W .matrix .lines - suc k) (suc k) → columnKeeps (matrixOf W w′) k (W .matrix .lines - suc k) (suc k) ≡ b

@@ -9,20 +9,20 @@ use borrow.Author.Needs.{needs}
 use borrow.Author.Count.{below-more}
 use borrow.Author.Tests.{not-true}
 use lib.IntN.{ℤ, pos}
-use Rattle.lines.specs.Slice.{at}
+use Rattle.lines.specs.Slice.{block, at}
 use Rattle.lines.proofs.Words.{entry-fits, zero-of-bits}
 use Rattle.lines.proofs.line.is_zero_block.Statement.{statement}
 use Rattle.lines.proofs.line.is_zero_block.Tie as tie
 
 record Invariant (w : List ℤ) (a : ℕ) (nonzero : Bool) (t : ℕ) : Type 0 where
-  below : t ≤ 16
+  below : t ≤ block
   zeros : nonzero ≡ false → (s : ℕ) → s < t → at w (a + s) ≡ pos 0
 
 abbrev Inv-loop : tie.InvT-loop
 Inv-loop w a nonzero₀ t₀ nonzero t = Invariant w a nonzero t
 
 abbrev μ-loop : tie.MeasureT-loop
-μ-loop w a nonzero₀ t₀ nonzero t = 16 - t
+μ-loop w a nonzero₀ t₀ nonzero t = block - t
 
 loop-holds : tie.Need-loop-holds Inv-loop μ-loop
 loop-holds c = record { below = omega arith; zeros = λ e s l. absurd (omega arith) }

@@ -4,7 +4,7 @@ use Prim.Native.Nat.{ℕ, _-_}
 use native.Mathlib.Omega.{arith}
 use borrow.Author.Needs.{needs}
 use borrow.Author.Tests.{not-false}
-use Rattle.lines.specs.Slice.{ZerosTo}
+use Rattle.lines.specs.Slice.{block, ZerosTo}
 use Rattle.lines.proofs.Zeros.{zeros-none, zeros-more}
 use Rattle.lines.proofs.line.skip_zero_blocks.Statement.{statement}
 use Rattle.lines.proofs.line.skip_zero_blocks.Tie as tie
@@ -30,7 +30,7 @@ returns c = c .before .before .before .loop .inv
 loop-again : tie.Need-loop-again Inv-loop μ-loop
 loop-again c =
     let zero = c .before .is-zero-block in
-    zeros-more (c .before .before .before .loop .inv) 16 (c .before .before .loop-test .taken) (zero .ensures .zeros (not-false (zero .result) (c .if1 .left)))
+    zeros-more (c .before .before .before .loop .inv) block (c .before .before .loop-test .taken) (zero .ensures .zeros (not-false (zero .result) (c .if1 .left)))
 
 returns-2 : tie.Need-returns-2 Inv-loop μ-loop
 returns-2 c = c .before .loop .inv

@@ -7,7 +7,7 @@ use borrow.Author.Needs.{needs}
 use lib.IntN.{ℤ}
 use mir.Syntax.{w64}
 use mir.Val.{toZ, ofZ}
-use Rattle.lines.specs.Slice.{Subtracted}
+use Rattle.lines.specs.Slice.{block, Subtracted}
 use Rattle.lines.specs.declared.line.Effect.{Effect}
 use Rattle.lines.specs.declared.line.Effect.the-variants.{Done, TooWide}
 use Rattle.lines.proofs.Blocks.{Partly, begun, part-inside, part-apart, part-done, part-beyond, part-last, factor-read}
@@ -29,7 +29,7 @@ add-loop c = omega (arith, c .loop .inv .below)
 subtract-block-requires : tie.Need-subtract-block-requires Inv-loop μ-loop
 subtract-block-requires c κs =
     let partly = c .before .before .loop .inv in let inside = c .before .loop-test .taken in
-    (part-inside partly 16 inside, (part-apart partly 16 inside, (partly .so-far .small, partly .factor)))
+    (part-inside partly block inside, (part-apart partly block inside, (partly .so-far .small, partly .factor)))
 
 enum-told : tie.Need-enum-told Inv-loop μ-loop
 enum-told c = search needs
@@ -44,22 +44,22 @@ same-length c = c .before .before .before .subtract-block .kept .0 ∙ c .before
 became :
     (c : tie.After-subtract-block Inv-loop μ-loop) (r : Effect) → c .subtract-block .result ≡ r
     → (let loop = c .before .before .before .loop in let args = c .before .before .before .before .args in
-    Subtracted (loop .w) (args .target + loop .t) (args .source + loop .t) 16 (toZ w64 (ofZ w64 (args .q))) r (c .subtract-block .last .0))
+    Subtracted (loop .w) (args .target + loop .t) (args .source + loop .t) block (toZ w64 (ofZ w64 (args .q))) r (c .subtract-block .last .0))
 became c r e =
     let loop = c .before .before .before .loop in let args = c .before .before .before .before .args in
-    subst (λ (r : Effect). Subtracted (loop .w) (args .target + loop .t) (args .source + loop .t) 16 (toZ w64 (ofZ w64 (args .q))) r (c .subtract-block .last .0)) e
+    subst (λ (r : Effect). Subtracted (loop .w) (args .target + loop .t) (args .source + loop .t) block (toZ w64 (ofZ w64 (args .q))) r (c .subtract-block .last .0)) e
     (c .subtract-block .ensures)
 
 returns : tie.Need-returns Inv-loop μ-loop
 returns c =
     let called = c .before .before .before in let loop = called .before .before .before in let start = loop .before in
     factor-read (start .args .w .now) (start .args .target) (start .args .source) (start .args .width) (start .args .q) (start .pre .1 .1 .1) TooWide (called .subtract-block .last .0)
-    (part-beyond (loop .loop .inv) 16 (called .before .before .loop-test .taken) (became called TooWide (c .enum-told2 .given .1)))
+    (part-beyond (loop .loop .inv) block (called .before .before .loop-test .taken) (became called TooWide (c .enum-told2 .given .1)))
 
 loop-again : tie.Need-loop-again Inv-loop μ-loop
 loop-again c =
     let called = c .before .before .before in let loop = called .before .before .before in
-    part-done (loop .loop .inv) 16 (called .before .before .loop-test .taken) (became called Done (c .enum-told .given .1))
+    part-done (loop .loop .inv) block (called .before .before .loop-test .taken) (became called Done (c .enum-told .given .1))
 
 subtract-places-requires : tie.Need-subtract-places-requires Inv-loop μ-loop
 subtract-places-requires c κs =

@@ -3,7 +3,7 @@ use mathlib.Core.Path.{_≡_, sym, subst}
 use lib.IntN.{ℤ, pos, _-ℤ_, _*ℤ_}
 use borrow.Author.Needs.{needs}
 use Prim.Native.Nat.{_+_}
-use Rattle.lines.specs.Slice.{at, Subtracted, difference}
+use Rattle.lines.specs.Slice.{block, at, Subtracted, difference}
 use Rattle.integers.specs.Ring.{mul-zero, add-zero}
 use Rattle.lines.proofs.Words.{read-wide}
 use Rattle.lines.proofs.Store.{lineSet-same}
@@ -16,13 +16,13 @@ less-none x q y e = rw (e, mul-zero q, add-zero x)
 returns : tie.Need-returns
 returns c =
     let start = c .before .before .before in let w = start .args .w .now in
-    lineSet-same w (start .args .target) 16 (difference w (start .args .target) (start .args .source) (start .args .q)) (start .pre .1 .1 .0)
+    lineSet-same w (start .args .target) block (difference w (start .args .target) (start .args .source) (start .args .q)) (start .pre .1 .1 .0)
     (λ t l. sym (less-none (at w (start .args .target + t)) (start .args .q) (at w (start .args .source + t)) (c .before .is-zero-block .ensures .zeros (c .if1 .taken) t l)))
 
 returns-2 : tie.Need-returns-2
 returns-2 c =
     let start = c .before .before .before .before .before .before in let w = start .args .w .now in
-    subst (λ (q : ℤ). Subtracted w (start .args .target) (start .args .source) 16 q (c .before .subtract-places .result) (c .before .subtract-places .last .0))
+    subst (λ (q : ℤ). Subtracted w (start .args .target) (start .args .source) block q (c .before .subtract-places .result) (c .before .subtract-places .last .0))
     (read-wide (start .args .q) (start .pre .1 .1 .1)) (c .before .subtract-places .ensures)
 
 pub subtract-block-spec : {M : Type 1} → statement M

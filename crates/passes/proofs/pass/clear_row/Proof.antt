@@ -1,18 +1,16 @@
 -- `clear_row` meets its contract. The invariant: what is left of the column pass from the present state is the whole pass from the start. The
--- measure is how many columns are left. Assumes nothing.
-use mathlib.Core.Path.{_≡_, refl, _∙_, ap}
-use Prim.Native.Nat.{ℕ, _-_}
+-- measure is how many columns are left. A column whose entry is 0 is passed over (`columns-first`). Assumes nothing.
+use mathlib.Core.Path.{_≡_, _∙_}
+use Prim.Native.Nat.{_+_, _-_}
 use native.Mathlib.Omega.{arith}
+use borrow.Author.Needs.{needs}
 use mir.Syntax.{w64}
-use mir.Val.{toZ}
 use Rattle.integers.specs.Division.{floor}
-use Rattle.matrices.specs.Operation.{subtract}
 use Rattle.lines.specs.Matrices.{contents}
 use Rattle.lines.proofs.Words.{read}
-use Rattle.operations.proofs.Unchanged.{columns-unchanged}
 use Rattle.passes.proofs.States.{held-matrix, operated-done, operated-wide}
 use Rattle.passes.proofs.Words.{quotient-small, quotient-asks, quotient-read}
-use Rattle.passes.proofs.Passes.{pass-refused, column-zero, ColumnPassing, columns-start, columns-next, columns-wide, columns-end}
+use Rattle.passes.proofs.Passes.{pass-refused, column-zero, ColumnPassing, columns-start, columns-next, columns-first, row-inside, columns-wide, columns-end}
 use Rattle.passes.proofs.pass.clear_row.Statement.{statement}
 use Rattle.passes.proofs.pass.clear_row.Tie as tie
 
@@ -31,7 +29,7 @@ module _ (c : tie.After-entry2 Inv-loop μ-loop) where
   head = turn .before
 
   abbrev start : tie.Start Inv-loop μ-loop
-  start = head .before .before
+  start = head .before .before .before .before .before
 
 -- the quotient as the machine reads it
 taken :
@@ -44,11 +42,19 @@ taken c =
     quotient-read (start e .args .layout) (start e .args .k) (head e .loop .w) (h .small) (h .ready .ready) (start e .args .k) (head e .loop .j)
     (e .before .before .entry .ensures) (e .entry2 .ensures) (c .quotient .ensures)
 
-add-j : tie.Need-add-j Inv-loop μ-loop
-add-j c = omega (arith, c .before .pre .ready .ready .column, c .before .fits .k)
+line-requires : tie.Need-line-requires Inv-loop μ-loop
+line-requires c κs = let h = c .before .before .pre in search (needs, held-matrix (h .laid) .ends, h .ready .ready .row)
+
+add-first-nonzero : tie.Need-add-first-nonzero Inv-loop μ-loop
+add-first-nonzero c = let s = c .before .before .before in omega (arith, s .pre .ready .ready .column, s .fits .k)
+
+first-nonzero-requires : tie.Need-first-nonzero-requires Inv-loop μ-loop
+first-nonzero-requires c κs =
+    let h = c .before .before .before .pre in
+    (row-inside (h .laid) (h .ready .ready) (c .line .ensures), omega (arith, h .ready .ready .column), h .small)
 
 loop-holds : tie.Need-loop-holds Inv-loop μ-loop
-loop-holds c = columns-start (c .before .pre)
+loop-holds c = columns-first (columns-start (c .before .before .before .before .pre)) (c .before .line .ensures) (c .first-nonzero .ensures)
 
 entry-requires : tie.Need-entry-requires Inv-loop μ-loop
 entry-requires c κs =
@@ -65,31 +71,11 @@ quotient-requires c κs =
     let h = head c .loop .inv .clear in
     quotient-asks (start c .args .layout) (start c .args .k) (head c .loop .w) (h .small) (h .ready .ready) (start c .args .k) (head c .loop .j) (c .before .before .entry .ensures) (c .entry2 .ensures)
 
--- a quotient of 0: nothing is called
-add-j-2 : tie.Need-add-j-2 Inv-loop μ-loop
-add-j-2 c =
-    let e = c .before .before in
-    omega (arith, turn e .loop-test .taken, start e)
-
-loop-less : tie.Need-loop-less Inv-loop μ-loop
-loop-less c = omega (arith, turn (c .before .before) .loop-test .taken)
-
-loop-again : tie.Need-loop-again Inv-loop μ-loop
-loop-again c =
-    let e = c .before .before in
-    let inv = head e .loop .inv in
-    let q = read w64 (c .before .quotient .result) in
-    columns-next inv (turn e .loop-test .taken) (taken (c .before)) refl (inv .clear .small)
-    (columns-unchanged (start e .args .layout) (head e .loop .w) (inv .clear .laid) (inv .clear .small) (subtract (head e .loop .j) (start e .args .k) q) (ap (λ (bits : ℕ). toZ w64 bits) (c .if1 .taken)) (record {
-      within = record { changed = turn e .loop-test .taken; taken = inv .clear .ready .ready .column; distinct = λ same. omega (arith, inv .from) };
-      factor = quotient-small (c .before .quotient .result) (c .before .quotient .ensures .1);
-    }))
-
 on-columns-requires : tie.Need-on-columns-requires Inv-loop μ-loop
 on-columns-requires c κs =
-    let e = c .before .before .before in
+    let e = c .before .before in
     let inv = head e .loop .inv in
-    let small-quotient = quotient-small (c .before .before .quotient .result) (c .before .before .quotient .ensures .1) in
+    let small-quotient = quotient-small (c .before .quotient .result) (c .before .quotient .ensures .1) in
     let h = inv .clear in (
       h .laid,
       (
@@ -116,33 +102,46 @@ clear-requires c κs = tt
 same-length : tie.Need-same-length Inv-loop μ-loop
 same-length c =
     let called = c .before .before .before .before .before .before in
-    c .before .clear .kept .0 ∙ called .on-columns .kept .1 .0 ∙ head (called .before .before .before .before) .loop .inv .same-length
+    c .before .clear .kept .0 ∙ called .on-columns .kept .1 .0 ∙ head (called .before .before .before) .loop .inv .same-length
 
 returns : tie.Need-returns Inv-loop μ-loop
 returns c =
     let called = c .before .before .before .before .before .before in
-    let quotient = called .before .before .before in
+    let quotient = called .before .before in
     let inv = head (quotient .before) .loop .inv in
     pass-refused (called .on-columns .last .1 .0)
     (columns-wide inv (turn (quotient .before) .loop-test .taken) (taken quotient) (operated-wide (called .on-columns .ensures) (c .before .before .before .enum-told2 .given .1)))
     (c .before .clear .ensures) (called .on-columns .kept .1 .0 ∙ inv .same-length)
 
-add-j-3 : tie.Need-add-j-3 Inv-loop μ-loop
-add-j-3 c =
-    let e = c .before .before .before .before .before .before .before in
-    omega (arith, turn e .loop-test .taken, start e)
+-- the operation was done
+module _ (c : tie.After-enum-told Inv-loop μ-loop) where
+  abbrev read-pivot : tie.After-entry2 Inv-loop μ-loop
+  read-pivot = c .before .before .before .before .before .before
 
-loop-less-2 : tie.Need-loop-less-2 Inv-loop μ-loop
-loop-less-2 c =
-    let e = c .before .before .before .before .before .before .before in
-    omega (arith, turn e .loop-test .taken)
+  next :
+      ColumnPassing (start read-pivot .args .layout) (start read-pivot .args .k) (start read-pivot .args .w .now) (head read-pivot .loop .j + 1)
+      (c .before .before .before .on-columns .last .1 .0)
+  next =
+      let called = c .before .before .before .on-columns in
+      columns-next (head read-pivot .loop .inv) (turn read-pivot .loop-test .taken) (taken (c .before .before .before .before .before)) (called .kept .1 .0) (called .ensures .small)
+      (operated-done (called .ensures) (c .enum-told .given .1))
 
-loop-again-2 : tie.Need-loop-again-2 Inv-loop μ-loop
-loop-again-2 c =
-    let called = c .before .before .before .on-columns in
-    let quotient = c .before .before .before .before .before .before in
-    columns-next (head (quotient .before) .loop .inv) (turn (quotient .before) .loop-test .taken) (taken quotient) (called .kept .1 .0) (called .ensures .small)
-    (operated-done (called .ensures) (c .enum-told .given .1))
+line-requires-2 : tie.Need-line-requires-2 Inv-loop μ-loop
+line-requires-2 c κs = let h = next (c .before) .clear in search (needs, held-matrix (h .laid) .ends, h .ready .ready .row)
+
+add-first-nonzero-2 : tie.Need-add-first-nonzero-2 Inv-loop μ-loop
+add-first-nonzero-2 c = let e = read-pivot (c .before .before) in omega (arith, turn e .loop-test .taken, start e)
+
+first-nonzero-requires-2 : tie.Need-first-nonzero-requires-2 Inv-loop μ-loop
+first-nonzero-requires-2 c κs =
+    let h = next (c .before .before) .clear in
+    (row-inside (h .laid) (h .ready .ready) (c .line2 .ensures), omega (arith, turn (read-pivot (c .before .before)) .loop-test .taken), h .small)
+
+loop-less : tie.Need-loop-less Inv-loop μ-loop
+loop-less c = omega (arith, turn (read-pivot (c .before .before .before)) .loop-test .taken, c .first-nonzero2 .ensures .passed .begins)
+
+loop-again : tie.Need-loop-again Inv-loop μ-loop
+loop-again c = columns-first (next (c .before .before .before)) (c .before .line2 .ensures) (c .first-nonzero2 .ensures)
 
 same-length-2 : tie.Need-same-length-2 Inv-loop μ-loop
 same-length-2 c = c .before .loop .inv .same-length
@@ -153,25 +152,6 @@ returns-2 c = columns-end (c .before .loop .inv) (c .loop-test .left)
 pub clear-row-spec : {M : Type 1} → statement M
 clear-row-spec =
     tie.close
-    (tie.spec
-    Inv-loop
-    μ-loop
-    add-j
-    loop-holds
-    entry-requires
-    entry-requires-2
-    quotient-requires
-    add-j-2
-    loop-less
-    loop-again
-    on-columns-requires
-    enum-told
-    enum-told-2
-    clear-requires
-    same-length
-    returns
-    add-j-3
-    loop-less-2
-    loop-again-2
-    same-length-2
-    returns-2)
+    (tie.spec Inv-loop μ-loop line-requires add-first-nonzero first-nonzero-requires loop-holds entry-requires entry-requires-2 quotient-requires
+    on-columns-requires enum-told enum-told-2 clear-requires same-length returns line-requires-2 add-first-nonzero-2 first-nonzero-requires-2 loop-less
+    loop-again same-length-2 returns-2)

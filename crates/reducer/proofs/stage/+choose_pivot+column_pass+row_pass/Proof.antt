@@ -19,7 +19,7 @@ use Rattle.reducer.specs.Answer.{StageRefused}
 use Rattle.passes.proofs.States.{laid-kept, held-matrix, operated-done, operated-wide}
 use Rattle.passes.proofs.Words.{pivot-positive}
 use Rattle.reducer.proofs.Measures.{choiceMeasure, rowMeasure, columnMeasure, calls-range}
-use Rattle.reducer.proofs.Stages.{ToRows, ToChoice, ToColumns, ColumnsAgain, onward-ends, again, passed-made, pass-stops, Chosen, exhausted, chosen-least, bring-goes, to-rows, rows-go, rows-to-choice, rows-to-columns, columns-go, columns-to-choice, RowClear, row-clear, Found, cleared, row-lower, row-within, add-stops, columns-again}
+use Rattle.reducer.proofs.Stages.{ToRows, ToChoice, ToColumns, ColumnsAgain, onward-ends, again, passed-made, pass-stops, Chosen, exhausted, chosen-least, bring-goes, to-rows, rows-go, column-reduced, rows-to-choice, rows-to-columns, columns-go, columns-to-choice, RowClear, row-clear, Found, cleared, row-lower, row-within, add-stops, columns-again}
 use Rattle.reducer.proofs.stage.choose_pivot.Reads as choose-pivot
 use Rattle.reducer.proofs.stage.choose_pivot.Kinds as choose-pivot-kinds
 use Rattle.reducer.proofs.stage.+choose_pivot+column_pass+row_pass.Lts-choose_pivot as choose-pivot-lts
@@ -416,7 +416,7 @@ module _ (t : ℕ) (c : row-pass-lts.After-enum-told (row-pass-calls t) (row-pas
 row-pass-column-keeps-requires : (t : ℕ) → row-pass-lts.Need-column-keeps-requires (row-pass-calls t) (row-pass-at t) row-pass.Post
 row-pass-column-keeps-requires t c κs =
     let h = row-start t (c .before) .pre .1 in
-    (held-matrix (laid-kept (c .before .before .before .before .clear-column .last .1 .0) (h .laid) (c .before .before .before .before .clear-column .kept .1 .0)), (h .ready .row, h .ready .column))
+    (held-matrix (laid-kept (c .before .before .before .before .clear-column .last .1 .0) (h .laid) (c .before .before .before .before .clear-column .kept .1 .0)), (h .ready .row, h .ready .column, column-reduced h (rows-made t (c .before))))
 
 row-to-choice :
     (t : ℕ) (c : row-pass-lts.Then1 (row-pass-calls t) (row-pass-at t) row-pass.Post)
