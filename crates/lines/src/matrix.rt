@@ -58,8 +58,8 @@ impl Matrix {
         }
     }
 
-    // Does the operation to the lines.
-    pub fn on_lines(self, w: &mut [i32], op: Operation) -> Effect
+    // Does the operation to the lines, where they are wide: a subtraction goes block by block.
+    fn on_wide_lines(self, w: &mut [i32], op: Operation) -> Effect
         requires { ⌜ Held (length (now w)) self ⌝ }
         requires { ⌜ Small (now w) ⌝ }
         requires { ⌜ Fits (self .lines) (operationOf op) ⌝ }
@@ -69,6 +69,19 @@ impl Matrix {
             return line::subtract(w, self.line(i), self.line(k), self.width, q);
         }
         self.on_narrow_lines(w, op)
+    }
+
+    // Does the operation to the lines. Those of an absent companion are empty, and nothing is called.
+    pub fn on_lines(self, w: &mut [i32], op: Operation) -> Effect
+        requires { ⌜ Held (length (now w)) self ⌝ }
+        requires { ⌜ Small (now w) ⌝ }
+        requires { ⌜ Fits (self .lines) (operationOf op) ⌝ }
+        ensures { λ r. ⌜ Became self (now (w .entry)) (onRows (operationOf op) (contents self (now (w .entry)))) r (now (w .exit)) ⌝ }
+    {
+        if self.width == 0 {
+            return Effect::Done;
+        }
+        self.on_wide_lines(w, op)
     }
 
     // The places of line i, as a matrix of that many lines of one entry.

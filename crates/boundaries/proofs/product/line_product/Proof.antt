@@ -1,9 +1,8 @@
--- `product::line_product` meets its contract. The invariant: the total is the sum of the first t terms. The measure is how many are left.
+-- `product::line_product` meets its contract. The invariant: the total is the sum of the first t terms. The measure is how many faces are left.
 -- Assumes nothing.
 use mathlib.Core.Path.{_≡_, refl, ap, _∙_}
 use mathlib.Core.List.{List}
 use Prim.Native.Nat.{ℕ, _+_, _-_, _^_, _<_, _≤_}
-use native.Mathlib.Nat as NatL
 use native.Mathlib.Numerals.{add-one}
 use native.Mathlib.Omega.{arith}
 use lib.ListN.{getD}
@@ -67,83 +66,71 @@ abbrev Inv-loop : tie.InvT-loop
 Inv-loop w line width faces places total₀ t₀ total t = Invariant w line places faces t (toZ w64 total)
 
 abbrev μ-loop : tie.MeasureT-loop
-μ-loop w line width faces places total₀ t₀ total t = faces - t
+μ-loop w line width faces places total₀ t₀ total t = 4 - t
 
 loop-holds : tie.Need-loop-holds Inv-loop μ-loop
 unfolding sum
 loop-holds c = record { within = omega arith; is = refl }
 
-mul-place : tie.Need-mul-place Inv-loop μ-loop
-mul-place c = omega (arith, c .loop-test .taken, c .before .before .pre .0 .2)
+-- a turn of the loop: the terms are not all in
+module _ (c : tie.Else1 Inv-loop μ-loop) where
+  abbrev head : tie.At-loop Inv-loop μ-loop
+  head = c .before .before
 
-array-read-place : tie.Need-array-read-place Inv-loop μ-loop
-array-read-place c = omega (arith, c .loop-test .taken, c .before .before .pre .0 .2)
+  abbrev start : tie.Start Inv-loop μ-loop
+  start = head .before
+
+  more : head .loop .t < start .args .faces
+  more = omega (arith, head .loop .inv .within, c .if1 .left)
+
+returns : tie.Need-returns Inv-loop μ-loop
+returns c =
+    let args = c .before .before .before .args in let inv = c .before .before .loop .inv in
+    inv .is ∙ ap (λ (n : ℕ). sum n (signed (args .w .now) (args .line) (args .t4))) (c .if1 .taken)
 
 -- the place of a face is one of the line
-inside : (c : tie.In-loop Inv-loop μ-loop) → getD (c .before .before .args .t4) (c .before .loop .t) 0 < c .before .before .args .width
-inside c = c .before .before .pre .1 (c .before .loop .t) (c .loop-test .taken)
+inside : (c : tie.Else1 Inv-loop μ-loop) → getD (start c .args .t4) (head c .loop .t) 0 < start c .args .width
+inside c = start c .pre .1 (head c .loop .t) (more c)
 
 add-total : tie.Need-add-total Inv-loop μ-loop
-add-total c = omega (arith, inside c, c .before .before .pre .0 .0)
+add-total c = omega (arith, inside c, start c .pre .0 .0)
 
 mul-total : tie.Need-mul-total Inv-loop μ-loop
-mul-total c = omega (arith, inside c, c .before .before .pre .0 .0)
+mul-total c = omega (arith, inside c, start c .pre .0 .0)
 
 shared-slice-copy-out-total : tie.Need-shared-slice-copy-out-total Inv-loop μ-loop
-shared-slice-copy-out-total c = omega (arith, inside c, c .before .before .pre .0 .0)
+shared-slice-copy-out-total c = omega (arith, inside c, start c .pre .0 .0)
 
 cast-total : tie.Need-cast-total Inv-loop μ-loop
 cast-total c =
-    let start = c .before .before .before in
-    cast-word (c .before .before .loop .inv) (start .pre .0 .1) (c .before .loop-test .taken) (start .pre .0 .2) (sign (c .before .before .loop .t)) refl
+    let turn = c .before in
+    cast-word (head turn .loop .inv) (start turn .pre .0 .1) (more turn) (start turn .pre .0 .2) (sign (head turn .loop .t)) refl
 
 sign-requires : tie.Need-sign-requires Inv-loop μ-loop
 sign-requires c κs = tt
 
 mul-total-2 : tie.Need-mul-total-2 Inv-loop μ-loop
 mul-total-2 c =
-    let start = c .before .before .before .before in
-    term-word (c .before .before .before .loop .inv) (start .pre .0 .1) (c .before .before .loop-test .taken) (start .pre .0 .2) (c .sign .result) (c .sign .ensures)
+    let turn = c .before .before in
+    term-word (head turn .loop .inv) (start turn .pre .0 .1) (more turn) (start turn .pre .0 .2) (c .sign .result) (c .sign .ensures)
 
 add-total-2 : tie.Need-add-total-2 Inv-loop μ-loop
 add-total-2 c =
-    let start = c .before .before .before .before in
-    sum-word (c .before .before .before .loop .inv) (start .pre .0 .1) (c .before .before .loop-test .taken) (start .pre .0 .2) (c .sign .result) (c .sign .ensures)
-
-add-t : tie.Need-add-t Inv-loop μ-loop
-add-t c = omega (arith, c .before .before .loop-test .taken, c .before .before .before .before .pre .0 .2)
-
-loop-less : tie.Need-loop-less Inv-loop μ-loop
-loop-less c = omega (arith, c .before .before .loop-test .taken)
+    let turn = c .before .before in
+    sum-word (head turn .loop .inv) (start turn .pre .0 .1) (more turn) (start turn .pre .0 .2) (c .sign .result) (c .sign .ensures)
 
 loop-again : tie.Need-loop-again Inv-loop μ-loop
 loop-again c =
-    let start = c .before .before .before .before in
-    again (c .before .before .before .loop .inv) (start .pre .0 .1) (c .before .before .loop-test .taken) (start .pre .0 .2) (c .sign .result) (c .sign .ensures)
+    let turn = c .before .before in
+    again (head turn .loop .inv) (start turn .pre .0 .1) (more turn) (start turn .pre .0 .2) (c .sign .result) (c .sign .ensures)
 
-returns : tie.Need-returns Inv-loop μ-loop
-returns c =
-    let args = c .before .before .args in
-    c .before .loop .inv .is
-    ∙ ap (λ (n : ℕ). sum n (signed (args .w .now) (args .line) (args .t4))) (NatL.le-antisymm (c .before .loop .inv .within) (c .loop-test .left))
+returns-2 : tie.Need-returns-2 Inv-loop μ-loop
+returns-2 c =
+    let start = c .before .before in let inv = c .before .loop .inv in
+    inv .is ∙ ap (λ (n : ℕ). sum n (signed (start .args .w .now) (start .args .line) (start .args .t4))) (omega (arith, inv .within, c .loop-test .left, start .pre .0 .2))
 
 pub line-product-spec : {M : Type 1} → statement M
 line-product-spec =
     tie.close
-    (tie.spec
-    Inv-loop
-    μ-loop
-    loop-holds
-    mul-place
-    array-read-place
-    add-total
-    mul-total
-    shared-slice-copy-out-total
-    cast-total
-    sign-requires
-    mul-total-2
-    add-total-2
-    add-t
-    loop-less
-    loop-again
-    returns)
+    (tie.spec Inv-loop μ-loop loop-holds returns (λ c. omega arith) (λ c. omega arith) add-total mul-total shared-slice-copy-out-total cast-total
+    sign-requires mul-total-2 add-total-2 (λ c. omega arith) (λ c. omega arith) loop-again returns-2)

@@ -1,32 +1,25 @@
--- `Matrix::on_lines` meets its contract: a subtraction by what `line::subtract` ensures, another operation by `on_narrow_lines`. Assumes nothing.
+-- `Matrix::on_lines` meets its contract: a matrix whose lines are empty holds nothing that an operation changes. Assumes nothing.
+use mathlib.Core.Path.{_≡_, refl}
+use mathlib.Core.List.{List}
+use native.Mathlib.Omega.{arith}
 use borrow.Author.Needs.{needs}
-use Rattle.lines.proofs.Subtraction.{changed-below, taken-below, subtraction-asks, subtraction-came}
+use lib.IntN.{ℤ}
+use Rattle.matrices.specs.Matrix as theory
+use Rattle.matrices.specs.Operation.{onRows}
+use Rattle.lines.specs.Slice.{Small}
+use Rattle.lines.specs.Matrices.{contents, Holds}
+use Rattle.lines.specs.Operations.{operationOf}
+use Rattle.lines.specs.declared.matrix.Matrix.{Matrix}
 use Rattle.lines.proofs.matrix.Matrix.on_lines.Statement.{statement}
 use Rattle.lines.proofs.matrix.Matrix.on_lines.Tie as tie
 
-line-requires : tie.Need-line-requires
-line-requires c κs =
-    let at = c .before .before in
-    search (needs, changed-below (at .op .given .1) (at .before .before .args .self) (at .before .before .pre .1 .1))
-
-line-requires-2 : tie.Need-line-requires-2
-line-requires-2 c κs =
-    let at = c .before .before .before in
-    search (needs, taken-below (at .op .given .1) (at .before .before .args .self) (at .before .before .pre .1 .1))
-
-subtract-requires : tie.Need-subtract-requires
-subtract-requires c κs =
-    let at = c .before .before .before .before in let start = at .before .before in
-    subtraction-asks (at .op .given .1) (start .args .self) (start .pre .1 .1) (c .before .line .ensures) (c .line2 .ensures) (start .pre .0) (start .pre .1 .0)
+holds-nothing : (M : Matrix) (w : List ℤ) (A : theory.Matrix) → M .width ≡ 0 → Small w → Holds M w A w
+holds-nothing M w A e s = record { same-length = refl; on = record { at = λ a b x y. absurd (omega arith) }; off = λ p o. refl; small = s }
 
 returns : tie.Need-returns
 returns c =
-    let lines = c .before .before in let at = lines .before .before .before .before in let start = at .before .before in
-    let called = c .before .subtract in
-    subtraction-came (at .op .given .1) (start .args .self) (start .pre .1 .1) (lines .before .line .ensures) (lines .line2 .ensures) (start .args .w .now) (called .last .0) (called .result) (called .ensures)
+    let start = c .before .before in let w = start .args .w .now in
+    holds-nothing (start .args .self) w (onRows (operationOf (start .args .op)) (contents (start .args .self) w)) (c .if1 .taken) (start .pre .1 .0)
 
 pub on-lines-spec : {M : Type 1} → statement M
-on-lines-spec =
-    tie.close
-    (tie.spec (λ c. search needs) line-requires line-requires-2 subtract-requires (λ c. search needs) returns (λ c κs. search needs) (λ c. search needs)
-    (λ c. search needs))
+on-lines-spec = tie.close (tie.spec returns (λ c κs. search needs) (λ c. search needs) (λ c. search needs))
