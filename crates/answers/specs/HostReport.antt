@@ -13,7 +13,8 @@ use Rattle.sheet_format.specs.Layout.{top}
 use Rattle.sheet_format.specs.Check.{sectionsOf, first}
 use Rattle.sheet_format.specs.Sheet.{Bytes}
 use Rattle.reduction_steps.specs.State.{State, within}
-use Rattle.reduction_steps.specs.Pivot.{release1}
+use Rattle.reduction_steps.specs.Pivot.{pivotRule}
+use Rattle.reduction_steps.specs.PivotLaws.{pivotRule-is-rule}
 use Rattle.reports.specs.Reductions.{reduced}
 use Rattle.reports.specs.Report.{freeRank, torsionCount, reportList}
 use Rattle.reports.specs.ReportLaws.{report-fits}
@@ -42,20 +43,20 @@ module _ (b : List ℕ) (bytes : Bytes b) (p : ℕ) (output : List ℕ) where
   complex : hostReportBefore ≡ 0 → Complex top hostLimit (sectionsOf b)
   complex = passed-complex hostLimit b p reportSlots (slotsIn output) (workSlots (sectionsOf b) p) bytes
 
-  number : hostReport b p output .number ≡ told hostReportBefore (reductionsOf b p)
+  number : hostReport b p output .number ≡ told hostReportBefore (reductionsOf pivotRule b p)
   unfolding hostReport
-  number = host-number numbers output hostReportBefore (reductionsOf b p)
+  number = host-number numbers output hostReportBefore (reductionsOf pivotRule b p)
 
-  pub host-report-answers : Answers hostReportBefore (GoesWide entryLimit release1 (sectionsOf b) p) (hostReport b p output .number)
+  pub host-report-answers : Answers hostReportBefore (GoesWide entryLimit pivotRule (sectionsOf b) p) (hostReport b p output .number)
   host-report-answers =
       rw number
-      (told-answers hostReportBefore (reductionsOf b p)
+      (told-answers hostReportBefore (reductionsOf pivotRule b p)
       (callChecks-narrow hostLimit b p reportSlots (slotsIn output) (workSlots (sectionsOf b) p))
-      (λ e. reductionsOf-wide b p (complex e)))
+      (λ e. reductionsOf-wide pivotRule-is-rule b p (complex e)))
 
   pub host-report-left : hostReport b p output .number ≢ 0 → hostReport b p output .output ≡ output
   unfolding hostReport
-  host-report-left d = host-left numbers output hostReportBefore (reductionsOf b p) (rw number at d)
+  host-report-left d = host-left numbers output hostReportBefore (reductionsOf pivotRule b p) (rw number at d)
 
   -- the two reductions behind a report that is done are right
   pub record HostReported : Type 0 where
@@ -63,7 +64,7 @@ module _ (b : List ℕ) (bytes : Bytes b) (p : ℕ) (output : List ℕ) where
     pub rank : ℕ
     pub state : State
     pub right : Right (sectionsOf b) p rows rank state
-    pub reductions : reductionsOf b p ≡ reduced rows rank state
+    pub reductions : reductionsOf pivotRule b p ≡ reduced rows rank state
     pub reads : Reads (sectionsOf b) p rows rank state (numberAt (hostReport b p output .output))
     pub kept : KeptPast 0 (8 * reportLength (sectionsOf b) p (freeRank rows rank) (torsionCount rank state)) output (hostReport b p output .output)
 
@@ -76,19 +77,19 @@ module _ (b : List ℕ) (bytes : Bytes b) (p : ℕ) (output : List ℕ) where
     right = right;
     reductions = d .reductions;
     reads = record {
-      slots = λ i l. host-reads numbers output hostReportBefore (reductionsOf b p) d i (omega (arith, report-length right)) (report-word right small few i);
+      slots = λ i l. host-reads numbers output hostReportBefore (reductionsOf pivotRule b p) d i (omega (arith, report-length right)) (report-word right small few i);
     };
-    kept = rw (report-length right) at (host-kept numbers output hostReportBefore (reductionsOf b p) d fits);
+    kept = rw (report-length right) at (host-kept numbers output hostReportBefore (reductionsOf pivotRule b p) d fits);
   }
     where
-      d : ToldDone hostReportBefore (reductionsOf b p)
-      d = told-done hostReportBefore (reductionsOf b p) (sym number ∙ e)
+      d : ToldDone hostReportBefore (reductionsOf pivotRule b p)
+      d = told-done hostReportBefore (reductionsOf pivotRule b p) (sym number ∙ e)
 
       right : Right (sectionsOf b) p (d .rows) (d .rank) (d .state)
-      right = reductionsOf-right b p (complex (d .passes)) (d .rows) (d .rank) (d .state) (d .reductions)
+      right = reductionsOf-right pivotRule-is-rule b p (complex (d .passes)) (d .rows) (d .rank) (d .state) (d .reductions)
 
       small : within entryLimit (d .state) ≡ true
-      small = reductionsOf-within b p (complex (d .passes)) (d .rows) (d .rank) (d .state) (d .reductions)
+      small = reductionsOf-within pivotRule-is-rule b p (complex (d .passes)) (d .rows) (d .rank) (d .state) (d .reductions)
 
       few : count (sectionsOf b) p ≤ libraryLimit
       few = omega (arith, complex (d .passes) .within p)

@@ -14,6 +14,8 @@ use Rattle.sheet_format.specs.Check.{first, sectionsOf, refusal}
 use Rattle.sheet_format.specs.Sheet.{Bytes}
 use Rattle.sheet_format.specs.Accept.{accepted-complex}
 use Rattle.reduction_steps.specs.State.{State}
+use Rattle.reduction_steps.specs.Pivot.{pivotRule}
+use Rattle.reduction_steps.specs.PivotLaws.{pivotRule-is-rule}
 use Rattle.reports.specs.Reductions.{Reductions, tooWide, reduced}
 use Rattle.reports.specs.Report.{kind, reported, freeRank, torsionCount, reportList, coordinateList}
 use Rattle.reports.specs.ReportLaws.{length-coordinateList}
@@ -31,7 +33,7 @@ use Rattle.answers.specs.Calls.{reductionsOf-wide, reductionsOf-right}
 
 -- the text of dimension p
 abbrev textOf : List ℕ → ℕ → List ℕ
-textOf b p = dimensionText p (count (sectionsOf b) p) (reductionsOf b p)
+textOf b p = dimensionText p (count (sectionsOf b) p) (reductionsOf pivotRule b p)
 
 turns : (b : List ℕ) (more p : ℕ) → inTurn (p + more) (textOf b) ≡ inTurn p (textOf b) ++ dimensionsText b more p
 unfolding inTurn dimensionsText
@@ -74,17 +76,17 @@ module _ (b : List ℕ) (bytes : Bytes b) (accepted : refusal hostLimit b ≡ 0)
           work-slots = omega (arith, length-replicate (workSlots (sectionsOf b) p) (pos 0));
         })
 
-    module _ (h : p ≤ top) (s r : ℕ) (x : State) (e : reductionsOf b p ≡ reduced s r x) where
+    module _ (h : p ≤ top) (s r : ℕ) (x : State) (e : reductionsOf pivotRule b p ≡ reduced s r x) where
       abbrev numbers : ℕ → ℕ → State → List ℤ
       numbers s r x = reportList n s r x
 
       report-done : reportCall hostLimit b p report work .answer ≡ done (freeRank s r) (torsionCount r x)
       unfolding reportCall
-      report-done = call-answer (first (callChecks hostLimit b p reportSlots (length report) (length work))) (reductionsOf b p) numbers report work (passes h) s r x e
+      report-done = call-answer (first (callChecks hostLimit b p reportSlots (length report) (length work))) (reductionsOf pivotRule b p) numbers report work (passes h) s r x e
 
       report-left : reportCall hostLimit b p report work .output ≡ written (reportList n s r x) report
       unfolding reportCall
-      report-left = call-output (first (callChecks hostLimit b p reportSlots (length report) (length work))) (reductionsOf b p) numbers report work (passes h) s r x e
+      report-left = call-output (first (callChecks hostLimit b p reportSlots (length report) (length work))) (reductionsOf pivotRule b p) numbers report work (passes h) s r x e
 
       -- the numbers of the report give the text
       report-text : dimensionText p n (reduced s r x)
@@ -95,11 +97,11 @@ module _ (b : List ℕ) (bytes : Bytes b) (accepted : refusal hostLimit b ≡ 0)
           ∙ ap (λ (k : ℕ). reportText p n (torsionCount r x) k (reportCall hostLimit b p report work .output)) (sym (length-coordinateList n s x []) ∙ coordinates-length right [])
         where
           right : Right (sectionsOf b) p s r x
-          right = reductionsOf-right b p complex s r x e
+          right = reductionsOf-right pivotRule-is-rule b p complex s r x e
 
-    printed : p ≤ top → (R : Reductions) → reductionsOf b p ≡ R → DimensionPrinted b p (dimensionText p n R)
+    printed : p ≤ top → (R : Reductions) → reductionsOf pivotRule b p ≡ R → DimensionPrinted b p (dimensionText p n R)
     unfolding dimensionText
-    printed h tooWide e = too-wide (reductionsOf-wide b p complex .0 e) refl
+    printed h tooWide e = too-wide (reductionsOf-wide pivotRule-is-rule b p complex .0 e) refl
     printed h (reduced s r x) e = reports report work (freeRank s r) (torsionCount r x) (report-done h s r x e) (report-text h s r x e)
 
   -- ---- all dimensions
@@ -109,7 +111,7 @@ module _ (b : List ℕ) (bytes : Bytes b) (accepted : refusal hostLimit b ≡ 0)
   dimensions-printed = record {
     texts = textOf b;
     in-turn = ap (λ (k : ℕ). textFor k b) accepted ∙ sym (turns-all b);
-    each = λ p l. printed p l (reductionsOf b p) refl;
+    each = λ p l. printed p l (reductionsOf pivotRule b p) refl;
   }
 
 -- ---- a refused sheet
@@ -132,7 +134,7 @@ turns-feeds : (b : List ℕ) (n : ℕ) → n ≤ feeds (inTurn n (textOf b))
 unfolding inTurn
 turns-feeds b zero = omega arith
 turns-feeds b (suc n) =
-    omega (arith, turns-feeds b n, text-feeds n (count (sectionsOf b) n) (reductionsOf b n), feeds-append (inTurn n (textOf b)) (textOf b n))
+    omega (arith, turns-feeds b n, text-feeds n (count (sectionsOf b) n) (reductionsOf pivotRule b n), feeds-append (inTurn n (textOf b)) (textOf b n))
 
 module _ (b : List ℕ) where
   accepted-other : refusal hostLimit b ≡ 0 → (k : ℕ) → programText b ≢ refusalLine k

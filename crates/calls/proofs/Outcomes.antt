@@ -15,8 +15,7 @@ use Rattle.complexes.specs.Boundary.{countBelow, boundary}
 use Rattle.sheet_format.specs.Layout.{top}
 use Rattle.sheet_format.specs.Check.{sectionsOf}
 use Rattle.reduction_steps.specs.Table.{tableWithin}
-use Rattle.reduction_steps.specs.Pivot.{release1}
-use Rattle.reduction_steps.specs.PivotLaws.{release1-is-rule}
+use Rattle.reduction_steps.specs.Pivot.{Rule, IsRule}
 use Rattle.reduction_steps.specs.Step.{Machine, done, reduce}
 use Rattle.reduction_laws.specs.Shape.{Shaped}
 use Rattle.reduction_laws.specs.SmithForm as machine
@@ -76,10 +75,10 @@ module _ {M : Matrix} {w w′ : List ℤ} {A : theory.Matrix} (x : Effect) where
   pub became-wide : x ≡ written.TooWide → Became M w A x w′ → Exceeds M w A w′
   became-wide e h = subst (λ (z : Effect). Became M w A z w′) e h
 
-module _ (b : List ℕ) (p n : ℕ) (complex : Complex top libraryLimit (sectionsOf b)) (slots : workSlots (sectionsOf b) p ≤ n) where
+module _ {rule : Rule} (is-rule : IsRule rule) (b : List ℕ) (p n : ℕ) (complex : Complex top libraryLimit (sectionsOf b)) (slots : workSlots (sectionsOf b) p ≤ n) where
   -- the first reduction is done with rank r, and the slice holds the state that it leaves
   pub record FirstDone (r : ℕ) (w : List ℤ) : Type 0 where
-    pub outcome : reduce entryLimit (firstSizes (sectionsOf b) p) release1 (firstStart (sectionsOf b) p) ≡ done r (stateOf (firstLayoutOf b p) w)
+    pub outcome : reduce entryLimit (firstSizes (sectionsOf b) p) rule (firstStart (sectionsOf b) p) ≡ done r (stateOf (firstLayoutOf b p) w)
     pub rank-within : r ≤ count (sectionsOf b) p
     pub shaped : Shaped (firstSizes (sectionsOf b) p) (stateOf (firstLayoutOf b p) w)
     pub kept : StillSmall n w
@@ -95,19 +94,19 @@ module _ (b : List ℕ) (p n : ℕ) (complex : Complex top libraryLimit (section
 
   module _ (W : Layout) (is : W ≡ firstLayoutOf b p) {w : List ℤ} (f : Filled b p n w) where
     -- it starts as the definition's
-    starts : reductionOf W w ≡ reduce entryLimit (firstSizes (sectionsOf b) p) release1 (firstStart (sectionsOf b) p)
+    starts : reductionOf rule W w ≡ reduce entryLimit (firstSizes (sectionsOf b) p) rule (firstStart (sectionsOf b) p)
     unfolding firstLayout
-    starts = rw is (ap (reduce entryLimit (firstSizes (sectionsOf b) p) release1) (f .state))
+    starts = rw is (ap (reduce entryLimit (firstSizes (sectionsOf b) p) rule) (f .state))
 
-    pub first-refused : {x : Refusal} {w′ : List ℤ} → ReductionRefused (reductionOf W w) (length w) x w′
-        → TwiceReduced b p (reductionsOf b p) n (Refused refusal.TooWide) w′
+    pub first-refused : {x : Refusal} {w′ : List ℤ} → ReductionRefused (reductionOf rule W w) (length w) x w′
+        → TwiceReduced b p (reductionsOf rule b p) n (Refused refusal.TooWide) w′
     unfolding reductionsOf
     first-refused h = (
-      first-wide release1 entryLimit (sectionsOf b) p (sym starts ∙ h .outcome),
+      first-wide rule entryLimit (sectionsOf b) p (sym starts ∙ h .outcome),
       cleared (f .kept .same-length) (h .cleared),
     )
 
-    pub first-done : {r : ℕ} {w′ : List ℤ} → ReductionDone W (reductionOf W w) (length w) r w′ → FirstDone r w′
+    pub first-done : {r : ℕ} {w′ : List ℤ} → ReductionDone W (reductionOf rule W w) (length w) r w′ → FirstDone r w′
     first-done {r} {w′} h = record {
       outcome = outcome;
       rank-within = le-trans (right .bound) (min-le-right (countBelow (sectionsOf b) p) (count (sectionsOf b) p));
@@ -115,11 +114,11 @@ module _ (b : List ℕ) (p n : ℕ) (complex : Complex top libraryLimit (section
       kept = record { same-length = h .kept .same-length ∙ f .kept .same-length; small = h .kept .small };
     }
       where
-        outcome : reduce entryLimit (firstSizes (sectionsOf b) p) release1 (firstStart (sectionsOf b) p) ≡ done r (stateOf (firstLayoutOf b p) w′)
+        outcome : reduce entryLimit (firstSizes (sectionsOf b) p) rule (firstStart (sectionsOf b) p) ≡ done r (stateOf (firstLayoutOf b p) w′)
         outcome = sym starts ∙ h .outcome ∙ ap (λ (X : Layout). done r (stateOf X w′)) is
 
         right : machine.Reduced entryLimit (firstSizes (sectionsOf b) p) (firstStart (sectionsOf b) p) r (stateOf (firstLayoutOf b p) w′)
-        right = first-reduced complex release1 release1-is-rule entryLimit p (omega arith) r (stateOf (firstLayoutOf b p) w′) outcome
+        right = first-reduced complex rule is-rule entryLimit p (omega arith) r (stateOf (firstLayoutOf b p) w′) outcome
 
   -- ---- the product
 
@@ -143,10 +142,10 @@ module _ (b : List ℕ) (p n : ℕ) (complex : Complex top libraryLimit (section
     abbrev pub asked : theory.Matrix
     asked = mul (W .«row_follower» .width) (contents (W .«row_follower») w) (boundary (sectionsOf b) (suc p))
 
-    pub product-refused : {w′ : List ℤ} → Exceeds (W .matrix) w asked w′ → reductionsOf b p ≡ reports.tooWide
+    pub product-refused : {w′ : List ℤ} → Exceeds (W .matrix) w asked w′ → reductionsOf rule b p ≡ reports.tooWide
     unfolding reductionsOf secondLayout
     product-refused {w′} h =
-        product-wide release1 entryLimit (sectionsOf b) p r (stateOf (firstLayoutOf b p) w) (f .outcome)
+        product-wide rule entryLimit (sectionsOf b) p r (stateOf (firstLayoutOf b p) w) (f .outcome)
         (product-beyond b p n r slots (f .rank-within) w (f .shaped) (rw is at h))
 
     pub second-started : {w′ : List ℤ} → Holds (W .matrix) w asked w′ → SecondStarted r w w′
@@ -161,32 +160,32 @@ module _ (b : List ℕ) (p n : ℕ) (complex : Complex top libraryLimit (section
   -- ---- the second reduction
 
   module _ {r : ℕ} {w w′ : List ℤ} (s : SecondStarted r w w′) (W : Layout) (is : W ≡ secondLayoutOf b p r) where
-    starts-again : reductionOf W w′ ≡ reduce entryLimit (secondSizes (sectionsOf b) p r) release1 (secondStart (sectionsOf b) p r (stateOf (firstLayoutOf b p) w))
+    starts-again : reductionOf rule W w′ ≡ reduce entryLimit (secondSizes (sectionsOf b) p r) rule (secondStart (sectionsOf b) p r (stateOf (firstLayoutOf b p) w))
     unfolding secondLayout
-    starts-again = rw is (ap (reduce entryLimit (secondSizes (sectionsOf b) p r) release1) (s .state))
+    starts-again = rw is (ap (reduce entryLimit (secondSizes (sectionsOf b) p r) rule) (s .state))
 
-    pub second-refused : {x : Refusal} {w″ : List ℤ} → ReductionRefused (reductionOf W w′) (length w′) x w″
-        → TwiceReduced b p (reductionsOf b p) n (Refused refusal.TooWide) w″
+    pub second-refused : {x : Refusal} {w″ : List ℤ} → ReductionRefused (reductionOf rule W w′) (length w′) x w″
+        → TwiceReduced b p (reductionsOf rule b p) n (Refused refusal.TooWide) w″
     unfolding reductionsOf
     second-refused h = (
-      second-wide release1 entryLimit (sectionsOf b) p r (stateOf (firstLayoutOf b p) w) (s .first .outcome) (s .narrow) (sym starts-again ∙ h .outcome),
+      second-wide rule entryLimit (sectionsOf b) p r (stateOf (firstLayoutOf b p) w) (s .first .outcome) (s .narrow) (sym starts-again ∙ h .outcome),
       cleared (s .kept .same-length) (h .cleared),
     )
 
-    pub second-done : {last : ℕ} {w″ : List ℤ} → ReductionDone W (reductionOf W w′) (length w′) last w″
-        → TwiceReduced b p (reductionsOf b p) n (Done (record { layout = W; rank = last })) w″
+    pub second-done : {last : ℕ} {w″ : List ℤ} → ReductionDone W (reductionOf rule W w′) (length w′) last w″
+        → TwiceReduced b p (reductionsOf rule b p) n (Done (record { layout = W; rank = last })) w″
     unfolding reductionsOf secondLayout afterSecond
     second-done {last} {w″} h = record {
       first-rank = r;
       rank-within = s .first .rank-within;
       layout-is = is;
       is = outcome;
-      rank-below = reductions-right complex release1 release1-is-rule entryLimit p (omega arith) (W .matrix .lines) last (stateOf W w″) outcome .rank-bound;
+      rank-below = reductions-right complex rule is-rule entryLimit p (omega arith) (W .matrix .lines) last (stateOf W w″) outcome .rank-bound;
       kept = record { same-length = h .kept .same-length ∙ s .kept .same-length; small = h .kept .small };
     }
       where
-        outcome : reductionsOf b p ≡ reports.reduced (W .matrix .lines) last (stateOf W w″)
+        outcome : reductionsOf rule b p ≡ reports.reduced (W .matrix .lines) last (stateOf W w″)
         outcome =
-            after-second release1 entryLimit (sectionsOf b) p r (stateOf (firstLayoutOf b p) w) (s .first .outcome) (s .narrow)
+            after-second rule entryLimit (sectionsOf b) p r (stateOf (firstLayoutOf b p) w) (s .first .outcome) (s .narrow)
             (done last (stateOf W w″)) (sym starts-again ∙ h .outcome)
             ∙ ap (λ (k : ℕ). reports.reduced k last (stateOf W w″)) (sym (ap (λ (X : Layout). X .matrix .lines) is))

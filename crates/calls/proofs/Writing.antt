@@ -10,8 +10,7 @@ use Rattle.complexes.specs.Complex.{Complex, count}
 use Rattle.complexes.specs.Boundary.{countBelow}
 use Rattle.sheet_format.specs.Layout.{top}
 use Rattle.sheet_format.specs.Check.{sectionsOf}
-use Rattle.reduction_steps.specs.Pivot.{release1}
-use Rattle.reduction_steps.specs.PivotLaws.{release1-is-rule}
+use Rattle.reduction_steps.specs.Pivot.{Rule, IsRule}
 use Rattle.reports.specs.Call.{workSlots, reportSlots, reductionsOf}
 use Rattle.limits.specs.Limits.{entryLimit, coefficientLimit, libraryLimit}
 use Rattle.answers.specs.TwoReductions.{Right, reductions-right}
@@ -23,8 +22,8 @@ use Rattle.operations.specs.Layouts.{secondLayout}
 use Rattle.calls.specs.Slices.{ReducedTwice}
 use Rattle.calls.proofs.Places.{second-laid}
 
-module _ {b : List ℕ} {p n : ℕ} {x : Reduced} {w : List ℤ} (complex : Complex top libraryLimit (sectionsOf b)) (slots : workSlots (sectionsOf b) p ≤ n)
-    (h : ReducedTwice b p (reductionsOf b p) n x w) where
+module _ {rule : Rule} (is : IsRule rule) {b : List ℕ} {p n : ℕ} {x : Reduced} {w : List ℤ} (complex : Complex top libraryLimit (sectionsOf b)) (slots : workSlots (sectionsOf b) p ≤ n)
+    (h : ReducedTwice b p (reductionsOf rule b p) n x w) where
   laid : Laid (length w) (x .layout)
   laid =
       rw (h .kept .same-length, h .layout-is)
@@ -33,7 +32,7 @@ module _ {b : List ℕ} {p n : ℕ} {x : Reduced} {w : List ℤ} (complex : Comp
   right : Right (sectionsOf b) p (x .layout .matrix .lines) (x .rank) (stateOf (x .layout) w)
   unfolding reductionsOf
   right =
-      reductions-right complex release1 release1-is-rule entryLimit p (omega arith) (x .layout .matrix .lines) (x .rank) (stateOf (x .layout) w) (h .is)
+      reductions-right complex rule is entryLimit p (omega arith) (x .layout .matrix .lines) (x .rank) (stateOf (x .layout) w) (h .is)
 
   kinds : Kinds (x .layout .matrix) w
   unfolding stateOf

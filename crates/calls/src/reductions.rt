@@ -4,6 +4,7 @@ ghost use Prim.Native.Nat.{_≤_};
 ghost use lib.ListN.{length};
 ghost use Rattle.sheet_format.specs.Layout.{top};
 ghost use Rattle.sheet_format.specs.Check.{sectionsOf};
+ghost use Rattle.reduction_steps.specs.Pivot.{pivotRule};
 ghost use Rattle.reports.specs.Call.{workSlots, reductionsOf};
 ghost use Rattle.faces.specs.Face.{Accepted};
 ghost use Rattle.calls.specs.Admission.{SizesRead};
@@ -46,7 +47,7 @@ pub fn reduce_twice(s: &[u8], p: usize, sizes: Sizes, w: &mut [i32]) -> Reductio
     requires { ⌜ Accepted (now s) × (p ≤ top) ⌝ }
     requires { ⌜ workSlots (sectionsOf (now s)) p ≤ length (now w) ⌝ }
     requires { ⌜ SizesRead (now s) p sizes ⌝ }
-    ensures { λ r. ⌜ TwiceReduced (now (s .entry)) p (reductionsOf (now (s .entry)) p) (length (now (w .entry))) r (now (w .exit)) ⌝ }
+    ensures { λ r. ⌜ TwiceReduced (now (s .entry)) p (reductionsOf pivotRule (now (s .entry)) p) (length (now (w .entry))) r (now (w .exit)) ⌝ }
 {
     let first = Layout::first(sizes.cells, sizes.rows, sizes.columns);
     fill_first(s, p, first, w);

@@ -13,6 +13,7 @@ use Rattle.sheet_format.specs.Accept.{accepted-iff, sections-layout}
 use Rattle.homology_groups.specs.Chain.{Chain, combination}
 use Rattle.homology_groups.specs.ChainLaws.{boundary-same}
 use Rattle.reduction_steps.specs.State.{State}
+use Rattle.reduction_steps.specs.Pivot.{pivotRule}
 use Rattle.reports.specs.Report.{freeRank, torsionCount}
 use Rattle.reports.specs.Reductions.{Reductions, tooWide, reduced}
 use Rattle.reports.specs.Call.{reductionsOf, reportCall}
@@ -104,7 +105,7 @@ record CoordinatesBehind (b : List ℕ) (p : ℕ) (z : Chain) (c : ℕ → ℤ) 
   rows : ℕ
   rank : ℕ
   state : State
-  reductions : reductionsOf b p ≡ reduced rows rank state
+  reductions : reductionsOf pivotRule b p ≡ reduced rows rank state
   right : Right (sectionsOf b) p rows rank state
   chain : List ℤ
   agrees : (i : ℕ) → i < count (sectionsOf b) p → slot chain i ≡ z i
@@ -160,7 +161,7 @@ record ReportBehind (b : List ℕ) (p : ℕ) (report : ℕ → ℤ) : Type 0 whe
   rows : ℕ
   rank : ℕ
   state : State
-  reductions : reductionsOf b p ≡ reduced rows rank state
+  reductions : reductionsOf pivotRule b p ≡ reduced rows rank state
   reads : Reads (sectionsOf b) p rows rank state report
 
 report-behind : (b : List ℕ) (p : ℕ) → Bytes b → (report : ℕ → ℤ) → ReportOf b p report → ReportBehind b p report

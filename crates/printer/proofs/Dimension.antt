@@ -11,6 +11,7 @@ use Rattle.sheet_format.specs.Layout.{top}
 use Rattle.sheet_format.specs.Check.{sectionsOf, countField, refusal}
 use Rattle.sheet_format.specs.Sheet.{Bytes}
 use Rattle.sheet_format.specs.SheetLaws.{count-sectionsOf}
+use Rattle.reduction_steps.specs.Pivot.{pivotRule}
 use Rattle.refusal.specs.declared.Refusal.{Refusal}
 use Rattle.refusal.specs.Number.{numberOf}
 use Rattle.reports.specs.Report.{kind, reported, torsionCount, reportList}
@@ -32,7 +33,7 @@ use Rattle.calls.specs.Answer.{CallAnswers}
 
 -- the text of dimension p of the sheet b
 abbrev pub textOf : List ℕ → ℕ → List ℕ
-textOf b p = dimensionText p (count (sectionsOf b) p) (reductionsOf b p)
+textOf b p = dimensionText p (count (sectionsOf b) p) (reductionsOf pivotRule b p)
 
 -- what `put_report` asks for
 pub record ReportRoom (cells t f : ℕ) (report : List ℤ) : Type 0 where
@@ -78,7 +79,7 @@ module _ (limit : ℕ) (host : limit ≡ hostLimit) (b : List ℕ) (accepted : r
         s : Sized b p (x .free) (x .torsion)
         s = sizes .is-sized
 
-        c : ReducedWith (reductionsOf b p) (x .free) (x .torsion)
+        c : ReducedWith (reductionsOf pivotRule b p) (x .free) (x .torsion)
         c = s .counted
 
         n : ℕ

@@ -69,9 +69,9 @@ pub record Examples : Type 0 where
   pub texts : T (every textGood textCases)
   pub hosts : T (every hostGood hostCases)
   -- an edge at the limits 0 and 1
-  pub wideInFirst : end 0 edgeSections 1 ≡ inFirst
-  pub wideInProduct : end 0 edgeSections 0 ≡ inProduct
-  pub notWide : end 1 edgeSections 1 ≡ atEnd
+  pub wideInFirst : end release1 0 edgeSections 1 ≡ inFirst
+  pub wideInProduct : end release1 0 edgeSections 0 ≡ inProduct
+  pub notWide : end release1 1 edgeSections 1 ≡ atEnd
 
 pub examples : Examples
 unfolding every sameList sameBytes textGood hostGood called sameCalled end endOfFirst endOfProduct endOfSecond
@@ -88,4 +88,4 @@ examples = record { texts = tt; hosts = tt; wideInFirst = refl; wideInProduct = 
 -- the edge's reductions at the limit 0 are too wide
 pub edge-wide : (reductions release1 0 edgeSections 1 ≡ tooWide) × (reductions release1 0 edgeSections 0 ≡ tooWide)
 unfolding endsWide
-edge-wide = (end-wide 0 edgeSections 1 inFirst (examples .wideInFirst) refl, end-wide 0 edgeSections 0 inProduct (examples .wideInProduct) refl)
+edge-wide = (end-wide release1 0 edgeSections 1 inFirst (examples .wideInFirst) refl, end-wide release1 0 edgeSections 0 inProduct (examples .wideInProduct) refl)

@@ -10,6 +10,7 @@ use Rattle.lists.specs.Tabulate.{tabulate}
 use Rattle.complexes.specs.Complex.{count}
 use Rattle.sheet_format.specs.Check.{sectionsOf, first}
 use Rattle.reduction_steps.specs.State.{State}
+use Rattle.reduction_steps.specs.Pivot.{pivotRule}
 use Rattle.reports.specs.Reductions.{Reductions, tooWide, reduced}
 use Rattle.reports.specs.Report.{reportList, coordinateList}
 use Rattle.reports.specs.Call.{callChecks, chainChecks, reportSlots, coordinateSlots, workSlots, reductionsOf}
@@ -92,7 +93,7 @@ finishedWith (reduced s r x) numbers output =
 unfoldable pub hostReport : List ℕ → ℕ → List ℕ → HostCalled
 hostReport b p output =
     orRefusedWith (first (callChecks hostLimit b p reportSlots (slotsIn output) (workSlots (sectionsOf b) p))) output
-    (finishedWith (reductionsOf b p) (λ s r x. reportList (count (sectionsOf b) p) s r x) output)
+    (finishedWith (reductionsOf pivotRule b p) (λ s r x. reportList (count (sectionsOf b) p) s r x) output)
 
 -- fildwuk_coordinates
 unfoldable pub hostCoordinates : List ℕ → ℕ → List ℕ → List ℕ → HostCalled
@@ -101,4 +102,4 @@ hostCoordinates b p chain output =
     (first (callChecks hostLimit b p coordinateSlots (slotsIn output) (workSlots (sectionsOf b) p)
     ++ chainChecks b p (chainFrom (count (sectionsOf b) p) chain)))
     output
-    (finishedWith (reductionsOf b p) (λ s r x. coordinateList (count (sectionsOf b) p) s x (chainFrom (count (sectionsOf b) p) chain)) output)
+    (finishedWith (reductionsOf pivotRule b p) (λ s r x. coordinateList (count (sectionsOf b) p) s x (chainFrom (count (sectionsOf b) p) chain)) output)

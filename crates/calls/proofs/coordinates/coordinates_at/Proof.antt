@@ -11,6 +11,8 @@ use lib.ListN.{length, getD}
 use Rattle.complexes.specs.Complex.{Complex, count}
 use Rattle.sheet_format.specs.Layout.{top}
 use Rattle.sheet_format.specs.Check.{sectionsOf, first}
+use Rattle.reduction_steps.specs.Pivot.{pivotRule}
+use Rattle.reduction_steps.specs.PivotLaws.{pivotRule-is-rule}
 use Rattle.reports.specs.Call.{reductionsOf, coefficientExceeds, chainChecks}
 use Rattle.limits.specs.Limits.{libraryLimit, coefficientLimit}
 use Rattle.faces.specs.Face.{Accepted}
@@ -138,7 +140,7 @@ returns-5 c =
     let a = entered (checked third) .args in
     coordinates-wide (a .sheet .limit) (now (a .s)) (a .dimension) (now (a .chain)) (now (a .coordinates)) (now (a .work))
     (granted (checked third) .passed) (chain third)
-    (twice-refused (now (a .s)) (a .dimension) (reductionsOf (now (a .s)) (a .dimension)) (called .reduce-twice .result) (c .enum-told .given .1)
+    (twice-refused (now (a .s)) (a .dimension) (reductionsOf pivotRule (now (a .s)) (a .dimension)) (called .reduce-twice .result) (c .enum-told .given .1)
     (called .reduce-twice .ensures))
 
 same-length : tie.Need-same-length
@@ -154,11 +156,11 @@ module _ (c : tie.After-known-told3) where
   third = called .before .before
 
   twice : let a = entered (checked third) .args in
-      ReducedTwice (now (a .s)) (a .dimension) (reductionsOf (now (a .s)) (a .dimension)) (length (now (a .work))) (c .before .reduced .given .0 .0)
+      ReducedTwice (now (a .s)) (a .dimension) (reductionsOf pivotRule (now (a .s)) (a .dimension)) (length (now (a .work))) (c .before .reduced .given .0 .0)
       (called .reduce-twice .last .1 .1 .1 .0)
   twice =
       let a = entered (checked third) .args in
-      twice-done (now (a .s)) (a .dimension) (reductionsOf (now (a .s)) (a .dimension)) (called .reduce-twice .result) (c .before .reduced .given .1)
+      twice-done (now (a .s)) (a .dimension) (reductionsOf pivotRule (now (a .s)) (a .dimension)) (called .reduce-twice .result) (c .before .reduced .given .1)
       (called .reduce-twice .ensures)
 
 write-coordinates-requires : tie.Need-write-coordinates-requires
@@ -166,7 +168,7 @@ write-coordinates-requires c κs =
     let told = c .before .before in
     let s = checked (third told) in
     let p = granted s .passed in
-    can-coordinate (complex s) (p .work-slots) (twice told) (p .output-slots) (size (sized (second (third told)))) (small (second (third told)))
+    can-coordinate pivotRule-is-rule (complex s) (p .work-slots) (twice told) (p .output-slots) (size (sized (second (third told)))) (small (second (third told)))
 
 returns-6 : tie.Need-returns-6
 returns-6 c =

@@ -7,6 +7,8 @@ use lib.ListN.{length}
 use Rattle.complexes.specs.Complex.{Complex}
 use Rattle.sheet_format.specs.Layout.{top}
 use Rattle.sheet_format.specs.Check.{sectionsOf}
+use Rattle.reduction_steps.specs.Pivot.{pivotRule}
+use Rattle.reduction_steps.specs.PivotLaws.{pivotRule-is-rule}
 use Rattle.reports.specs.Call.{reductionsOf}
 use Rattle.limits.specs.Limits.{libraryLimit}
 use Rattle.faces.specs.Face.{Accepted}
@@ -75,7 +77,7 @@ returns-2 c =
     let called = c .before .before .before in
     let a = entered (admitted called) .args in
     report-wide (a .sheet .limit) (now (a .s)) (a .dimension) (now (a .report)) (now (a .work)) (granted (admitted called) .passed)
-    (twice-refused (now (a .s)) (a .dimension) (reductionsOf (now (a .s)) (a .dimension)) (called .reduce-twice .result) (c .enum-told .given .1)
+    (twice-refused (now (a .s)) (a .dimension) (reductionsOf pivotRule (now (a .s)) (a .dimension)) (called .reduce-twice .result) (c .enum-told .given .1)
     (called .reduce-twice .ensures))
 
 same-length : tie.Need-same-length
@@ -91,18 +93,18 @@ module _ (c : tie.After-known-told3) where
   sized = admitted called
 
   twice : let a = entered sized .args in
-      ReducedTwice (now (a .s)) (a .dimension) (reductionsOf (now (a .s)) (a .dimension)) (length (now (a .work))) (c .before .reduced .given .0 .0)
+      ReducedTwice (now (a .s)) (a .dimension) (reductionsOf pivotRule (now (a .s)) (a .dimension)) (length (now (a .work))) (c .before .reduced .given .0 .0)
       (called .reduce-twice .last .1 .1 .1 .0)
   twice =
       let a = entered sized .args in
-      twice-done (now (a .s)) (a .dimension) (reductionsOf (now (a .s)) (a .dimension)) (called .reduce-twice .result) (c .before .reduced .given .1)
+      twice-done (now (a .s)) (a .dimension) (reductionsOf pivotRule (now (a .s)) (a .dimension)) (called .reduce-twice .result) (c .before .reduced .given .1)
       (called .reduce-twice .ensures)
 
 write-report-requires : tie.Need-write-report-requires
 write-report-requires c κs =
     let told = c .before .before in
     let p = granted (sized told) .passed in
-    can-report (complex (sized told)) (p .work-slots) (twice told) (p .output-slots)
+    can-report pivotRule-is-rule (complex (sized told)) (p .work-slots) (twice told) (p .output-slots)
 
 returns-3 : tie.Need-returns-3
 returns-3 c =
