@@ -9,11 +9,11 @@ use Prim.Native.Nat.{ℕ, zero, suc, _≤_}
 use native.Mathlib.Omega.{arith}
 use lib.ListN.{length, getD}
 use lib.IntN.{ℤ, pos}
-use Rattle.complexes.specs.Complex.{Sections, Complex}
-use Rattle.sheet_format.specs.Layout.{top}
-use Rattle.sheet_format.specs.Check.{sectionsOf, first}
+use Rattle.complexes.specs.Complex.{Sections}
+use Rattle.complexes.specs.ChainComplex.{ChainComplex}
+use Rattle.sheet_format.specs.Check.{chainCells, first}
 use Rattle.sheet_format.specs.Sheet.{Bytes}
-use Rattle.sheet_format.specs.Accept.{accepted-complex}
+use Rattle.sheet_format.specs.Accept.{accepted-chains}
 use Rattle.reduction_steps.specs.State.{State, within}
 use Rattle.reduction_steps.specs.Pivot.{Rule, IsRule}
 use Rattle.reports.specs.Reductions.{Reductions, tooWide, reduced}
@@ -108,33 +108,33 @@ module _ (numbers : ℕ → ℕ → State → List ℤ) (output work : List ℤ)
 
 -- ---- an accepted sheet
 
--- a call that passes the checks 1 to 9 has a complex
-pub passed-complex : (limit : ℕ) (b : List ℕ) (p : ℕ) (slots : Sections → ℕ → ℕ) (output work : ℕ) → Bytes b → first (callChecks limit b p slots output work) ≡ 0 → Complex top limit (sectionsOf b)
-passed-complex limit b p slots output work bytes e = accepted-complex limit b bytes (callChecks-zero limit b p slots output work .0 e .accepted)
+-- a call that passes the checks 1 to 9 has a chain complex
+pub passed-chains : (limit : ℕ) (b : List ℕ) (p : ℕ) (slots : Sections → ℕ → ℕ) (output work : ℕ) → Bytes b → first (callChecks limit b p slots output work) ≡ 0 → ChainComplex limit (chainCells b)
+passed-chains limit b p slots output work bytes e = accepted-chains limit b bytes (callChecks-zero limit b p slots output work .0 e .accepted)
 
-module _ {rule : Rule} (is : IsRule rule) {limit : ℕ} (b : List ℕ) (p : ℕ) (complex : Complex top limit (sectionsOf b)) where
-  pub reductionsOf-wide : (reductionsOf rule b p ≡ tooWide) ↔ GoesWide entryLimit rule (sectionsOf b) p
+module _ {rule : Rule} (is : IsRule rule) {limit : ℕ} (b : List ℕ) (p : ℕ) (chains : ChainComplex limit (chainCells b)) where
+  pub reductionsOf-wide : (reductionsOf rule b p ≡ tooWide) ↔ GoesWide entryLimit rule (chainCells b) p
   unfolding reductionsOf
-  reductionsOf-wide = wide-iff complex rule is entryLimit p (omega arith)
+  reductionsOf-wide = wide-iff chains rule is entryLimit p (omega arith)
 
   module _ (s r : ℕ) (x : State) (e : reductionsOf rule b p ≡ reduced s r x) where
-    pub reductionsOf-right : Right (sectionsOf b) p s r x
+    pub reductionsOf-right : Right (chainCells b) p s r x
     unfolding reductionsOf
-    reductionsOf-right = reductions-right complex rule is entryLimit p (omega arith) s r x e
+    reductionsOf-right = reductions-right chains rule is entryLimit p (omega arith) s r x e
 
     pub reductionsOf-within : within entryLimit x ≡ true
     unfolding reductionsOf
-    reductionsOf-within = reductions-within complex rule is entryLimit p (omega arith) s r x e
+    reductionsOf-within = reductions-within chains rule is entryLimit p (omega arith) s r x e
 
 -- a call that is done with f and t: two reductions that are right
 pub record Answered (rule : Rule) (b : List ℕ) (p before f t : ℕ) : Type 0 where
   pub passes : before ≡ 0
   pub counted : ReducedWith (reductionsOf rule b p) f t
-  pub right : Right (sectionsOf b) p (counted .rows) (counted .rank) (counted .state)
+  pub right : Right (chainCells b) p (counted .rows) (counted .rank) (counted .state)
 
-pub answered : {rule : Rule} → IsRule rule → {limit : ℕ} (b : List ℕ) (p before : ℕ) → (before ≡ 0 → Complex top limit (sectionsOf b)) → (numbers : ℕ → ℕ → State → List ℤ)
+pub answered : {rule : Rule} → IsRule rule → {limit : ℕ} (b : List ℕ) (p before : ℕ) → (before ≡ 0 → ChainComplex limit (chainCells b)) → (numbers : ℕ → ℕ → State → List ℤ)
     (output work : List ℤ) (f t : ℕ) → call before (reductionsOf rule b p) numbers output work .answer ≡ done f t → Answered rule b p before f t
-answered {rule} is b p before complex numbers output work f t e =
+answered {rule} is b p before chains numbers output work f t e =
     let d = call-done before (reductionsOf rule b p) numbers output work f t e in
     let c = d .counted in
-    record { passes = d .passes; counted = c; right = reductionsOf-right is b p (complex (d .passes)) (c .rows) (c .rank) (c .state) (c .reductions) }
+    record { passes = d .passes; counted = c; right = reductionsOf-right is b p (chains (d .passes)) (c .rows) (c .rank) (c .state) (c .reductions) }

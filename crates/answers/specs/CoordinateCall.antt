@@ -8,9 +8,9 @@ use native.Mathlib.Nat.{le-trans}
 use native.Mathlib.Omega.{arith}
 use lib.ListN.{length, getD}
 use lib.IntN.{ℤ, pos}
-use Rattle.complexes.specs.Complex.{count, Complex}
-use Rattle.sheet_format.specs.Layout.{top}
-use Rattle.sheet_format.specs.Check.{sectionsOf, first}
+use Rattle.complexes.specs.Complex.{count}
+use Rattle.complexes.specs.ChainComplex.{ChainComplex}
+use Rattle.sheet_format.specs.Check.{chainCells, first}
 use Rattle.sheet_format.specs.Sheet.{Bytes}
 use Rattle.reduction_steps.specs.State.{State}
 use Rattle.reduction_steps.specs.Pivot.{pivotRule}
@@ -29,7 +29,7 @@ use Rattle.answers.specs.Called.{answerNumber, IsDone, Answers, KeptPast
 use Rattle.answers.specs.ChainChecks.{chain-passes}
 use Rattle.answers.specs.Numbers.{coordinates-length}
 use Rattle.answers.specs.CoordinatesRight.{ReadsCoordinates}
-use Rattle.answers.specs.Calls.{told, told-answers, call-number, call-counted, output-left, output-kept, work-left, passed-complex, reductionsOf-wide, Answered, answered}
+use Rattle.answers.specs.Calls.{told, told-answers, call-number, call-counted, output-left, output-kept, work-left, passed-chains, reductionsOf-wide, Answered, answered}
 
 module _ (limit : ℕ) (b : List ℕ) (p : ℕ) (z coordinates work : List ℤ) where
   -- the refusals 1 to 9 of the coordinate call; and those with 10 to 12 after them
@@ -40,7 +40,7 @@ module _ (limit : ℕ) (b : List ℕ) (p : ℕ) (z coordinates work : List ℤ) 
   coordinatesBefore = first (callChecks limit b p coordinateSlots (length coordinates) (length work) ++ chainChecks b p z)
 
   abbrev pub coordinatesNumbers : ℕ → ℕ → State → List ℤ
-  coordinatesNumbers s r x = coordinateList (count (sectionsOf b) p) s x z
+  coordinatesNumbers s r x = coordinateList (count (chainCells b) p) s x z
 
   abbrev pub coordinatesCalled : Called
   coordinatesCalled = coordinateCall limit b p z coordinates work
@@ -51,19 +51,19 @@ module _ (limit : ℕ) (b : List ℕ) (p : ℕ) (z coordinates work : List ℤ) 
   pub coordinates-passed : (coordinatesBefore ≡ 0) ↔ ((sheetBefore ≡ 0) × (first (chainChecks b p z) ≡ 0))
   coordinates-passed = call-chain-zero limit b p coordinateSlots (length coordinates) (length work) z
 
-  coordinates-complex : Bytes b → coordinatesBefore ≡ 0 → Complex top limit (sectionsOf b)
-  coordinates-complex bytes e = passed-complex limit b p coordinateSlots (length coordinates) (length work) bytes (coordinates-passed .0 e .0)
+  coordinates-chains : Bytes b → coordinatesBefore ≡ 0 → ChainComplex limit (chainCells b)
+  coordinates-chains bytes e = passed-chains limit b p coordinateSlots (length coordinates) (length work) bytes (coordinates-passed .0 e .0)
 
-  pub chain-cycle : coordinatesBefore ≡ 0 → IsCycle (sectionsOf b) p (slot z)
+  pub chain-cycle : coordinatesBefore ≡ 0 → IsCycle (chainCells b) p (slot z)
   chain-cycle e = chain-passes b p z (coordinates-passed .0 e .1) .cycle
 
   pub coordinates-number : answerNumber (coordinatesCalled .answer) ≡ told coordinatesBefore (reductionsOf pivotRule b p)
   unfolding coordinateCall
   coordinates-number = call-number coordinatesNumbers coordinates work coordinatesBefore (reductionsOf pivotRule b p)
 
-  pub coordinates-answer : Bytes b → Answers coordinatesBefore (GoesWide entryLimit pivotRule (sectionsOf b) p) (answerNumber (coordinatesCalled .answer))
+  pub coordinates-answer : Bytes b → Answers coordinatesBefore (GoesWide entryLimit pivotRule (chainCells b) p) (answerNumber (coordinatesCalled .answer))
   coordinates-answer bytes =
-      rw coordinates-number (told-answers coordinatesBefore (reductionsOf pivotRule b p) coordinates-narrow (λ e. reductionsOf-wide pivotRule-is-rule b p (coordinates-complex bytes e)))
+      rw coordinates-number (told-answers coordinatesBefore (reductionsOf pivotRule b p) coordinates-narrow (λ e. reductionsOf-wide pivotRule-is-rule b p (coordinates-chains bytes e)))
 
   pub coordinates-counted : answerNumber (coordinatesCalled .answer) ≡ 0 → IsDone (coordinatesCalled .answer)
   unfolding coordinateCall
@@ -80,7 +80,7 @@ module _ (limit : ℕ) (b : List ℕ) (p : ℕ) (z coordinates work : List ℤ) 
   module _ (bytes : Bytes b) {f t : ℕ} (e : coordinatesCalled .answer ≡ done f t) where
     pub coordinates-answered : Answered pivotRule b p coordinatesBefore f t
     unfolding coordinateCall
-    coordinates-answered = answered pivotRule-is-rule b p coordinatesBefore (coordinates-complex bytes) coordinatesNumbers coordinates work f t e
+    coordinates-answered = answered pivotRule-is-rule b p coordinatesBefore (coordinates-chains bytes) coordinatesNumbers coordinates work f t e
 
     abbrev c : ReducedWith (reductionsOf pivotRule b p) f t
     c = coordinates-answered .counted
@@ -92,7 +92,7 @@ module _ (limit : ℕ) (b : List ℕ) (p : ℕ) (z coordinates work : List ℤ) 
     unfolding coordinateCall
     output-is = call-output coordinatesBefore (reductionsOf pivotRule b p) coordinatesNumbers coordinates work (coordinates-answered .passes) (c .rows) (c .rank) (c .state) (c .reductions)
 
-    pub coordinates-read : ReadsCoordinates (sectionsOf b) p (c .rows) (c .rank) (c .state) z (slot (coordinatesCalled .output))
+    pub coordinates-read : ReadsCoordinates (chainCells b) p (c .rows) (c .rank) (c .state) z (slot (coordinatesCalled .output))
     coordinates-read = record {
       places = λ j l.
           ap (λ (o : List ℤ). getD o j (pos 0)) output-is
@@ -104,8 +104,8 @@ module _ (limit : ℕ) (b : List ℕ) (p : ℕ) (z coordinates work : List ℤ) 
     coordinates-kept =
         output-kept coordinatesNumbers coordinates work coordinatesBefore (reductionsOf pivotRule b p) (coordinates-answered .passes) c (t + f) size (le-trans fits slots)
       where
-        fits : t + f ≤ coordinateSlots (sectionsOf b) p
-        fits = rw size at (coordinates-fit (count (sectionsOf b) p) (c .rows) (c .state) z (coordinates-answered .right .rows-bound))
+        fits : t + f ≤ coordinateSlots (chainCells b) p
+        fits = rw size at (coordinates-fit (count (chainCells b) p) (c .rows) (c .state) z (coordinates-answered .right .rows-bound))
 
-        slots : coordinateSlots (sectionsOf b) p ≤ length coordinates
+        slots : coordinateSlots (chainCells b) p ≤ length coordinates
         slots = callChecks-zero limit b p coordinateSlots (length coordinates) (length work) .0 (coordinates-passed .0 (coordinates-answered .passes) .0) .output-slots

@@ -10,7 +10,7 @@ use lib.IntN.{ℤ}
 use Rattle.complexes.specs.Complex.{count}
 use Rattle.complexes.specs.Boundary.{countBelow}
 use Rattle.sheet_format.specs.Layout.{top}
-use Rattle.sheet_format.specs.Check.{sectionsOf, first, refusal}
+use Rattle.sheet_format.specs.Check.{chainCells, first, refusal}
 use Rattle.sheet_format.specs.Sheet.{Bytes}
 use Rattle.reduction_steps.specs.Pivot.{pivotRule}
 use Rattle.reports.specs.Report.{kind, torsionCount, reportList, coordinateList}
@@ -28,15 +28,15 @@ use Rattle.answers.specs.CoordinateCall.{sheetBefore, coordinatesBefore,
 
 -- the numbers of a report, with f free generators and t orders
 abbrev pub reportNumbersOf : List ℕ → ℕ → ℕ → ℕ → ℕ
-reportNumbersOf b p f t = 2 + t + (t + f) * count (sectionsOf b) p
+reportNumbersOf b p f t = 2 + t + (t + f) * count (chainCells b) p
 
 -- dimension p of the sheet b, which is accepted, gives f free generators and t orders
 pub record Sized (b : List ℕ) (p f t : ℕ) : Type 0 where
   pub counted : ReducedWith (reductionsOf pivotRule b p) f t
-  pub cells-within : count (sectionsOf b) p ≤ hostLimit
-  pub total-within : t + f ≤ count (sectionsOf b) p
-  pub report-size : length (reportList (count (sectionsOf b) p) (counted .rows) (counted .rank) (counted .state)) ≡ reportNumbersOf b p f t
-  pub coordinates-size : (z : List ℤ) → length (coordinateList (count (sectionsOf b) p) (counted .rows) (counted .state) z) ≡ t + f
+  pub cells-within : count (chainCells b) p ≤ hostLimit
+  pub total-within : t + f ≤ count (chainCells b) p
+  pub report-size : length (reportList (count (chainCells b) p) (counted .rows) (counted .rank) (counted .state)) ≡ reportNumbersOf b p f t
+  pub coordinates-size : (z : List ℤ) → length (coordinateList (count (chainCells b) p) (counted .rows) (counted .state) z) ≡ t + f
 
 sized : (b : List ℕ) (p before f t : ℕ) → refusal hostLimit b ≡ 0 → Answered pivotRule b p before f t → Sized b p f t
 unfolding torsionCount
@@ -50,8 +50,8 @@ sized b p before f t accepted d =
     }
 
 -- the report's numbers fit where all that check 9 asks for do
-pub numbers-fit : {b : List ℕ} {p f t : ℕ} → Sized b p f t → reportNumbersOf b p f t ≤ reportSlots (sectionsOf b) p
-numbers-fit {b} {p} s = omega (arith, s .total-within, mul-le-mul-right (count (sectionsOf b) p) (s .total-within))
+pub numbers-fit : {b : List ℕ} {p f t : ℕ} → Sized b p f t → reportNumbersOf b p f t ≤ reportSlots (chainCells b) p
+numbers-fit {b} {p} s = omega (arith, s .total-within, mul-le-mul-right (count (chainCells b) p) (s .total-within))
 
 -- a report call that is done, with this report slice
 pub record ReportSized (b : List ℕ) (p : ℕ) (report : List ℤ) (f t : ℕ) : Type 0 where
@@ -96,15 +96,15 @@ pub record WentWide (b : List ℕ) (p k : ℕ) : Type 0 where
   pub number-is : k ≡ 13
 
 module _ (b : List ℕ) (accepted : refusal hostLimit b ≡ 0) where
-  rows-within : (p : ℕ) → countBelow (sectionsOf b) p ≤ hostLimit
+  rows-within : (p : ℕ) → countBelow (chainCells b) p ≤ hostLimit
   unfolding countBelow
   rows-within zero = omega arith
   rows-within (suc p) = counts-within b accepted p
 
-  work-within : (p : ℕ) → workSlots (sectionsOf b) p ≤ workRoom
+  work-within : (p : ℕ) → workSlots (chainCells b) p ≤ workRoom
   work-within p = mul-le-mul (counts-within b accepted p) beside
     where
-      beside : 2 * count (sectionsOf b) p + max (countBelow (sectionsOf b) p) (count (sectionsOf b) (suc p)) ≤ 3 * hostLimit
+      beside : 2 * count (chainCells b) p + max (countBelow (chainCells b) p) (count (chainCells b) (suc p)) ≤ 3 * hostLimit
       beside = omega (arith, counts-within b accepted p, max-le (rows-within p) (counts-within b accepted (suc p)))
 
   module _ (p : ℕ) (dimension : p ≤ top) (report work : List ℤ) (size : length report ≡ reportRoom) (space : length work ≡ workRoom) where

@@ -5,9 +5,9 @@ use Prim.Native.Nat.{ℕ}
 use native.Mathlib.Omega.{arith}
 use lib.IntN.{ℤ, pos}
 use lib.ListN.{length, replicate}
-use Rattle.complexes.specs.Complex.{Complex, count}
-use Rattle.sheet_format.specs.Layout.{top}
-use Rattle.sheet_format.specs.Check.{sectionsOf, first}
+use Rattle.complexes.specs.Complex.{count}
+use Rattle.complexes.specs.ChainComplex.{ChainComplex}
+use Rattle.sheet_format.specs.Check.{chainCells, first}
 use Rattle.reduction_steps.specs.State.{State}
 use Rattle.reduction_steps.specs.Pivot.{pivotRule}
 use Rattle.reduction_steps.specs.PivotLaws.{pivotRule-is-rule}
@@ -40,7 +40,7 @@ module _ (limit : ℕ) (b : List ℕ) (p : ℕ) (z coordinates work : List ℤ) 
 
   -- the coordinates
   abbrev numbers : ℕ → ℕ → State → List ℤ
-  numbers s r x = coordinateList (count (sectionsOf b) p) s x z
+  numbers s r x = coordinateList (count (chainCells b) p) s x z
 
   pub coordinates-refuse : {x : Refusal} → before-chain ≡ numberOf x → CallAnswers (coordinateCall limit b p z coordinates work) (Refused x) coordinates work
   unfolding coordinateCall
@@ -64,13 +64,13 @@ module _ (limit : ℕ) (b : List ℕ) (p : ℕ) (z coordinates work : List ℤ) 
       coordinates-wide h = goes-wide before-reductions (reductionsOf pivotRule b p) numbers coordinates work (chain-next ∙ chain) (h .0) (h .1 .zeros)
 
       pub coordinates-done :
-          Complex top libraryLimit (sectionsOf b) → {x : Reduced} {w : List ℤ} → ReducedTwice b p (reductionsOf pivotRule b p) (length work) x w
+          ChainComplex libraryLimit (chainCells b) → {x : Reduced} {w : List ℤ} → ReducedTwice b p (reductionsOf pivotRule b p) (length work) x w
           → {counts : Counts} {coordinates′ work′ : List ℤ} → WroteCoordinates x w z coordinates counts coordinates′ → work′ ≡ replicate (length w) (pos 0)
           → CallAnswers (coordinateCall limit b p z coordinates work) (Done counts) coordinates′ work′
       unfolding coordinateCall
-      coordinates-done complex {x} {w} h k e =
+      coordinates-done chains {x} {w} h k e =
           is-done before-reductions (reductionsOf pivotRule b p) numbers coordinates work (chain-next ∙ chain) (h .is) (k .free) (k .torsion)
           (k .is
           ∙ ap (λ (cells : ℕ). written (coordinateList cells (x .layout .matrix .lines) (stateOf (x .layout) w) z) coordinates)
-          (follower-width pivotRule-is-rule complex (passed .work-slots) h))
+          (follower-width pivotRule-is-rule chains (passed .work-slots) h))
           (e ∙ ap (λ (m : ℕ). replicate m (pos 0)) (h .kept .same-length))

@@ -10,10 +10,10 @@ use lib.IntN.{ℤ, pos}
 use lib.ListN.{length, replicate, length-replicate}
 use Rattle.matrices.specs.Matrix.{mul}
 use Rattle.matrices.specs.Matrix as theory
-use Rattle.complexes.specs.Complex.{Complex, count}
+use Rattle.complexes.specs.Complex.{count}
+use Rattle.complexes.specs.ChainComplex.{ChainComplex}
 use Rattle.complexes.specs.Boundary.{countBelow, boundary}
-use Rattle.sheet_format.specs.Layout.{top}
-use Rattle.sheet_format.specs.Check.{sectionsOf}
+use Rattle.sheet_format.specs.Check.{chainCells}
 use Rattle.reduction_steps.specs.Table.{tableWithin}
 use Rattle.reduction_steps.specs.Pivot.{Rule, IsRule}
 use Rattle.reduction_steps.specs.Step.{Machine, done, reduce}
@@ -75,50 +75,50 @@ module _ {M : Matrix} {w w′ : List ℤ} {A : theory.Matrix} (x : Effect) where
   pub became-wide : x ≡ written.TooWide → Became M w A x w′ → Exceeds M w A w′
   became-wide e h = subst (λ (z : Effect). Became M w A z w′) e h
 
-module _ {rule : Rule} (is-rule : IsRule rule) (b : List ℕ) (p n : ℕ) (complex : Complex top libraryLimit (sectionsOf b)) (slots : workSlots (sectionsOf b) p ≤ n) where
+module _ {rule : Rule} (is-rule : IsRule rule) (b : List ℕ) (p n : ℕ) (chains : ChainComplex libraryLimit (chainCells b)) (slots : workSlots (chainCells b) p ≤ n) where
   -- the first reduction is done with rank r, and the slice holds the state that it leaves
   pub record FirstDone (r : ℕ) (w : List ℤ) : Type 0 where
-    pub outcome : reduce entryLimit (firstSizes (sectionsOf b) p) rule (firstStart (sectionsOf b) p) ≡ done r (stateOf (firstLayoutOf b p) w)
-    pub rank-within : r ≤ count (sectionsOf b) p
-    pub shaped : Shaped (firstSizes (sectionsOf b) p) (stateOf (firstLayoutOf b p) w)
+    pub outcome : reduce entryLimit (firstSizes (chainCells b) p) rule (firstStart (chainCells b) p) ≡ done r (stateOf (firstLayoutOf b p) w)
+    pub rank-within : r ≤ count (chainCells b) p
+    pub shaped : Shaped (firstSizes (chainCells b) p) (stateOf (firstLayoutOf b p) w)
     pub kept : StillSmall n w
 
   -- the product lies within the limit, and the slice holds the start of the second reduction
   pub record SecondStarted (r : ℕ) (w w′ : List ℤ) : Type 0 where
     pub first : FirstDone r w
-    pub state : stateOf (secondLayoutOf b p r) w′ ≡ secondStart (sectionsOf b) p r (stateOf (firstLayoutOf b p) w)
-    pub narrow : tableWithin entryLimit (product (sectionsOf b) p r (stateOf (firstLayoutOf b p) w)) ≡ true
+    pub state : stateOf (secondLayoutOf b p r) w′ ≡ secondStart (chainCells b) p r (stateOf (firstLayoutOf b p) w)
+    pub narrow : tableWithin entryLimit (product (chainCells b) p r (stateOf (firstLayoutOf b p) w)) ≡ true
     pub kept : StillSmall n w′
 
   -- ---- the first reduction
 
   module _ (W : Layout) (is : W ≡ firstLayoutOf b p) {w : List ℤ} (f : Filled b p n w) where
     -- it starts as the definition's
-    starts : reductionOf rule W w ≡ reduce entryLimit (firstSizes (sectionsOf b) p) rule (firstStart (sectionsOf b) p)
+    starts : reductionOf rule W w ≡ reduce entryLimit (firstSizes (chainCells b) p) rule (firstStart (chainCells b) p)
     unfolding firstLayout
-    starts = rw is (ap (reduce entryLimit (firstSizes (sectionsOf b) p) rule) (f .state))
+    starts = rw is (ap (reduce entryLimit (firstSizes (chainCells b) p) rule) (f .state))
 
     pub first-refused : {x : Refusal} {w′ : List ℤ} → ReductionRefused (reductionOf rule W w) (length w) x w′
         → TwiceReduced b p (reductionsOf rule b p) n (Refused refusal.TooWide) w′
     unfolding reductionsOf
     first-refused h = (
-      first-wide rule entryLimit (sectionsOf b) p (sym starts ∙ h .outcome),
+      first-wide rule entryLimit (chainCells b) p (sym starts ∙ h .outcome),
       cleared (f .kept .same-length) (h .cleared),
     )
 
     pub first-done : {r : ℕ} {w′ : List ℤ} → ReductionDone W (reductionOf rule W w) (length w) r w′ → FirstDone r w′
     first-done {r} {w′} h = record {
       outcome = outcome;
-      rank-within = le-trans (right .bound) (min-le-right (countBelow (sectionsOf b) p) (count (sectionsOf b) p));
+      rank-within = le-trans (right .bound) (min-le-right (countBelow (chainCells b) p) (count (chainCells b) p));
       shaped = right .shaped;
       kept = record { same-length = h .kept .same-length ∙ f .kept .same-length; small = h .kept .small };
     }
       where
-        outcome : reduce entryLimit (firstSizes (sectionsOf b) p) rule (firstStart (sectionsOf b) p) ≡ done r (stateOf (firstLayoutOf b p) w′)
+        outcome : reduce entryLimit (firstSizes (chainCells b) p) rule (firstStart (chainCells b) p) ≡ done r (stateOf (firstLayoutOf b p) w′)
         outcome = sym starts ∙ h .outcome ∙ ap (λ (X : Layout). done r (stateOf X w′)) is
 
-        right : machine.Reduced entryLimit (firstSizes (sectionsOf b) p) (firstStart (sectionsOf b) p) r (stateOf (firstLayoutOf b p) w′)
-        right = first-reduced complex rule is-rule entryLimit p (omega arith) r (stateOf (firstLayoutOf b p) w′) outcome
+        right : machine.Reduced entryLimit (firstSizes (chainCells b) p) (firstStart (chainCells b) p) r (stateOf (firstLayoutOf b p) w′)
+        right = first-reduced chains rule is-rule entryLimit p (omega arith) r (stateOf (firstLayoutOf b p) w′) outcome
 
   -- ---- the product
 
@@ -127,11 +127,11 @@ module _ {rule : Rule} (is-rule : IsRule rule) (b : List ℕ) (p n : ℕ) (compl
     laid-then = rw is (laid-second b p n r slots (f .rank-within) w (f .shaped))
 
     -- what `multiply` asks of Q and of the matrix
-    pub Q-width : W .«row_follower» .width ≡ count (sectionsOf b) p
+    pub Q-width : W .«row_follower» .width ≡ count (chainCells b) p
     unfolding secondLayout
     Q-width = rw is refl
 
-    pub product-width : W .matrix .width ≡ count (sectionsOf b) (suc p)
+    pub product-width : W .matrix .width ≡ count (chainCells b) (suc p)
     unfolding secondLayout
     product-width = rw is refl
 
@@ -140,12 +140,12 @@ module _ {rule : Rule} (is-rule : IsRule rule) (b : List ℕ) (p n : ℕ) (compl
 
     -- Q times the matrix of dimension p + 1, as the code asks for it
     abbrev pub asked : theory.Matrix
-    asked = mul (W .«row_follower» .width) (contents (W .«row_follower») w) (boundary (sectionsOf b) (suc p))
+    asked = mul (W .«row_follower» .width) (contents (W .«row_follower») w) (boundary (chainCells b) (suc p))
 
     pub product-refused : {w′ : List ℤ} → Exceeds (W .matrix) w asked w′ → reductionsOf rule b p ≡ reports.tooWide
     unfolding reductionsOf secondLayout
     product-refused {w′} h =
-        product-wide rule entryLimit (sectionsOf b) p r (stateOf (firstLayoutOf b p) w) (f .outcome)
+        product-wide rule entryLimit (chainCells b) p r (stateOf (firstLayoutOf b p) w) (f .outcome)
         (product-beyond b p n r slots (f .rank-within) w (f .shaped) (rw is at h))
 
     pub second-started : {w′ : List ℤ} → Holds (W .matrix) w asked w′ → SecondStarted r w w′
@@ -160,15 +160,15 @@ module _ {rule : Rule} (is-rule : IsRule rule) (b : List ℕ) (p n : ℕ) (compl
   -- ---- the second reduction
 
   module _ {r : ℕ} {w w′ : List ℤ} (s : SecondStarted r w w′) (W : Layout) (is : W ≡ secondLayoutOf b p r) where
-    starts-again : reductionOf rule W w′ ≡ reduce entryLimit (secondSizes (sectionsOf b) p r) rule (secondStart (sectionsOf b) p r (stateOf (firstLayoutOf b p) w))
+    starts-again : reductionOf rule W w′ ≡ reduce entryLimit (secondSizes (chainCells b) p r) rule (secondStart (chainCells b) p r (stateOf (firstLayoutOf b p) w))
     unfolding secondLayout
-    starts-again = rw is (ap (reduce entryLimit (secondSizes (sectionsOf b) p r) rule) (s .state))
+    starts-again = rw is (ap (reduce entryLimit (secondSizes (chainCells b) p r) rule) (s .state))
 
     pub second-refused : {x : Refusal} {w″ : List ℤ} → ReductionRefused (reductionOf rule W w′) (length w′) x w″
         → TwiceReduced b p (reductionsOf rule b p) n (Refused refusal.TooWide) w″
     unfolding reductionsOf
     second-refused h = (
-      second-wide rule entryLimit (sectionsOf b) p r (stateOf (firstLayoutOf b p) w) (s .first .outcome) (s .narrow) (sym starts-again ∙ h .outcome),
+      second-wide rule entryLimit (chainCells b) p r (stateOf (firstLayoutOf b p) w) (s .first .outcome) (s .narrow) (sym starts-again ∙ h .outcome),
       cleared (s .kept .same-length) (h .cleared),
     )
 
@@ -180,12 +180,12 @@ module _ {rule : Rule} (is-rule : IsRule rule) (b : List ℕ) (p n : ℕ) (compl
       rank-within = s .first .rank-within;
       layout-is = is;
       is = outcome;
-      rank-below = reductions-right complex rule is-rule entryLimit p (omega arith) (W .matrix .lines) last (stateOf W w″) outcome .rank-bound;
+      rank-below = reductions-right chains rule is-rule entryLimit p (omega arith) (W .matrix .lines) last (stateOf W w″) outcome .rank-bound;
       kept = record { same-length = h .kept .same-length ∙ s .kept .same-length; small = h .kept .small };
     }
       where
         outcome : reductionsOf rule b p ≡ reports.reduced (W .matrix .lines) last (stateOf W w″)
         outcome =
-            after-second rule entryLimit (sectionsOf b) p r (stateOf (firstLayoutOf b p) w) (s .first .outcome) (s .narrow)
+            after-second rule entryLimit (chainCells b) p r (stateOf (firstLayoutOf b p) w) (s .first .outcome) (s .narrow)
             (done last (stateOf W w″)) (sym starts-again ∙ h .outcome)
             ∙ ap (λ (k : ℕ). reports.reduced k last (stateOf W w″)) (sym (ap (λ (X : Layout). X .matrix .lines) is))

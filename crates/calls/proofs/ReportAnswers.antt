@@ -4,9 +4,9 @@ use mathlib.Core.List.{List}
 use Prim.Native.Nat.{ℕ}
 use lib.IntN.{ℤ, pos}
 use lib.ListN.{length, replicate}
-use Rattle.complexes.specs.Complex.{Complex, count}
-use Rattle.sheet_format.specs.Layout.{top}
-use Rattle.sheet_format.specs.Check.{sectionsOf, first}
+use Rattle.complexes.specs.Complex.{count}
+use Rattle.complexes.specs.ChainComplex.{ChainComplex}
+use Rattle.sheet_format.specs.Check.{chainCells, first}
 use Rattle.reduction_steps.specs.State.{State}
 use Rattle.reduction_steps.specs.Pivot.{pivotRule}
 use Rattle.reduction_steps.specs.PivotLaws.{pivotRule-is-rule}
@@ -35,7 +35,7 @@ module _ (limit : ℕ) (b : List ℕ) (p : ℕ) (report work : List ℤ) where
 
   -- the numbers of the report
   abbrev numbers : ℕ → ℕ → State → List ℤ
-  numbers s r x = reportList (count (sectionsOf b) p) s r x
+  numbers s r x = reportList (count (chainCells b) p) s r x
 
   pub report-refuses : {x : Refusal} → before-report ≡ numberOf x → CallAnswers (reportCall limit b p report work) (Refused x) report work
   unfolding reportCall
@@ -51,13 +51,13 @@ module _ (limit : ℕ) (b : List ℕ) (p : ℕ) (report work : List ℤ) where
     report-wide h = goes-wide before-report (reductionsOf pivotRule b p) numbers report work passes (h .0) (h .1 .zeros)
 
     pub report-done :
-        Complex top libraryLimit (sectionsOf b) → {x : Reduced} {w : List ℤ} → ReducedTwice b p (reductionsOf pivotRule b p) (length work) x w
+        ChainComplex libraryLimit (chainCells b) → {x : Reduced} {w : List ℤ} → ReducedTwice b p (reductionsOf pivotRule b p) (length work) x w
         → {counts : Counts} {report′ work′ : List ℤ} → WroteReport x w report counts report′ → work′ ≡ replicate (length w) (pos 0)
         → CallAnswers (reportCall limit b p report work) (Done counts) report′ work′
     unfolding reportCall
-    report-done complex {x} {w} h k e =
+    report-done chains {x} {w} h k e =
         is-done before-report (reductionsOf pivotRule b p) numbers report work passes (h .is) (k .free) (k .torsion)
         (k .is
         ∙ ap (λ (cells : ℕ). written (reportList cells (x .layout .matrix .lines) (x .rank) (stateOf (x .layout) w)) report)
-        (inverse-width pivotRule-is-rule complex (passed .work-slots) h))
+        (inverse-width pivotRule-is-rule chains (passed .work-slots) h))
         (e ∙ ap (λ (m : ℕ). replicate m (pos 0)) (h .kept .same-length))

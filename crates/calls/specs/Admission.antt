@@ -4,7 +4,7 @@ use mathlib.Core.List.{List}
 use Prim.Native.Nat.{ℕ, suc, _+_, _*_, _<_}
 use Rattle.complexes.specs.Complex.{Sections, count}
 use Rattle.complexes.specs.Boundary.{countBelow}
-use Rattle.sheet_format.specs.Check.{sectionsOf, first}
+use Rattle.sheet_format.specs.Check.{chainCells, first}
 use Rattle.reports.specs.Call.{callChecks}
 use Rattle.refusal.specs.Number.{numberOf}
 use Rattle.calls.specs.declared.admission.Sizes.{Sizes}
@@ -18,7 +18,7 @@ sizesIn K p = record { cells = count K p; rows = countBelow K p; columns = count
 
 -- the sizes of dimension p of the sheet b; each is a field
 pub record SizesRead (b : List ℕ) (p : ℕ) (r : Sizes) : Type 0 where
-  pub is : r ≡ sizesIn (sectionsOf b) p
+  pub is : r ≡ sizesIn (chainCells b) p
   pub cells-below : r .cells < 65536
   pub rows-below : r .rows < 65536
   pub columns-below : r .columns < 65536

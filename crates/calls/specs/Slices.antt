@@ -6,7 +6,7 @@ use lib.ListN.{length}
 use lib.IntN.{ℤ}
 use Rattle.complexes.specs.Complex.{count}
 use Rattle.complexes.specs.Boundary.{countBelow}
-use Rattle.sheet_format.specs.Check.{sectionsOf}
+use Rattle.sheet_format.specs.Check.{chainCells}
 use Rattle.reports.specs.Reductions as reports
 use Rattle.reports.specs.Reductions.{firstStart}
 use Rattle.operations.specs.Laid.{stateOf}
@@ -20,20 +20,20 @@ use Rattle.calls.specs.declared.reductions.Reductions.the-variants.{Done
 -- ---- where the matrices of dimension p of the sheet b stand
 
 abbrev pub firstLayoutOf : List ℕ → ℕ → Layout
-firstLayoutOf b p = firstLayout (count (sectionsOf b) p) (countBelow (sectionsOf b) p) (count (sectionsOf b) (suc p))
+firstLayoutOf b p = firstLayout (count (chainCells b) p) (countBelow (chainCells b) p) (count (chainCells b) (suc p))
 
 abbrev pub secondLayoutOf : List ℕ → ℕ → ℕ → Layout
-secondLayoutOf b p rank = secondLayout (count (sectionsOf b) p) (countBelow (sectionsOf b) p) (count (sectionsOf b) (suc p)) rank
+secondLayoutOf b p rank = secondLayout (count (chainCells b) p) (countBelow (chainCells b) p) (count (chainCells b) (suc p)) rank
 
 -- the slice of length n holds the start of the first reduction
 pub record Filled (b : List ℕ) (p n : ℕ) (w′ : List ℤ) : Type 0 where
-  pub state : stateOf (firstLayoutOf b p) w′ ≡ firstStart (sectionsOf b) p
+  pub state : stateOf (firstLayoutOf b p) w′ ≡ firstStart (chainCells b) p
   pub kept : StillSmall n w′
 
 -- The two reductions came to x, and the slice holds the state that the second leaves; its matrix has a line for each row of Q.
 pub record ReducedTwice (b : List ℕ) (p : ℕ) (y : reports.Reductions) (n : ℕ) (x : Reduced) (w′ : List ℤ) : Type 0 where
   pub first-rank : ℕ
-  pub rank-within : first-rank ≤ count (sectionsOf b) p
+  pub rank-within : first-rank ≤ count (chainCells b) p
   pub layout-is : x .layout ≡ secondLayoutOf b p first-rank
   pub is : y ≡ reports.reduced (x .layout .matrix .lines) (x .rank) (stateOf (x .layout) w′)
   pub rank-below : x .rank ≤ x .layout .matrix .lines

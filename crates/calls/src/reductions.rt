@@ -3,7 +3,7 @@ ghost use mathlib.Core.Path.{_≡_};
 ghost use Prim.Native.Nat.{_≤_};
 ghost use lib.ListN.{length};
 ghost use Rattle.sheet_format.specs.Layout.{top};
-ghost use Rattle.sheet_format.specs.Check.{sectionsOf};
+ghost use Rattle.sheet_format.specs.Check.{chainCells};
 ghost use Rattle.reduction_steps.specs.Pivot.{pivotRule};
 ghost use Rattle.reports.specs.Call.{workSlots, reductionsOf};
 ghost use Rattle.faces.specs.Face.{Accepted};
@@ -30,7 +30,7 @@ pub enum Reductions {
 // Sets up the first reduction: the boundary matrix of dimension p, V and its inverse.
 fn fill_first(s: &[u8], p: usize, layout: Layout, w: &mut [i32])
     requires { ⌜ Accepted (now s) × (p ≤ top) ⌝ }
-    requires { ⌜ workSlots (sectionsOf (now s)) p ≤ length (now w) ⌝ }
+    requires { ⌜ workSlots (chainCells (now s)) p ≤ length (now w) ⌝ }
     requires { ⌜ layout ≡ firstLayoutOf (now s) p ⌝ }
     ensures { λ r. ⌜ Filled (now (s .entry)) p (length (now (w .entry))) (now (w .exit)) ⌝ }
 {
@@ -45,7 +45,7 @@ fn fill_first(s: &[u8], p: usize, layout: Layout, w: &mut [i32])
 // Reduces the boundary matrix of dimension p, then Q times the one of p + 1.
 pub fn reduce_twice(s: &[u8], p: usize, sizes: Sizes, w: &mut [i32]) -> Reductions
     requires { ⌜ Accepted (now s) × (p ≤ top) ⌝ }
-    requires { ⌜ workSlots (sectionsOf (now s)) p ≤ length (now w) ⌝ }
+    requires { ⌜ workSlots (chainCells (now s)) p ≤ length (now w) ⌝ }
     requires { ⌜ SizesRead (now s) p sizes ⌝ }
     ensures { λ r. ⌜ TwiceReduced (now (s .entry)) p (reductionsOf pivotRule (now (s .entry)) p) (length (now (w .entry))) r (now (w .exit)) ⌝ }
 {

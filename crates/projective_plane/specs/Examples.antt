@@ -15,7 +15,7 @@ use Rattle.matrices.specs.Operation.{onRows, onColumns, inverse}
 use Rattle.complexes.specs.Cell.{without, same, rises, precedes, listed}
 use Rattle.complexes.specs.Boundary.{sign, coefficient, countBelow, boundary}
 use Rattle.sheet_format.specs.Layout.{start}
-use Rattle.sheet_format.specs.Check.{countField, offsetField, cellOf, cellsOf, sectionsOf, some, verticesDoNotRise, cellsDoNotRise, faceMissing, refusal}
+use Rattle.sheet_format.specs.Check.{countField, offsetField, cellOf, cellsOf, sectionsOf, chainCells, some, verticesDoNotRise, cellsDoNotRise, faceMissing, refusal}
 use Rattle.reduction_steps.specs.Table.{table, rowWithin, tableWithin}
 use Rattle.reduction_steps.specs.State.{follow, rowOperation, columnOperation, within, checked, andThen, onRow, onColumn}
 use Rattle.reduction_steps.specs.Pivot.{better, alongRow, downRows, release1, pivotRule}
@@ -30,7 +30,7 @@ use Rattle.projective_plane.specs.Plane.{cells, sheet, left, report, loo
 -- ten rows of Q, ten pivots
 pub reductions-plane : reductionsOf pivotRule sheet 1 ≡ reduced 10 10 left
 unfolding reductionsOf reductions firstStart afterFirst second product secondStart afterSecond countBelow boundary coefficient sign
-    countField cellOf cellsOf sectionsOf without same start
+    countField cellOf cellsOf sectionsOf chainCells without same start
     reduce run step next bring positive quotient rowPass columnPass columnKeeps rowKeeps rowIndivisible firstIndivisible
     release1 downRows alongRow better onRow onColumn checked andThen within rowOperation columnOperation follow tableWithin rowWithin table
     onRows onColumns inverse identity null mul sum floor divides tabulate
@@ -55,7 +55,7 @@ pub record PlaneCalls : Type 0 where
 
 pub plane-calls : PlaneCalls
 unfolding reportCall coordinateCall callChecks chainChecks coefficientExceeds boundaryNotZero finished
-    refusal countField offsetField cellOf cellsOf sectionsOf some verticesDoNotRise cellsDoNotRise faceMissing without same rises precedes listed start
+    refusal countField offsetField cellOf cellsOf sectionsOf chainCells some verticesDoNotRise cellsDoNotRise faceMissing without same rises precedes listed start
     countBelow boundary coefficient sign apply sum floor modulo tabulate reportList coordinateList coordinateAt torsionCount columnsOf reported
     dimensionText generatorLines spaced decimal digits
 plane-calls = record {

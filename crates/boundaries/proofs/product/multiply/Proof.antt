@@ -9,8 +9,8 @@ use Rattle.matrices.specs.Product.{mul-ext-at}
 use Rattle.complexes.specs.Complex.{count}
 use Rattle.complexes.specs.Boundary.{boundary}
 use Rattle.sheet_format.specs.Layout.{top}
-use Rattle.sheet_format.specs.Check.{sectionsOf}
-use Rattle.sheet_format.specs.SheetLaws.{count-sectionsOf, countField-below}
+use Rattle.sheet_format.specs.Check.{chainCells}
+use Rattle.sheet_format.specs.SheetLaws.{count-chainCells, countField-below}
 use Rattle.lines.specs.Slice.{limit}
 use Rattle.lines.specs.Matrices.{contents, end, Holds, Exceeds}
 use Rattle.lines.specs.declared.matrix.Matrix.{Matrix}
@@ -30,7 +30,7 @@ module _ {b : List ℕ} {p : ℕ} {q M : Matrix} {w₀ w : List ℤ} {j : ℕ} (
   -- q is kept, and so is the product
   product-kept : (i : ℕ) → product b p q w i j ≡ product b p q w₀ i j
   product-kept i =
-      mul-ext-at (q .width) (contents q w) (contents q w₀) (boundary (sectionsOf b) (suc p)) (boundary (sectionsOf b) (suc p)) i j
+      mul-ext-at (q .width) (contents q w) (contents q w₀) (boundary (chainCells b) (suc p)) (boundary (chainCells b) (suc p)) i j
       (λ k l. contents-kept q M w₀ w before (inv .so-far .off) i k) (λ k l. refl)
 
   module _ (l : j < M .width) {w′ : List ℤ} where
@@ -52,8 +52,8 @@ module _ {b : List ℕ} {p : ℕ} {q M : Matrix} {w₀ w : List ℤ} {j : ℕ} (
     }
 
 -- a section with cells is one of the sheet's
-dimension : (b : List ℕ) (p j : ℕ) → j < count (sectionsOf b) (suc p) → p < top
-dimension b p j l = omega (arith, countField-below b (suc p) j (rw (count-sectionsOf b (suc p)) at l))
+dimension : (b : List ℕ) (p j : ℕ) → j < count (chainCells b) (suc p) → p < top
+dimension b p j l = omega (arith, countField-below b (suc p) j (rw (count-chainCells b (suc p)) at l))
 
 abbrev Inv-loop : tie.InvT-loop
 Inv-loop s p q m w₀ j₀ columns w j = Invariant s p q m w₀ w j

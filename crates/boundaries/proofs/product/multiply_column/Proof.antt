@@ -16,7 +16,7 @@ use Rattle.matrices.specs.Matrix as theory
 use Rattle.complexes.specs.Complex.{count, Complex}
 use Rattle.complexes.specs.Boundary.{sign}
 use Rattle.sheet_format.specs.Layout.{top}
-use Rattle.sheet_format.specs.Check.{sectionsOf}
+use Rattle.sheet_format.specs.Check.{sectionsOf, chainCells}
 use Rattle.limits.specs.Limits.{libraryLimit}
 use Rattle.lines.specs.Slice.{limit, at, lineAt, Small}
 use Rattle.lines.specs.Matrices.{Held, contents, end}
@@ -115,10 +115,12 @@ abbrev μ-loop : tie.MeasureT-loop
 μ-loop s p q m w₀ j places lines width i₀ w i = m .lines - i
 
 face-places-requires : tie.Need-face-places-requires Inv-loop μ-loop
+unfolding chainCells
 face-places-requires c κs = let pre = c .before .pre in (pre .0 .0, (pre .0 .1, omega (arith, pre .1 .0 .1, pre .1 .0 .3)))
 
 given : (c : tie.After-face-places Inv-loop μ-loop) →
     let args = c .before .before .args in Given (args .s .now) (args .p) (args .q) (args .m) (args .w .now) (args .j) (c .face-places .result)
+unfolding chainCells
 given c =
     let pre = c .before .before .pre in
     record {

@@ -10,7 +10,7 @@ use lib.IntN.{pos}
 use lib.ListN.{length, replicate, length-replicate}
 use Rattle.complexes.specs.Complex.{count}
 use Rattle.complexes.specs.Boundary.{boundary}
-use Rattle.sheet_format.specs.Check.{sectionsOf}
+use Rattle.sheet_format.specs.Check.{chainCells}
 use Rattle.lines.specs.Matrices.{Holds}
 use Rattle.calls.proofs.Places.{held-matrix}
 use Rattle.calls.proofs.Sheet.{rows-none, rows-section}
@@ -30,8 +30,8 @@ fill-boundary-requires c κs =
       (start .pre .0 .0, omega (arith, start .pre .0 .1, c .before .if1 .taken)),
       (
         (
-          matrix-rows b p n (start .pre .1 .0) W is ∙ rows-section (sectionsOf b) p (c .before .if1 .taken),
-          matrix-columns b p n (start .pre .1 .0) W is ∙ ap (count (sectionsOf b)) (omega (arith, c .before .if1 .taken)),
+          matrix-rows b p n (start .pre .1 .0) W is ∙ rows-section (chainCells b) p (c .before .if1 .taken),
+          matrix-columns b p n (start .pre .1 .0) W is ∙ ap (count (chainCells b)) (omega (arith, c .before .if1 .taken)),
         ),
         (
           rw (cleared, length-replicate) (held-matrix (laid b p n (start .pre .1 .0) W is)),
@@ -44,7 +44,7 @@ fill-boundary-requires c κs =
 -- the boundary matrix stands in a slice of zeros
 matrix-filled : (c : tie.Joined1) →
     let args = c .before .before .before .before .before .args in
-    Holds (args .layout .matrix) (replicate (length (now (args .w))) (pos 0)) (boundary (sectionsOf (now (args .s))) (args .p)) (c .if1 .w)
+    Holds (args .layout .matrix) (replicate (length (now (args .w))) (pos 0)) (boundary (chainCells (now (args .s))) (args .p)) (c .if1 .w)
 matrix-filled c =
     let start = c .before .before .before .before .before in
     let b = now (start .args .s) in
@@ -53,7 +53,7 @@ matrix-filled c =
     let cleared = c .before .before .clear .ensures in
     ⊎-elim
     (λ f. let dimension : suc (p - 1) ≡ p = omega (arith, f .0 .taken) in rw (f .4) (rw (cleared, dimension) at (f .2 .ensures)))
-    (λ f. rw (f .1, cleared) (no-lines (boundary (sectionsOf b) p)
+    (λ f. rw (f .1, cleared) (no-lines (boundary (chainCells b) p)
     (matrix-rows b p n (start .pre .1 .0) (start .args .layout) (start .pre .1 .1) ∙ rows-none b p (omega (arith, f .0 .left))) (zeros-small n)))
     (c .if1 .came)
 
