@@ -112,13 +112,13 @@ module _ (numbers : ℕ → ℕ → State → List ℤ) (output work : List ℤ)
 pub passed-chains : (limit : ℕ) (b : List ℕ) (p : ℕ) (slots : Sections → ℕ → ℕ) (output work : ℕ) → Bytes b → first (callChecks limit b p slots output work) ≡ 0 → ChainComplex limit (chainCells b)
 passed-chains limit b p slots output work bytes e = accepted-chains limit b bytes (callChecks-zero limit b p slots output work .0 e .accepted)
 
-module _ {rule : Rule} (is : IsRule rule) {limit : ℕ} (b : List ℕ) (p : ℕ) (chains : ChainComplex limit (chainCells b)) where
-  pub reductionsOf-wide : (reductionsOf rule b p ≡ tooWide) ↔ GoesWide entryLimit rule (chainCells b) p
+module _ {rule : Rule} (is : IsRule rule) {limit : ℕ} (K : Sections) (p : ℕ) (chains : ChainComplex limit K) where
+  pub reductionsOf-wide : (reductionsOf rule K p ≡ tooWide) ↔ GoesWide entryLimit rule K p
   unfolding reductionsOf
   reductionsOf-wide = wide-iff chains rule is entryLimit p (omega arith)
 
-  module _ (s r : ℕ) (x : State) (e : reductionsOf rule b p ≡ reduced s r x) where
-    pub reductionsOf-right : Right (chainCells b) p s r x
+  module _ (s r : ℕ) (x : State) (e : reductionsOf rule K p ≡ reduced s r x) where
+    pub reductionsOf-right : Right K p s r x
     unfolding reductionsOf
     reductionsOf-right = reductions-right chains rule is entryLimit p (omega arith) s r x e
 
@@ -127,14 +127,14 @@ module _ {rule : Rule} (is : IsRule rule) {limit : ℕ} (b : List ℕ) (p : ℕ)
     reductionsOf-within = reductions-within chains rule is entryLimit p (omega arith) s r x e
 
 -- a call that is done with f and t: two reductions that are right
-pub record Answered (rule : Rule) (b : List ℕ) (p before f t : ℕ) : Type 0 where
+pub record Answered (rule : Rule) (K : Sections) (p before f t : ℕ) : Type 0 where
   pub passes : before ≡ 0
-  pub counted : ReducedWith (reductionsOf rule b p) f t
-  pub right : Right (chainCells b) p (counted .rows) (counted .rank) (counted .state)
+  pub counted : ReducedWith (reductionsOf rule K p) f t
+  pub right : Right K p (counted .rows) (counted .rank) (counted .state)
 
-pub answered : {rule : Rule} → IsRule rule → {limit : ℕ} (b : List ℕ) (p before : ℕ) → (before ≡ 0 → ChainComplex limit (chainCells b)) → (numbers : ℕ → ℕ → State → List ℤ)
-    (output work : List ℤ) (f t : ℕ) → call before (reductionsOf rule b p) numbers output work .answer ≡ done f t → Answered rule b p before f t
-answered {rule} is b p before chains numbers output work f t e =
-    let d = call-done before (reductionsOf rule b p) numbers output work f t e in
+pub answered : {rule : Rule} → IsRule rule → {limit : ℕ} (K : Sections) (p before : ℕ) → (before ≡ 0 → ChainComplex limit K) → (numbers : ℕ → ℕ → State → List ℤ)
+    (output work : List ℤ) (f t : ℕ) → call before (reductionsOf rule K p) numbers output work .answer ≡ done f t → Answered rule K p before f t
+answered {rule} is K p before chains numbers output work f t e =
+    let d = call-done before (reductionsOf rule K p) numbers output work f t e in
     let c = d .counted in
-    record { passes = d .passes; counted = c; right = reductionsOf-right is b p (chains (d .passes)) (c .rows) (c .rank) (c .state) (c .reductions) }
+    record { passes = d .passes; counted = c; right = reductionsOf-right is K p (chains (d .passes)) (c .rows) (c .rank) (c .state) (c .reductions) }

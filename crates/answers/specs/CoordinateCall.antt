@@ -57,32 +57,32 @@ module _ (limit : ℕ) (b : List ℕ) (p : ℕ) (z coordinates work : List ℤ) 
   pub chain-cycle : coordinatesBefore ≡ 0 → IsCycle (chainCells b) p (slot z)
   chain-cycle e = chain-passes b p z (coordinates-passed .0 e .1) .cycle
 
-  pub coordinates-number : answerNumber (coordinatesCalled .answer) ≡ told coordinatesBefore (reductionsOf pivotRule b p)
+  pub coordinates-number : answerNumber (coordinatesCalled .answer) ≡ told coordinatesBefore (reductionsOf pivotRule (chainCells b) p)
   unfolding coordinateCall
-  coordinates-number = call-number coordinatesNumbers coordinates work coordinatesBefore (reductionsOf pivotRule b p)
+  coordinates-number = call-number coordinatesNumbers coordinates work coordinatesBefore (reductionsOf pivotRule (chainCells b) p)
 
   pub coordinates-answer : Bytes b → Answers coordinatesBefore (GoesWide entryLimit pivotRule (chainCells b) p) (answerNumber (coordinatesCalled .answer))
   coordinates-answer bytes =
-      rw coordinates-number (told-answers coordinatesBefore (reductionsOf pivotRule b p) coordinates-narrow (λ e. reductionsOf-wide pivotRule-is-rule b p (coordinates-chains bytes e)))
+      rw coordinates-number (told-answers coordinatesBefore (reductionsOf pivotRule (chainCells b) p) coordinates-narrow (λ e. reductionsOf-wide pivotRule-is-rule (chainCells b) p (coordinates-chains bytes e)))
 
   pub coordinates-counted : answerNumber (coordinatesCalled .answer) ≡ 0 → IsDone (coordinatesCalled .answer)
   unfolding coordinateCall
-  coordinates-counted = call-counted coordinatesNumbers coordinates work coordinatesBefore (reductionsOf pivotRule b p)
+  coordinates-counted = call-counted coordinatesNumbers coordinates work coordinatesBefore (reductionsOf pivotRule (chainCells b) p)
 
   pub coordinates-left : answerNumber (coordinatesCalled .answer) ≢ 0 → coordinatesCalled .output ≡ coordinates
   unfolding coordinateCall
-  coordinates-left d = output-left coordinatesNumbers coordinates work coordinatesBefore (reductionsOf pivotRule b p) (rw coordinates-number at d)
+  coordinates-left d = output-left coordinatesNumbers coordinates work coordinatesBefore (reductionsOf pivotRule (chainCells b) p) (rw coordinates-number at d)
 
   pub coordinates-work : WorkLeft (answerNumber (coordinatesCalled .answer)) work (coordinatesCalled .work)
   unfolding coordinateCall
-  coordinates-work = rw coordinates-number (work-left coordinatesNumbers coordinates work coordinatesBefore (reductionsOf pivotRule b p) coordinates-narrow)
+  coordinates-work = rw coordinates-number (work-left coordinatesNumbers coordinates work coordinatesBefore (reductionsOf pivotRule (chainCells b) p) coordinates-narrow)
 
   module _ (bytes : Bytes b) {f t : ℕ} (e : coordinatesCalled .answer ≡ done f t) where
-    pub coordinates-answered : Answered pivotRule b p coordinatesBefore f t
+    pub coordinates-answered : Answered pivotRule (chainCells b) p coordinatesBefore f t
     unfolding coordinateCall
-    coordinates-answered = answered pivotRule-is-rule b p coordinatesBefore (coordinates-chains bytes) coordinatesNumbers coordinates work f t e
+    coordinates-answered = answered pivotRule-is-rule (chainCells b) p coordinatesBefore (coordinates-chains bytes) coordinatesNumbers coordinates work f t e
 
-    abbrev c : ReducedWith (reductionsOf pivotRule b p) f t
+    abbrev c : ReducedWith (reductionsOf pivotRule (chainCells b) p) f t
     c = coordinates-answered .counted
 
     size : length (coordinatesNumbers (c .rows) (c .rank) (c .state)) ≡ t + f
@@ -90,7 +90,7 @@ module _ (limit : ℕ) (b : List ℕ) (p : ℕ) (z coordinates work : List ℤ) 
 
     output-is : coordinatesCalled .output ≡ written (coordinatesNumbers (c .rows) (c .rank) (c .state)) coordinates
     unfolding coordinateCall
-    output-is = call-output coordinatesBefore (reductionsOf pivotRule b p) coordinatesNumbers coordinates work (coordinates-answered .passes) (c .rows) (c .rank) (c .state) (c .reductions)
+    output-is = call-output coordinatesBefore (reductionsOf pivotRule (chainCells b) p) coordinatesNumbers coordinates work (coordinates-answered .passes) (c .rows) (c .rank) (c .state) (c .reductions)
 
     pub coordinates-read : ReadsCoordinates (chainCells b) p (c .rows) (c .rank) (c .state) z (slot (coordinatesCalled .output))
     coordinates-read = record {
@@ -102,7 +102,7 @@ module _ (limit : ℕ) (b : List ℕ) (p : ℕ) (z coordinates work : List ℤ) 
     pub coordinates-kept : KeptPast (pos 0) (t + f) coordinates (coordinatesCalled .output)
     unfolding coordinateCall
     coordinates-kept =
-        output-kept coordinatesNumbers coordinates work coordinatesBefore (reductionsOf pivotRule b p) (coordinates-answered .passes) c (t + f) size (le-trans fits slots)
+        output-kept coordinatesNumbers coordinates work coordinatesBefore (reductionsOf pivotRule (chainCells b) p) (coordinates-answered .passes) c (t + f) size (le-trans fits slots)
       where
         fits : t + f ≤ coordinateSlots (chainCells b) p
         fits = rw size at (coordinates-fit (count (chainCells b) p) (c .rows) (c .state) z (coordinates-answered .right .rows-bound))

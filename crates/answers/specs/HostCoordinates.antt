@@ -74,20 +74,20 @@ module _ (b : List ℕ) (bytes : Bytes b) (p : ℕ) (chain output : List ℕ) wh
   chains : hostCoordinatesBefore ≡ 0 → ChainComplex hostLimit (chainCells b)
   chains e = passed-chains hostLimit b p coordinateSlots (slotsIn output) (workSlots (chainCells b) p) bytes (passed .0 e .0)
 
-  number : hostCoordinates b p chain output .number ≡ told hostCoordinatesBefore (reductionsOf pivotRule b p)
+  number : hostCoordinates b p chain output .number ≡ told hostCoordinatesBefore (reductionsOf pivotRule (chainCells b) p)
   unfolding hostCoordinates
-  number = host-number numbers output hostCoordinatesBefore (reductionsOf pivotRule b p)
+  number = host-number numbers output hostCoordinatesBefore (reductionsOf pivotRule (chainCells b) p)
 
   pub host-coordinates-answer : Answers hostCoordinatesBefore (GoesWide entryLimit pivotRule (chainCells b) p) (hostCoordinates b p chain output .number)
   host-coordinates-answer =
       rw number
-      (told-answers hostCoordinatesBefore (reductionsOf pivotRule b p)
+      (told-answers hostCoordinatesBefore (reductionsOf pivotRule (chainCells b) p)
       (call-chain-narrow hostLimit b p coordinateSlots (slotsIn output) (workSlots (chainCells b) p) given)
-      (λ e. reductionsOf-wide pivotRule-is-rule b p (chains e)))
+      (λ e. reductionsOf-wide pivotRule-is-rule (chainCells b) p (chains e)))
 
   pub host-coordinates-left : hostCoordinates b p chain output .number ≢ 0 → hostCoordinates b p chain output .output ≡ output
   unfolding hostCoordinates
-  host-coordinates-left d = host-left numbers output hostCoordinatesBefore (reductionsOf pivotRule b p) (rw number at d)
+  host-coordinates-left d = host-left numbers output hostCoordinatesBefore (reductionsOf pivotRule (chainCells b) p) (rw number at d)
 
   -- the chain is a cycle, and the two reductions behind its coordinates are right
   pub record HostCoordinated : Type 0 where
@@ -95,7 +95,7 @@ module _ (b : List ℕ) (bytes : Bytes b) (p : ℕ) (chain output : List ℕ) wh
     pub rank : ℕ
     pub state : State
     pub right : Right (chainCells b) p rows rank state
-    pub reductions : reductionsOf pivotRule b p ≡ reduced rows rank state
+    pub reductions : reductionsOf pivotRule (chainCells b) p ≡ reduced rows rank state
     pub chain-passed : ChainPasses b p given
     pub reads : ReadsCoordinates (chainCells b) p rows rank state given (numberAt (hostCoordinates b p chain output .output))
     pub kept : KeptPast 0 (8 * (torsionCount rank state + freeRank rows rank)) output (hostCoordinates b p chain output .output)
@@ -111,23 +111,23 @@ module _ (b : List ℕ) (bytes : Bytes b) (p : ℕ) (chain output : List ℕ) wh
     chain-passed = cycle;
     reads = record {
       places = λ j l.
-          host-reads numbers output hostCoordinatesBefore (reductionsOf pivotRule b p) d j (omega (arith, coordinates-length right given))
+          host-reads numbers output hostCoordinatesBefore (reductionsOf pivotRule (chainCells b) p) d j (omega (arith, coordinates-length right given))
           (coordinates-word right small few given (cycle .small) j);
     };
-    kept = rw (coordinates-length right given) at (host-kept numbers output hostCoordinatesBefore (reductionsOf pivotRule b p) d fits);
+    kept = rw (coordinates-length right given) at (host-kept numbers output hostCoordinatesBefore (reductionsOf pivotRule (chainCells b) p) d fits);
   }
     where
-      d : ToldDone hostCoordinatesBefore (reductionsOf pivotRule b p)
-      d = told-done hostCoordinatesBefore (reductionsOf pivotRule b p) (sym number ∙ e)
+      d : ToldDone hostCoordinatesBefore (reductionsOf pivotRule (chainCells b) p)
+      d = told-done hostCoordinatesBefore (reductionsOf pivotRule (chainCells b) p) (sym number ∙ e)
 
       cycle : ChainPasses b p given
       cycle = chain-passes b p given (passed .0 (d .passes) .1)
 
       right : Right (chainCells b) p (d .rows) (d .rank) (d .state)
-      right = reductionsOf-right pivotRule-is-rule b p (chains (d .passes)) (d .rows) (d .rank) (d .state) (d .reductions)
+      right = reductionsOf-right pivotRule-is-rule (chainCells b) p (chains (d .passes)) (d .rows) (d .rank) (d .state) (d .reductions)
 
       small : within entryLimit (d .state) ≡ true
-      small = reductionsOf-within pivotRule-is-rule b p (chains (d .passes)) (d .rows) (d .rank) (d .state) (d .reductions)
+      small = reductionsOf-within pivotRule-is-rule (chainCells b) p (chains (d .passes)) (d .rows) (d .rank) (d .state) (d .reductions)
 
       few : count (chainCells b) p ≤ libraryLimit
       few = omega (arith, chains (d .passes) .within p)

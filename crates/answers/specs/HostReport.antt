@@ -43,20 +43,20 @@ module _ (b : List ℕ) (bytes : Bytes b) (p : ℕ) (output : List ℕ) where
   chains : hostReportBefore ≡ 0 → ChainComplex hostLimit (chainCells b)
   chains = passed-chains hostLimit b p reportSlots (slotsIn output) (workSlots (chainCells b) p) bytes
 
-  number : hostReport b p output .number ≡ told hostReportBefore (reductionsOf pivotRule b p)
+  number : hostReport b p output .number ≡ told hostReportBefore (reductionsOf pivotRule (chainCells b) p)
   unfolding hostReport
-  number = host-number numbers output hostReportBefore (reductionsOf pivotRule b p)
+  number = host-number numbers output hostReportBefore (reductionsOf pivotRule (chainCells b) p)
 
   pub host-report-answers : Answers hostReportBefore (GoesWide entryLimit pivotRule (chainCells b) p) (hostReport b p output .number)
   host-report-answers =
       rw number
-      (told-answers hostReportBefore (reductionsOf pivotRule b p)
+      (told-answers hostReportBefore (reductionsOf pivotRule (chainCells b) p)
       (callChecks-narrow hostLimit b p reportSlots (slotsIn output) (workSlots (chainCells b) p))
-      (λ e. reductionsOf-wide pivotRule-is-rule b p (chains e)))
+      (λ e. reductionsOf-wide pivotRule-is-rule (chainCells b) p (chains e)))
 
   pub host-report-left : hostReport b p output .number ≢ 0 → hostReport b p output .output ≡ output
   unfolding hostReport
-  host-report-left d = host-left numbers output hostReportBefore (reductionsOf pivotRule b p) (rw number at d)
+  host-report-left d = host-left numbers output hostReportBefore (reductionsOf pivotRule (chainCells b) p) (rw number at d)
 
   -- the two reductions behind a report that is done are right
   pub record HostReported : Type 0 where
@@ -64,7 +64,7 @@ module _ (b : List ℕ) (bytes : Bytes b) (p : ℕ) (output : List ℕ) where
     pub rank : ℕ
     pub state : State
     pub right : Right (chainCells b) p rows rank state
-    pub reductions : reductionsOf pivotRule b p ≡ reduced rows rank state
+    pub reductions : reductionsOf pivotRule (chainCells b) p ≡ reduced rows rank state
     pub reads : Reads (chainCells b) p rows rank state (numberAt (hostReport b p output .output))
     pub kept : KeptPast 0 (8 * reportLength (chainCells b) p (freeRank rows rank) (torsionCount rank state)) output (hostReport b p output .output)
 
@@ -77,19 +77,19 @@ module _ (b : List ℕ) (bytes : Bytes b) (p : ℕ) (output : List ℕ) where
     right = right;
     reductions = d .reductions;
     reads = record {
-      slots = λ i l. host-reads numbers output hostReportBefore (reductionsOf pivotRule b p) d i (omega (arith, report-length right)) (report-word right small few i);
+      slots = λ i l. host-reads numbers output hostReportBefore (reductionsOf pivotRule (chainCells b) p) d i (omega (arith, report-length right)) (report-word right small few i);
     };
-    kept = rw (report-length right) at (host-kept numbers output hostReportBefore (reductionsOf pivotRule b p) d fits);
+    kept = rw (report-length right) at (host-kept numbers output hostReportBefore (reductionsOf pivotRule (chainCells b) p) d fits);
   }
     where
-      d : ToldDone hostReportBefore (reductionsOf pivotRule b p)
-      d = told-done hostReportBefore (reductionsOf pivotRule b p) (sym number ∙ e)
+      d : ToldDone hostReportBefore (reductionsOf pivotRule (chainCells b) p)
+      d = told-done hostReportBefore (reductionsOf pivotRule (chainCells b) p) (sym number ∙ e)
 
       right : Right (chainCells b) p (d .rows) (d .rank) (d .state)
-      right = reductionsOf-right pivotRule-is-rule b p (chains (d .passes)) (d .rows) (d .rank) (d .state) (d .reductions)
+      right = reductionsOf-right pivotRule-is-rule (chainCells b) p (chains (d .passes)) (d .rows) (d .rank) (d .state) (d .reductions)
 
       small : within entryLimit (d .state) ≡ true
-      small = reductionsOf-within pivotRule-is-rule b p (chains (d .passes)) (d .rows) (d .rank) (d .state) (d .reductions)
+      small = reductionsOf-within pivotRule-is-rule (chainCells b) p (chains (d .passes)) (d .rows) (d .rank) (d .state) (d .reductions)
 
       few : count (chainCells b) p ≤ libraryLimit
       few = omega (arith, chains (d .passes) .within p)

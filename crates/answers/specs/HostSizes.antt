@@ -32,13 +32,13 @@ reportNumbersOf b p f t = 2 + t + (t + f) * count (chainCells b) p
 
 -- dimension p of the sheet b, which is accepted, gives f free generators and t orders
 pub record Sized (b : List ℕ) (p f t : ℕ) : Type 0 where
-  pub counted : ReducedWith (reductionsOf pivotRule b p) f t
+  pub counted : ReducedWith (reductionsOf pivotRule (chainCells b) p) f t
   pub cells-within : count (chainCells b) p ≤ hostLimit
   pub total-within : t + f ≤ count (chainCells b) p
   pub report-size : length (reportList (count (chainCells b) p) (counted .rows) (counted .rank) (counted .state)) ≡ reportNumbersOf b p f t
   pub coordinates-size : (z : List ℤ) → length (coordinateList (count (chainCells b) p) (counted .rows) (counted .state) z) ≡ t + f
 
-sized : (b : List ℕ) (p before f t : ℕ) → refusal hostLimit b ≡ 0 → Answered pivotRule b p before f t → Sized b p f t
+sized : (b : List ℕ) (p before f t : ℕ) → refusal hostLimit b ≡ 0 → Answered pivotRule (chainCells b) p before f t → Sized b p f t
 unfolding torsionCount
 sized b p before f t accepted d =
     let c = d .counted in record {
@@ -67,7 +67,7 @@ module _ (b : List ℕ) (bytes : Bytes b) (p : ℕ) where
   pub report-sized : (report work : List ℤ) (f t : ℕ) → reportCall hostLimit b p report work .answer ≡ done f t → ReportSized b p report f t
   report-sized report work f t e = record { is-sized = s; fits = omega (arith, numbers-fit s, h .output-slots) }
     where
-      d : Answered pivotRule b p (reportBefore hostLimit b p report work) f t
+      d : Answered pivotRule (chainCells b) p (reportBefore hostLimit b p report work) f t
       d = report-answered hostLimit b p report work bytes e
 
       h : Passed hostLimit b p reportSlots (length report) (length work)
@@ -79,7 +79,7 @@ module _ (b : List ℕ) (bytes : Bytes b) (p : ℕ) where
   pub coordinates-sized : (z coordinates work : List ℤ) (f t : ℕ) → coordinateCall hostLimit b p z coordinates work .answer ≡ done f t → CoordinatesSized b p coordinates f t
   coordinates-sized z coordinates work f t e = record { is-sized = s; fits = omega (arith, s .total-within, h .output-slots) }
     where
-      d : Answered pivotRule b p (coordinatesBefore hostLimit b p z coordinates work) f t
+      d : Answered pivotRule (chainCells b) p (coordinatesBefore hostLimit b p z coordinates work) f t
       d = coordinates-answered hostLimit b p z coordinates work bytes e
 
       h : Passed hostLimit b p coordinateSlots (length coordinates) (length work)
@@ -92,7 +92,7 @@ module _ (b : List ℕ) (bytes : Bytes b) (p : ℕ) where
 
 -- dimension p goes too wide, and k is the number for that
 pub record WentWide (b : List ℕ) (p k : ℕ) : Type 0 where
-  pub is-wide : reductionsOf pivotRule b p ≡ tooWide
+  pub is-wide : reductionsOf pivotRule (chainCells b) p ≡ tooWide
   pub number-is : k ≡ 13
 
 module _ (b : List ℕ) (accepted : refusal hostLimit b ≡ 0) where
@@ -119,8 +119,8 @@ module _ (b : List ℕ) (accepted : refusal hostLimit b ≡ 0) where
 
     pub accepted-refused : (k : ℕ) → reportCall hostLimit b p report work .answer ≡ refused k → WentWide b p k
     unfolding reportCall
-    accepted-refused k e = go (call-refused (reportBefore hostLimit b p report work) (reductionsOf pivotRule b p) (reportNumbers hostLimit b p report work) report work k e)
+    accepted-refused k e = go (call-refused (reportBefore hostLimit b p report work) (reductionsOf pivotRule (chainCells b) p) (reportNumbers hostLimit b p report work) report work k e)
       where
-        go : CallRefused (reportBefore hostLimit b p report work) (reductionsOf pivotRule b p) k → WentWide b p k
+        go : CallRefused (reportBefore hostLimit b p report work) (reductionsOf pivotRule (chainCells b) p) k → WentWide b p k
         go (earlier e d) = absurd (d (omega (arith, e, accepted-passes)))
         go (wide z e t) = record { is-wide = e; number-is = t }

@@ -34,7 +34,7 @@ use Rattle.answers.specs.Calls.{reductionsOf-wide, reductionsOf-right}
 
 -- the text of dimension p
 abbrev textOf : List ℕ → ℕ → List ℕ
-textOf b p = dimensionText p (count (chainCells b) p) (reductionsOf pivotRule b p)
+textOf b p = dimensionText p (count (chainCells b) p) (reductionsOf pivotRule (chainCells b) p)
 
 turns : (b : List ℕ) (more p : ℕ) → inTurn (p + more) (textOf b) ≡ inTurn p (textOf b) ++ dimensionsText b more p
 unfolding inTurn dimensionsText
@@ -77,17 +77,17 @@ module _ (b : List ℕ) (bytes : Bytes b) (accepted : refusal hostLimit b ≡ 0)
           work-slots = omega (arith, length-replicate (workSlots (chainCells b) p) (pos 0));
         })
 
-    module _ (h : p ≤ top) (s r : ℕ) (x : State) (e : reductionsOf pivotRule b p ≡ reduced s r x) where
+    module _ (h : p ≤ top) (s r : ℕ) (x : State) (e : reductionsOf pivotRule (chainCells b) p ≡ reduced s r x) where
       abbrev numbers : ℕ → ℕ → State → List ℤ
       numbers s r x = reportList n s r x
 
       report-done : reportCall hostLimit b p report work .answer ≡ done (freeRank s r) (torsionCount r x)
       unfolding reportCall
-      report-done = call-answer (first (callChecks hostLimit b p reportSlots (length report) (length work))) (reductionsOf pivotRule b p) numbers report work (passes h) s r x e
+      report-done = call-answer (first (callChecks hostLimit b p reportSlots (length report) (length work))) (reductionsOf pivotRule (chainCells b) p) numbers report work (passes h) s r x e
 
       report-left : reportCall hostLimit b p report work .output ≡ written (reportList n s r x) report
       unfolding reportCall
-      report-left = call-output (first (callChecks hostLimit b p reportSlots (length report) (length work))) (reductionsOf pivotRule b p) numbers report work (passes h) s r x e
+      report-left = call-output (first (callChecks hostLimit b p reportSlots (length report) (length work))) (reductionsOf pivotRule (chainCells b) p) numbers report work (passes h) s r x e
 
       -- the numbers of the report give the text
       report-text : dimensionText p n (reduced s r x)
@@ -98,11 +98,11 @@ module _ (b : List ℕ) (bytes : Bytes b) (accepted : refusal hostLimit b ≡ 0)
           ∙ ap (λ (k : ℕ). reportText p n (torsionCount r x) k (reportCall hostLimit b p report work .output)) (sym (length-coordinateList n s x []) ∙ coordinates-length right [])
         where
           right : Right (chainCells b) p s r x
-          right = reductionsOf-right pivotRule-is-rule b p chains s r x e
+          right = reductionsOf-right pivotRule-is-rule (chainCells b) p chains s r x e
 
-    printed : p ≤ top → (R : Reductions) → reductionsOf pivotRule b p ≡ R → DimensionPrinted b p (dimensionText p n R)
+    printed : p ≤ top → (R : Reductions) → reductionsOf pivotRule (chainCells b) p ≡ R → DimensionPrinted b p (dimensionText p n R)
     unfolding dimensionText chainCells
-    printed h tooWide e = too-wide (reductionsOf-wide pivotRule-is-rule b p chains .0 e) refl
+    printed h tooWide e = too-wide (reductionsOf-wide pivotRule-is-rule (chainCells b) p chains .0 e) refl
     printed h (reduced s r x) e = reports report work (freeRank s r) (torsionCount r x) (report-done h s r x e) (report-text h s r x e)
 
   -- ---- all dimensions
@@ -112,7 +112,7 @@ module _ (b : List ℕ) (bytes : Bytes b) (accepted : refusal hostLimit b ≡ 0)
   dimensions-printed = record {
     texts = textOf b;
     in-turn = ap (λ (k : ℕ). textFor k b) accepted ∙ sym (turns-all b);
-    each = λ p l. printed p l (reductionsOf pivotRule b p) refl;
+    each = λ p l. printed p l (reductionsOf pivotRule (chainCells b) p) refl;
   }
 
 -- ---- a refused sheet
@@ -135,7 +135,7 @@ turns-feeds : (b : List ℕ) (n : ℕ) → n ≤ feeds (inTurn n (textOf b))
 unfolding inTurn
 turns-feeds b zero = omega arith
 turns-feeds b (suc n) =
-    omega (arith, turns-feeds b n, text-feeds n (count (chainCells b) n) (reductionsOf pivotRule b n), feeds-append (inTurn n (textOf b)) (textOf b n))
+    omega (arith, turns-feeds b n, text-feeds n (count (chainCells b) n) (reductionsOf pivotRule (chainCells b) n), feeds-append (inTurn n (textOf b)) (textOf b n))
 
 module _ (b : List ℕ) where
   accepted-other : refusal hostLimit b ≡ 0 → (k : ℕ) → programText b ≢ refusalLine k

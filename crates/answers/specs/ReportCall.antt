@@ -46,35 +46,35 @@ module _ (limit : ℕ) (b : List ℕ) (p : ℕ) (report work : List ℤ) where
   report-chains : Bytes b → reportBefore ≡ 0 → ChainComplex limit (chainCells b)
   report-chains bytes = passed-chains limit b p reportSlots (length report) (length work) bytes
 
-  pub report-number : answerNumber (reportCalled .answer) ≡ told reportBefore (reductionsOf pivotRule b p)
+  pub report-number : answerNumber (reportCalled .answer) ≡ told reportBefore (reductionsOf pivotRule (chainCells b) p)
   unfolding reportCall
-  report-number = call-number reportNumbers report work reportBefore (reductionsOf pivotRule b p)
+  report-number = call-number reportNumbers report work reportBefore (reductionsOf pivotRule (chainCells b) p)
 
   pub report-answers : Bytes b → Answers reportBefore (GoesWide entryLimit pivotRule (chainCells b) p) (answerNumber (reportCalled .answer))
-  report-answers bytes = rw report-number (told-answers reportBefore (reductionsOf pivotRule b p) report-narrow (λ e. reductionsOf-wide pivotRule-is-rule b p (report-chains bytes e)))
+  report-answers bytes = rw report-number (told-answers reportBefore (reductionsOf pivotRule (chainCells b) p) report-narrow (λ e. reductionsOf-wide pivotRule-is-rule (chainCells b) p (report-chains bytes e)))
 
   pub report-counted : answerNumber (reportCalled .answer) ≡ 0 → IsDone (reportCalled .answer)
   unfolding reportCall
-  report-counted = call-counted reportNumbers report work reportBefore (reductionsOf pivotRule b p)
+  report-counted = call-counted reportNumbers report work reportBefore (reductionsOf pivotRule (chainCells b) p)
 
   pub report-left : answerNumber (reportCalled .answer) ≢ 0 → reportCalled .output ≡ report
   unfolding reportCall
-  report-left d = output-left reportNumbers report work reportBefore (reductionsOf pivotRule b p) (rw report-number at d)
+  report-left d = output-left reportNumbers report work reportBefore (reductionsOf pivotRule (chainCells b) p) (rw report-number at d)
 
   pub report-work : WorkLeft (answerNumber (reportCalled .answer)) work (reportCalled .work)
   unfolding reportCall
-  report-work = rw report-number (work-left reportNumbers report work reportBefore (reductionsOf pivotRule b p) report-narrow)
+  report-work = rw report-number (work-left reportNumbers report work reportBefore (reductionsOf pivotRule (chainCells b) p) report-narrow)
 
-  pub report-output : reportBefore ≡ 0 → {f t : ℕ} (c : ReducedWith (reductionsOf pivotRule b p) f t) → reportCalled .output ≡ written (reportList (count (chainCells b) p) (c .rows) (c .rank) (c .state)) report
+  pub report-output : reportBefore ≡ 0 → {f t : ℕ} (c : ReducedWith (reductionsOf pivotRule (chainCells b) p) f t) → reportCalled .output ≡ written (reportList (count (chainCells b) p) (c .rows) (c .rank) (c .state)) report
   unfolding reportCall
-  report-output e c = call-output reportBefore (reductionsOf pivotRule b p) reportNumbers report work e (c .rows) (c .rank) (c .state) (c .reductions)
+  report-output e c = call-output reportBefore (reductionsOf pivotRule (chainCells b) p) reportNumbers report work e (c .rows) (c .rank) (c .state) (c .reductions)
 
   module _ (bytes : Bytes b) {f t : ℕ} (e : reportCalled .answer ≡ done f t) where
-    pub report-answered : Answered pivotRule b p reportBefore f t
+    pub report-answered : Answered pivotRule (chainCells b) p reportBefore f t
     unfolding reportCall
-    report-answered = answered pivotRule-is-rule b p reportBefore (report-chains bytes) reportNumbers report work f t e
+    report-answered = answered pivotRule-is-rule (chainCells b) p reportBefore (report-chains bytes) reportNumbers report work f t e
 
-    abbrev c : ReducedWith (reductionsOf pivotRule b p) f t
+    abbrev c : ReducedWith (reductionsOf pivotRule (chainCells b) p) f t
     c = report-answered .counted
 
     size : length (reportNumbers (c .rows) (c .rank) (c .state)) ≡ reportLength (chainCells b) p f t
@@ -90,7 +90,7 @@ module _ (limit : ℕ) (b : List ℕ) (p : ℕ) (report work : List ℤ) where
     pub report-kept : KeptPast (pos 0) (reportLength (chainCells b) p f t) report (reportCalled .output)
     unfolding reportCall
     report-kept =
-        output-kept reportNumbers report work reportBefore (reductionsOf pivotRule b p) (report-answered .passes) c (reportLength (chainCells b) p f t) size (le-trans fits slots)
+        output-kept reportNumbers report work reportBefore (reductionsOf pivotRule (chainCells b) p) (report-answered .passes) c (reportLength (chainCells b) p f t) size (le-trans fits slots)
       where
         fits : reportLength (chainCells b) p f t ≤ reportSlots (chainCells b) p
         fits = rw size at (report-fits (count (chainCells b) p) (c .rows) (c .rank) (c .state) (report-answered .right .rank-bound) (report-answered .right .rows-bound))

@@ -10,7 +10,7 @@ use lib.IntN.{ℤ, _*ℤ_}
 use Rattle.matrices.specs.Sum.{sum}
 use Rattle.matrices.specs.Matrix.{mul}
 use Rattle.matrices.specs.Matrix as theory
-use Rattle.complexes.specs.Complex.{count, Complex}
+use Rattle.complexes.specs.Complex.{Sections, count, Complex}
 use Rattle.complexes.specs.Boundary.{sign, boundary}
 use Rattle.sheet_format.specs.Check.{sectionsOf, chainCells}
 use Rattle.lines.specs.Slice.{at, lineAt}
@@ -19,9 +19,9 @@ use Rattle.lines.specs.declared.matrix.Matrix.{Matrix}
 use Rattle.faces.specs.Face.{AreFaces}
 use Rattle.faces.proofs.Sums.{sum-places}
 
--- the matrix q of a slice times the boundary matrix of dimension p + 1
-abbrev pub product : List ℕ → ℕ → Matrix → List ℤ → theory.Matrix
-product b p q w = mul (q .width) (contents q w) (boundary (chainCells b) (suc p))
+-- the matrix q of a slice times the boundary matrix of dimension p + 1 of the cells K
+abbrev pub product : Sections → ℕ → Matrix → List ℤ → theory.Matrix
+product K p q w = mul (q .width) (contents q w) (boundary K (suc p))
 
 pub contents-kept : (q m : Matrix) (w w′ : List ℤ) → end m ≤ q .at → ((i : ℕ) → Off m i → at w′ i ≡ at w i)
     → (i k : ℕ) → contents q w′ i k ≡ contents q w i k

@@ -45,7 +45,7 @@ module _ (limit : ℕ) (b : List ℕ) (p : ℕ) (z coordinates work : List ℤ) 
   pub coordinates-refuse : {x : Refusal} → before-chain ≡ numberOf x → CallAnswers (coordinateCall limit b p z coordinates work) (Refused x) coordinates work
   unfolding coordinateCall
   coordinates-refuse {x} e =
-      refuses before-reductions (reductionsOf pivotRule b p) numbers coordinates work (call-told limit b p coordinateSlots (length coordinates) (length work) z (λ q. absurd (omega (arith, number-positive x))) ∙ e)
+      refuses before-reductions (reductionsOf pivotRule (chainCells b) p) numbers coordinates work (call-told limit b p coordinateSlots (length coordinates) (length work) z (λ q. absurd (omega (arith, number-positive x))) ∙ e)
 
   module _ (passed : Passed limit b p coordinateSlots (length coordinates) (length work)) where
     chain-next : before-reductions ≡ first (chainChecks b p z)
@@ -55,21 +55,21 @@ module _ (limit : ℕ) (b : List ℕ) (p : ℕ) (z coordinates work : List ℤ) 
 
     pub chain-refuses : {x : Refusal} → first (chainChecks b p z) ≡ numberOf x → CallAnswers (coordinateCall limit b p z coordinates work) (Refused x) coordinates work
     unfolding coordinateCall
-    chain-refuses e = refuses before-reductions (reductionsOf pivotRule b p) numbers coordinates work (chain-next ∙ e)
+    chain-refuses e = refuses before-reductions (reductionsOf pivotRule (chainCells b) p) numbers coordinates work (chain-next ∙ e)
 
     module _ (chain : first (chainChecks b p z) ≡ 0) where
-      pub coordinates-wide : {x : Refusal} {work′ : List ℤ} → TwiceReduced b p (reductionsOf pivotRule b p) (length work) (reductions.Refused x) work′
+      pub coordinates-wide : {x : Refusal} {work′ : List ℤ} → TwiceReduced (chainCells b) p (reductionsOf pivotRule (chainCells b) p) (length work) (reductions.Refused x) work′
           → CallAnswers (coordinateCall limit b p z coordinates work) (Refused refusal.TooWide) coordinates work′
       unfolding coordinateCall
-      coordinates-wide h = goes-wide before-reductions (reductionsOf pivotRule b p) numbers coordinates work (chain-next ∙ chain) (h .0) (h .1 .zeros)
+      coordinates-wide h = goes-wide before-reductions (reductionsOf pivotRule (chainCells b) p) numbers coordinates work (chain-next ∙ chain) (h .0) (h .1 .zeros)
 
       pub coordinates-done :
-          ChainComplex libraryLimit (chainCells b) → {x : Reduced} {w : List ℤ} → ReducedTwice b p (reductionsOf pivotRule b p) (length work) x w
+          ChainComplex libraryLimit (chainCells b) → {x : Reduced} {w : List ℤ} → ReducedTwice (chainCells b) p (reductionsOf pivotRule (chainCells b) p) (length work) x w
           → {counts : Counts} {coordinates′ work′ : List ℤ} → WroteCoordinates x w z coordinates counts coordinates′ → work′ ≡ replicate (length w) (pos 0)
           → CallAnswers (coordinateCall limit b p z coordinates work) (Done counts) coordinates′ work′
       unfolding coordinateCall
       coordinates-done chains {x} {w} h k e =
-          is-done before-reductions (reductionsOf pivotRule b p) numbers coordinates work (chain-next ∙ chain) (h .is) (k .free) (k .torsion)
+          is-done before-reductions (reductionsOf pivotRule (chainCells b) p) numbers coordinates work (chain-next ∙ chain) (h .is) (k .free) (k .torsion)
           (k .is
           ∙ ap (λ (cells : ℕ). written (coordinateList cells (x .layout .matrix .lines) (stateOf (x .layout) w) z) coordinates)
           (follower-width pivotRule-is-rule chains (passed .work-slots) h))

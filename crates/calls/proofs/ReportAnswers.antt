@@ -39,24 +39,24 @@ module _ (limit : ℕ) (b : List ℕ) (p : ℕ) (report work : List ℤ) where
 
   pub report-refuses : {x : Refusal} → before-report ≡ numberOf x → CallAnswers (reportCall limit b p report work) (Refused x) report work
   unfolding reportCall
-  report-refuses e = refuses before-report (reductionsOf pivotRule b p) numbers report work e
+  report-refuses e = refuses before-report (reductionsOf pivotRule (chainCells b) p) numbers report work e
 
   module _ (passed : Passed limit b p reportSlots (length report) (length work)) where
     passes : before-report ≡ 0
     passes = callChecks-zero limit b p reportSlots (length report) (length work) .1 passed
 
-    pub report-wide : {x : Refusal} {work′ : List ℤ} → TwiceReduced b p (reductionsOf pivotRule b p) (length work) (reductions.Refused x) work′
+    pub report-wide : {x : Refusal} {work′ : List ℤ} → TwiceReduced (chainCells b) p (reductionsOf pivotRule (chainCells b) p) (length work) (reductions.Refused x) work′
         → CallAnswers (reportCall limit b p report work) (Refused refusal.TooWide) report work′
     unfolding reportCall
-    report-wide h = goes-wide before-report (reductionsOf pivotRule b p) numbers report work passes (h .0) (h .1 .zeros)
+    report-wide h = goes-wide before-report (reductionsOf pivotRule (chainCells b) p) numbers report work passes (h .0) (h .1 .zeros)
 
     pub report-done :
-        ChainComplex libraryLimit (chainCells b) → {x : Reduced} {w : List ℤ} → ReducedTwice b p (reductionsOf pivotRule b p) (length work) x w
+        ChainComplex libraryLimit (chainCells b) → {x : Reduced} {w : List ℤ} → ReducedTwice (chainCells b) p (reductionsOf pivotRule (chainCells b) p) (length work) x w
         → {counts : Counts} {report′ work′ : List ℤ} → WroteReport x w report counts report′ → work′ ≡ replicate (length w) (pos 0)
         → CallAnswers (reportCall limit b p report work) (Done counts) report′ work′
     unfolding reportCall
     report-done chains {x} {w} h k e =
-        is-done before-report (reductionsOf pivotRule b p) numbers report work passes (h .is) (k .free) (k .torsion)
+        is-done before-report (reductionsOf pivotRule (chainCells b) p) numbers report work passes (h .is) (k .free) (k .torsion)
         (k .is
         ∙ ap (λ (cells : ℕ). written (reportList cells (x .layout .matrix .lines) (x .rank) (stateOf (x .layout) w)) report)
         (inverse-width pivotRule-is-rule chains (passed .work-slots) h))

@@ -25,10 +25,10 @@ use Rattle.calls.specs.Admission.{SizesRead}
 use Rattle.calls.specs.declared.admission.Sizes.{Sizes}
 use Rattle.calls.specs.Slices.{firstLayoutOf, secondLayoutOf}
 
-pub rows-none : (b : List ℕ) (p : ℕ) → p ≡ 0 → countBelow (chainCells b) p ≡ 0
+pub rows-none : (K : Sections) (p : ℕ) → p ≡ 0 → countBelow K p ≡ 0
 unfolding countBelow
-rows-none b zero e = refl
-rows-none b (suc p) e = absurd (omega arith)
+rows-none K zero e = refl
+rows-none K (suc p) e = absurd (omega arith)
 
 pub rows-section : (K : Sections) (p : ℕ) → 0 < p → countBelow K p ≡ count K (p - 1)
 unfolding countBelow
@@ -57,9 +57,9 @@ accepted-library {limit} {b} h e = record {
 pub sheet-chains : {b : List ℕ} → Bytes b → Accepted b → ChainComplex libraryLimit (chainCells b)
 sheet-chains {b} bytes h = accepted-chains libraryLimit b bytes (h .none-applies)
 
-pub sizes-read : {b : List ℕ} {p cells rows columns : ℕ} → ReadsBelow 65536 (countField b p) cells → ReadsBelow 65536 (countBelow (chainCells b) p) rows
-    → ReadsBelow 65536 (countField b (p + 1)) columns → SizesRead b p (record { cells = cells; rows = rows; columns = columns })
-sizes-read {b} {p} c r d = record {
+pub sizes-read : (b : List ℕ) {p cells rows columns : ℕ} → ReadsBelow 65536 (countField b p) cells → ReadsBelow 65536 (countBelow (chainCells b) p) rows
+    → ReadsBelow 65536 (countField b (p + 1)) columns → SizesRead (chainCells b) p (record { cells = cells; rows = rows; columns = columns })
+sizes-read b {p} c r d = record {
   is =
       cc (
         c .is ∙ sym (count-chainCells b p),
@@ -71,15 +71,15 @@ sizes-read {b} {p} c r d = record {
   columns-below = d .below;
 }
 
-module _ {b : List ℕ} {p : ℕ} {n : Sizes} (h : SizesRead b p n) where
-  pub cells-of : n .cells ≡ count (chainCells b) p
+module _ {K : Sections} {p : ℕ} {n : Sizes} (h : SizesRead K p n) where
+  pub cells-of : n .cells ≡ count K p
   cells-of = ap (λ (k : Sizes). k .cells) (h .is)
 
-  pub first-of : firstLayout (n .cells) (n .rows) (n .columns) ≡ firstLayoutOf b p
+  pub first-of : firstLayout (n .cells) (n .rows) (n .columns) ≡ firstLayoutOf K p
   first-of = ap (λ (k : Sizes). firstLayout (k .cells) (k .rows) (k .columns)) (h .is)
 
-  pub second-of : (rank : ℕ) → secondLayout (n .cells) (n .rows) (n .columns) rank ≡ secondLayoutOf b p rank
+  pub second-of : (rank : ℕ) → secondLayout (n .cells) (n .rows) (n .columns) rank ≡ secondLayoutOf K p rank
   second-of rank = ap (λ (k : Sizes). secondLayout (k .cells) (k .rows) (k .columns) rank) (h .is)
 
-  pub slots-of : n .cells * (2 * n .cells + max (n .rows) (n .columns)) ≡ workSlots (chainCells b) p
+  pub slots-of : n .cells * (2 * n .cells + max (n .rows) (n .columns)) ≡ workSlots K p
   slots-of = ap (λ (k : Sizes). k .cells * (2 * k .cells + max (k .rows) (k .columns))) (h .is)

@@ -6,10 +6,9 @@ use native.Mathlib.Nat.{mul-le-mul, le-refl, le-trans}
 use native.Mathlib.Omega.{arith}
 use lib.IntN.{ℤ, natAbs}
 use lib.ListN.{length}
-use Rattle.complexes.specs.Complex.{count}
+use Rattle.complexes.specs.Complex.{Sections, count}
 use Rattle.complexes.specs.ChainComplex.{ChainComplex}
 use Rattle.complexes.specs.Boundary.{countBelow}
-use Rattle.sheet_format.specs.Check.{chainCells}
 use Rattle.reduction_steps.specs.Pivot.{Rule, IsRule}
 use Rattle.reports.specs.Call.{workSlots, reportSlots, reductionsOf}
 use Rattle.limits.specs.Limits.{entryLimit, coefficientLimit, libraryLimit}
@@ -22,14 +21,14 @@ use Rattle.operations.specs.Layouts.{secondLayout}
 use Rattle.calls.specs.Slices.{ReducedTwice}
 use Rattle.calls.proofs.Places.{second-laid}
 
-module _ {rule : Rule} (is : IsRule rule) {b : List ℕ} {p n : ℕ} {x : Reduced} {w : List ℤ} (chains : ChainComplex libraryLimit (chainCells b)) (slots : workSlots (chainCells b) p ≤ n)
-    (h : ReducedTwice b p (reductionsOf rule b p) n x w) where
+module _ {rule : Rule} (is : IsRule rule) {K : Sections} {p n : ℕ} {x : Reduced} {w : List ℤ} (chains : ChainComplex libraryLimit K) (slots : workSlots K p ≤ n)
+    (h : ReducedTwice K p (reductionsOf rule K p) n x w) where
   laid : Laid (length w) (x .layout)
   laid =
       rw (h .kept .same-length, h .layout-is)
-      (second-laid (count (chainCells b) p) (countBelow (chainCells b) p) (count (chainCells b) (suc p)) slots (h .first-rank) (h .rank-within))
+      (second-laid (count K p) (countBelow K p) (count K (suc p)) slots (h .first-rank) (h .rank-within))
 
-  right : Right (chainCells b) p (x .layout .matrix .lines) (x .rank) (stateOf (x .layout) w)
+  right : Right K p (x .layout .matrix .lines) (x .rank) (stateOf (x .layout) w)
   unfolding reductionsOf
   right =
       reductions-right chains rule is entryLimit p (omega arith) (x .layout .matrix .lines) (x .rank) (stateOf (x .layout) w) (h .is)
@@ -38,24 +37,24 @@ module _ {rule : Rule} (is : IsRule rule) {b : List ℕ} {p n : ℕ} {x : Reduce
   unfolding stateOf
   kinds = record { nonneg = right .reduced .second .nonneg }
 
-  pub inverse-width : x .layout .«row_inverse» .width ≡ count (chainCells b) p
+  pub inverse-width : x .layout .«row_inverse» .width ≡ count K p
   unfolding secondLayout
   inverse-width = rw (h .layout-is) refl
 
-  pub follower-width : x .layout .«row_follower» .width ≡ count (chainCells b) p
+  pub follower-width : x .layout .«row_follower» .width ≡ count K p
   unfolding secondLayout
   follower-width = rw (h .layout-is) refl
 
-  pub can-report : {m : ℕ} → reportSlots (chainCells b) p ≤ m → CanReport x w m
+  pub can-report : {m : ℕ} → reportSlots K p ≤ m → CanReport x w m
   can-report {m} room = record {
     laid = laid;
     kinds = kinds;
     rank-below = h .rank-below;
     lines-below = rw inverse-width (right .rows-bound);
-    room = rw inverse-width (omega (arith, room, h .rank-below, right .rows-bound, mul-le-mul (right .rows-bound) (le-refl (count (chainCells b) p))));
+    room = rw inverse-width (omega (arith, room, h .rank-below, right .rows-bound, mul-le-mul (right .rows-bound) (le-refl (count K p))));
   }
 
-  pub can-coordinate : {z : List ℤ} {m : ℕ} → count (chainCells b) p ≤ m → length z ≡ count (chainCells b) p
+  pub can-coordinate : {z : List ℤ} {m : ℕ} → count K p ≤ m → length z ≡ count K p
       → ((j : ℕ) → natAbs (at z j) ≤ coefficientLimit) → CanCoordinate x w z m
   can-coordinate {z} {m} room size small = record {
     laid = laid;

@@ -42,7 +42,7 @@ fn rows_of(s: &[u8], p: usize) -> usize
 // The sizes of dimension p.
 fn sizes_of(s: &[u8], p: usize) -> Sizes
     requires { ⌜ p ≤ top ⌝ }
-    ensures { λ r. ⌜ SizesRead (now (s .entry)) p r ⌝ }
+    ensures { λ r. ⌜ SizesRead (chainCells (now (s .entry))) p r ⌝ }
 {
     Sizes {
         cells: count(s, p),

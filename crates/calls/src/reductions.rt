@@ -31,8 +31,8 @@ pub enum Reductions {
 fn fill_first(s: &[u8], p: usize, layout: Layout, w: &mut [i32])
     requires { ⌜ Accepted (now s) × (p ≤ top) ⌝ }
     requires { ⌜ workSlots (chainCells (now s)) p ≤ length (now w) ⌝ }
-    requires { ⌜ layout ≡ firstLayoutOf (now s) p ⌝ }
-    ensures { λ r. ⌜ Filled (now (s .entry)) p (length (now (w .entry))) (now (w .exit)) ⌝ }
+    requires { ⌜ layout ≡ firstLayoutOf (chainCells (now s)) p ⌝ }
+    ensures { λ r. ⌜ Filled (chainCells (now (s .entry))) p (length (now (w .entry))) (now (w .exit)) ⌝ }
 {
     clear(w);
     if 0 < p {
@@ -46,8 +46,8 @@ fn fill_first(s: &[u8], p: usize, layout: Layout, w: &mut [i32])
 pub fn reduce_twice(s: &[u8], p: usize, sizes: Sizes, w: &mut [i32]) -> Reductions
     requires { ⌜ Accepted (now s) × (p ≤ top) ⌝ }
     requires { ⌜ workSlots (chainCells (now s)) p ≤ length (now w) ⌝ }
-    requires { ⌜ SizesRead (now s) p sizes ⌝ }
-    ensures { λ r. ⌜ TwiceReduced (now (s .entry)) p (reductionsOf pivotRule (now (s .entry)) p) (length (now (w .entry))) r (now (w .exit)) ⌝ }
+    requires { ⌜ SizesRead (chainCells (now s)) p sizes ⌝ }
+    ensures { λ r. ⌜ TwiceReduced (chainCells (now (s .entry))) p (reductionsOf pivotRule (chainCells (now (s .entry))) p) (length (now (w .entry))) r (now (w .exit)) ⌝ }
 {
     let first = Layout::first(sizes.cells, sizes.rows, sizes.columns);
     fill_first(s, p, first, w);

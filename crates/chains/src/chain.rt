@@ -41,8 +41,8 @@ fn add_faces(s: &[u8], p: usize, j: usize, x: i64, sums: &mut [i64; CELLS])
     requires { ⌜ Accepted (now s) ⌝ }
     requires { ⌜ (p < top) × (j < count (chainCells (now s)) (suc p)) ⌝ }
     requires { ⌜ natAbs x ≤ coefficientLimit ⌝ }
-    requires { ⌜ Sums (now s) p (now sums) ⌝ }
-    ensures { λ r. ⌜ AddsFaces (now (s .entry)) p j x (now (sums .entry)) (now (sums .exit)) ⌝ }
+    requires { ⌜ Sums (chainCells (now s)) p (now sums) ⌝ }
+    ensures { λ r. ⌜ AddsFaces (chainCells (now (s .entry))) p j x (now (sums .entry)) (now (sums .exit)) ⌝ }
 {
     let mut t: usize = 0;
     while t < p + 2 {

@@ -111,7 +111,7 @@ record CoordinatesBehind (b : List ℕ) (p : ℕ) (z : Chain) (c : ℕ → ℤ) 
   rows : ℕ
   rank : ℕ
   state : State
-  reductions : reductionsOf pivotRule b p ≡ reduced rows rank state
+  reductions : reductionsOf pivotRule (chainCells b) p ≡ reduced rows rank state
   right : Right (sectionsOf b) p rows rank state
   chain : List ℤ
   agrees : (i : ℕ) → i < count (sectionsOf b) p → slot chain i ≡ z i
@@ -168,7 +168,7 @@ record ReportBehind (b : List ℕ) (p : ℕ) (report : ℕ → ℤ) : Type 0 whe
   rows : ℕ
   rank : ℕ
   state : State
-  reductions : reductionsOf pivotRule b p ≡ reduced rows rank state
+  reductions : reductionsOf pivotRule (chainCells b) p ≡ reduced rows rank state
   reads : Reads (sectionsOf b) p rows rank state report
 
 report-behind : (b : List ℕ) (p : ℕ) → Bytes b → (report : ℕ → ℤ) → ReportOf b p report → ReportBehind b p report

@@ -33,7 +33,7 @@ use Rattle.calls.specs.Answer.{CallAnswers}
 
 -- the text of dimension p of the sheet b
 abbrev pub textOf : List ℕ → ℕ → List ℕ
-textOf b p = dimensionText p (count (chainCells b) p) (reductionsOf pivotRule b p)
+textOf b p = dimensionText p (count (chainCells b) p) (reductionsOf pivotRule (chainCells b) p)
 
 -- what `put_report` asks for
 pub record ReportRoom (cells t f : ℕ) (report : List ℤ) : Type 0 where
@@ -79,7 +79,7 @@ module _ (limit : ℕ) (host : limit ≡ hostLimit) (b : List ℕ) (accepted : r
         s : Sized b p (x .free) (x .torsion)
         s = sizes .is-sized
 
-        c : ReducedWith (reductionsOf pivotRule b p) (x .free) (x .torsion)
+        c : ReducedWith (reductionsOf pivotRule (chainCells b) p) (x .free) (x .torsion)
         c = s .counted
 
         n : ℕ

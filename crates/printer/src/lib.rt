@@ -41,7 +41,7 @@ fn put_dimension(
     requires { ⌜ (length (now report) ≡ reportRoom) × (length (now work) ≡ workRoom) ⌝ }
     ensures { λ r. ⌜
         PutsWithin dimensionRoom
-        (dimensionText p (count (chainCells (now (s .entry))) p) (reductionsOf pivotRule (now (s .entry)) p)) at
+        (dimensionText p (count (chainCells (now (s .entry))) p) (reductionsOf pivotRule (chainCells (now (s .entry))) p)) at
         (now (out .entry)) r (now (out .exit))
         ⌝ }
 {

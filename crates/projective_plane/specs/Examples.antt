@@ -28,7 +28,7 @@ use Rattle.reports.specs.WideEnd.{inFirst, inSecond, endOfSecond, endOfProduct,
 use Rattle.projective_plane.specs.Plane.{cells, sheet, left, report, loop, twice, backwards, text}
 
 -- ten rows of Q, ten pivots
-pub reductions-plane : reductionsOf pivotRule sheet 1 ≡ reduced 10 10 left
+pub reductions-plane : reductionsOf pivotRule (chainCells sheet) 1 ≡ reduced 10 10 left
 unfolding reductionsOf reductions firstStart afterFirst second product secondStart afterSecond countBelow boundary coefficient sign
     countField cellOf cellsOf sectionsOf chainCells without same start
     reduce run step next bring positive quotient rowPass columnPass columnKeeps rowKeeps rowIndivisible firstIndivisible
@@ -51,7 +51,7 @@ pub record PlaneCalls : Type 0 where
   pub coordinate-loop : coordinateCall 256 sheet 1 loop (nines 15) (nines 600) ≡ gives (pos 1 ∷ []) (nines 14)
   pub coordinate-twice : coordinateCall 256 sheet 1 twice (nines 15) (nines 600) ≡ gives (pos 0 ∷ []) (nines 14)
   pub coordinate-backwards : coordinateCall 256 sheet 1 backwards (nines 15) (nines 600) ≡ gives (pos 1 ∷ []) (nines 14)
-  pub printed : dimensionText 1 15 (reductionsOf pivotRule sheet 1) ≡ text
+  pub printed : dimensionText 1 15 (reductionsOf pivotRule (chainCells sheet) 1) ≡ text
 
 pub plane-calls : PlaneCalls
 unfolding reportCall coordinateCall callChecks chainChecks coefficientExceeds boundaryNotZero finished

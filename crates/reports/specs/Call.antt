@@ -91,18 +91,18 @@ finished tooWide numbers output work = record { answer = refused 13; output = ou
 finished (reduced s r x) numbers output work =
     record { answer = done (freeRank s r) (torsionCount r x); output = written (numbers s r x) output; work = cleared work }
 
--- the two reductions of dimension p of the sheet b, by a pivot rule
-unfoldable pub reductionsOf : Rule → List ℕ → ℕ → Reductions
-reductionsOf rule b p = reductions rule entryLimit (chainCells b) p
+-- the two reductions of dimension p of the cells K, by a pivot rule
+unfoldable pub reductionsOf : Rule → Sections → ℕ → Reductions
+reductionsOf rule K p = reductions rule entryLimit K p
 
 -- the report call at a count limit, on a sheet, a dimension, a report slice and a work slice
 unfoldable pub reportCall : ℕ → List ℕ → ℕ → List ℤ → List ℤ → Called
 reportCall limit b p report work =
     orRefused (first (callChecks limit b p reportSlots (length report) (length work))) report work
-    (finished (reductionsOf pivotRule b p) (λ s r x. reportList (count (chainCells b) p) s r x) report work)
+    (finished (reductionsOf pivotRule (chainCells b) p) (λ s r x. reportList (count (chainCells b) p) s r x) report work)
 
 -- the coordinate call at a count limit, on a sheet, a dimension, a chain, a coordinate slice and a work slice
 unfoldable pub coordinateCall : ℕ → List ℕ → ℕ → List ℤ → List ℤ → List ℤ → Called
 coordinateCall limit b p z coordinates work =
     orRefused (first (callChecks limit b p coordinateSlots (length coordinates) (length work) ++ chainChecks b p z)) coordinates work
-    (finished (reductionsOf pivotRule b p) (λ s r x. coordinateList (count (chainCells b) p) s x z) coordinates work)
+    (finished (reductionsOf pivotRule (chainCells b) p) (λ s r x. coordinateList (count (chainCells b) p) s x z) coordinates work)

@@ -93,7 +93,7 @@ finishedWith (reduced s r x) numbers output =
 unfoldable pub hostReport : List ℕ → ℕ → List ℕ → HostCalled
 hostReport b p output =
     orRefusedWith (first (callChecks hostLimit b p reportSlots (slotsIn output) (workSlots (chainCells b) p))) output
-    (finishedWith (reductionsOf pivotRule b p) (λ s r x. reportList (count (chainCells b) p) s r x) output)
+    (finishedWith (reductionsOf pivotRule (chainCells b) p) (λ s r x. reportList (count (chainCells b) p) s r x) output)
 
 -- fildwuk_coordinates
 unfoldable pub hostCoordinates : List ℕ → ℕ → List ℕ → List ℕ → HostCalled
@@ -102,4 +102,4 @@ hostCoordinates b p chain output =
     (first (callChecks hostLimit b p coordinateSlots (slotsIn output) (workSlots (chainCells b) p)
     ++ chainChecks b p (chainFrom (count (chainCells b) p) chain)))
     output
-    (finishedWith (reductionsOf pivotRule b p) (λ s r x. coordinateList (count (chainCells b) p) s x (chainFrom (count (chainCells b) p) chain)) output)
+    (finishedWith (reductionsOf pivotRule (chainCells b) p) (λ s r x. coordinateList (count (chainCells b) p) s x (chainFrom (count (chainCells b) p) chain)) output)

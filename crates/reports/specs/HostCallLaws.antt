@@ -143,24 +143,24 @@ module _ (b : List ℕ) (p : ℕ) (output : List ℕ) (slots work : List ℤ) (s
   reportBefore : ℕ
   reportBefore = first (callChecks hostLimit b p reportSlots (length slots) (length work))
 
-  report-same : hostReport b p output ≡ hostCall reportBefore (reductionsOf pivotRule b p) reportNumbers output
+  report-same : hostReport b p output ≡ hostCall reportBefore (reductionsOf pivotRule (chainCells b) p) reportNumbers output
   unfolding hostReport reportBefore reportNumbers
   report-same =
-      ap (λ (n : ℕ). hostCall n (reductionsOf pivotRule b p) reportNumbers output)
+      ap (λ (n : ℕ). hostCall n (reductionsOf pivotRule (chainCells b) p) reportNumbers output)
       (sym (same-refusal b p reportSlots reportRoom (slotsIn output) (length slots) (length work) size space (λ e. report-room b e p)))
 
   pub report-refused : (k : ℕ) → reportCall hostLimit b p slots work .answer ≡ refused k → HostRefused (hostReport b p output) k output
   unfolding reportCall reportBefore reportNumbers
-  report-refused k e = rw report-same (host-refused reportBefore (reductionsOf pivotRule b p) reportNumbers slots work output k e)
+  report-refused k e = rw report-same (host-refused reportBefore (reductionsOf pivotRule (chainCells b) p) reportNumbers slots work output k e)
 
   -- where the report has `many` numbers
-  pub report-done : {f t : ℕ} (many : ℕ) → reportCall hostLimit b p slots work .answer ≡ done f t → (c : ReducedWith (reductionsOf pivotRule b p) f t)
+  pub report-done : {f t : ℕ} (many : ℕ) → reportCall hostLimit b p slots work .answer ≡ done f t → (c : ReducedWith (reductionsOf pivotRule (chainCells b) p) f t)
       → length (reportList (count (chainCells b) p) (c .rows) (c .rank) (c .state)) ≡ many
       → HostDone (hostReport b p output) many (reportCall hostLimit b p slots work .output) output
   unfolding reportCall reportBefore reportNumbers
   report-done {f} {t} many e c long =
-      let d = call-done reportBefore (reductionsOf pivotRule b p) reportNumbers slots work f t e in
-      rw report-same (host-done reportBefore (reductionsOf pivotRule b p) reportNumbers slots work output many (d .passes) c long)
+      let d = call-done reportBefore (reductionsOf pivotRule (chainCells b) p) reportNumbers slots work f t e in
+      rw report-same (host-done reportBefore (reductionsOf pivotRule (chainCells b) p) reportNumbers slots work output many (d .passes) c long)
 
 -- ---- the coordinates
 
@@ -177,7 +177,7 @@ module _ (b : List ℕ) (p : ℕ) (chain output : List ℕ) (z slots work : List
   coordinateBefore y = first (sheetChecked ++ chainChecks b p y)
 
   answered : List ℤ → HostCalled
-  answered y = hostCall (coordinateBefore y) (reductionsOf pivotRule b p) (coordinateNumbers y) output
+  answered y = hostCall (coordinateBefore y) (reductionsOf pivotRule (chainCells b) p) (coordinateNumbers y) output
 
   -- the checks 1 to 9 of the library's call decide, or those of the chain
   before-is : (y : List ℤ) → coordinateBefore y ≡ orElse (first sheetChecked) (first (chainChecks b p y))
@@ -195,7 +195,7 @@ module _ (b : List ℕ) (p : ℕ) (chain output : List ℕ) (z slots work : List
   coordinates-same : hostCoordinates b p chain output ≡ answered z
   unfolding hostCoordinates answered sheetChecked coordinateNumbers callChecks
   coordinates-same =
-      ap (λ (n : ℕ). hostCall n (reductionsOf pivotRule b p) (coordinateNumbers y) output)
+      ap (λ (n : ℕ). hostCall n (reductionsOf pivotRule (chainCells b) p) (coordinateNumbers y) output)
       (first-append (callChecks hostLimit b p coordinateSlots (slotsIn output) (workSlots (chainCells b) p)) (chainChecks b p y) refl
       ∙ ap (λ (n : ℕ). orElse n (first (chainChecks b p y)))
       (sym (same-refusal b p coordinateSlots coordinateRoom (slotsIn output) (length slots) (length work) size space (λ e. counts-within b e p)))
@@ -208,13 +208,13 @@ module _ (b : List ℕ) (p : ℕ) (chain output : List ℕ) (z slots work : List
   pub coordinates-refused : (k : ℕ) → coordinateCall hostLimit b p z slots work .answer ≡ refused k → HostRefused (hostCoordinates b p chain output) k output
   unfolding coordinateCall answered coordinateBefore sheetChecked coordinateNumbers
   coordinates-refused k e =
-      rw coordinates-same (host-refused (coordinateBefore z) (reductionsOf pivotRule b p) (coordinateNumbers z) slots work output k e)
+      rw coordinates-same (host-refused (coordinateBefore z) (reductionsOf pivotRule (chainCells b) p) (coordinateNumbers z) slots work output k e)
 
   -- where there are `many` coordinates
-  pub coordinates-done : {f t : ℕ} (many : ℕ) → coordinateCall hostLimit b p z slots work .answer ≡ done f t → (c : ReducedWith (reductionsOf pivotRule b p) f t)
+  pub coordinates-done : {f t : ℕ} (many : ℕ) → coordinateCall hostLimit b p z slots work .answer ≡ done f t → (c : ReducedWith (reductionsOf pivotRule (chainCells b) p) f t)
       → length (coordinateList (count (chainCells b) p) (c .rows) (c .state) z) ≡ many
       → HostDone (hostCoordinates b p chain output) many (coordinateCall hostLimit b p z slots work .output) output
   unfolding coordinateCall answered coordinateBefore sheetChecked coordinateNumbers
   coordinates-done {f} {t} many e c long =
-      let d = call-done (coordinateBefore z) (reductionsOf pivotRule b p) (coordinateNumbers z) slots work f t e in
-      rw coordinates-same (host-done (coordinateBefore z) (reductionsOf pivotRule b p) (coordinateNumbers z) slots work output many (d .passes) c long)
+      let d = call-done (coordinateBefore z) (reductionsOf pivotRule (chainCells b) p) (coordinateNumbers z) slots work f t e in
+      rw coordinates-same (host-done (coordinateBefore z) (reductionsOf pivotRule (chainCells b) p) (coordinateNumbers z) slots work output many (d .passes) c long)

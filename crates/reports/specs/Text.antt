@@ -54,7 +54,7 @@ dimensionText p n (reduced s r x) =
 -- `more` dimensions from p on
 unfoldable pub dimensionsText : List ℕ → ℕ → ℕ → List ℕ
 dimensionsText b zero p = []
-dimensionsText b (suc more) p = dimensionText p (count (chainCells b) p) (reductionsOf pivotRule b p) ++ dimensionsText b more (suc p)
+dimensionsText b (suc more) p = dimensionText p (count (chainCells b) p) (reductionsOf pivotRule (chainCells b) p) ++ dimensionsText b more (suc p)
 
 -- a sheet refused by 1 to 7 gives the single line `R` and the number, any other a text for each dimension
 unfoldable pub textFor : ℕ → List ℕ → List ℕ

@@ -140,7 +140,7 @@ returns-5 c =
     let a = entered (checked third) .args in
     coordinates-wide (a .sheet .limit) (now (a .s)) (a .dimension) (now (a .chain)) (now (a .coordinates)) (now (a .work))
     (granted (checked third) .passed) (chain third)
-    (twice-refused (now (a .s)) (a .dimension) (reductionsOf pivotRule (now (a .s)) (a .dimension)) (called .reduce-twice .result) (c .enum-told .given .1)
+    (twice-refused (chainCells (now (a .s))) (a .dimension) (reductionsOf pivotRule (chainCells (now (a .s))) (a .dimension)) (called .reduce-twice .result) (c .enum-told .given .1)
     (called .reduce-twice .ensures))
 
 same-length : tie.Need-same-length
@@ -156,11 +156,11 @@ module _ (c : tie.After-known-told3) where
   third = called .before .before
 
   twice : let a = entered (checked third) .args in
-      ReducedTwice (now (a .s)) (a .dimension) (reductionsOf pivotRule (now (a .s)) (a .dimension)) (length (now (a .work))) (c .before .reduced .given .0 .0)
+      ReducedTwice (chainCells (now (a .s))) (a .dimension) (reductionsOf pivotRule (chainCells (now (a .s))) (a .dimension)) (length (now (a .work))) (c .before .reduced .given .0 .0)
       (called .reduce-twice .last .1 .1 .1 .0)
   twice =
       let a = entered (checked third) .args in
-      twice-done (now (a .s)) (a .dimension) (reductionsOf pivotRule (now (a .s)) (a .dimension)) (called .reduce-twice .result) (c .before .reduced .given .1)
+      twice-done (chainCells (now (a .s))) (a .dimension) (reductionsOf pivotRule (chainCells (now (a .s))) (a .dimension)) (called .reduce-twice .result) (c .before .reduced .given .1)
       (called .reduce-twice .ensures)
 
 write-coordinates-requires : tie.Need-write-coordinates-requires

@@ -32,10 +32,10 @@ module _ (c : tie.After-first) where
   chains : ChainComplex libraryLimit (chainCells (now (start .args .s)))
   chains = sheet-chains (record { small = λ i. c .before .shared-slice-known .given i .fits }) (start .pre .0 .0)
 
-  sizes : SizesRead (now (start .args .s)) (start .args .p) (start .args .sizes)
+  sizes : SizesRead (chainCells (now (start .args .s))) (start .args .p) (start .args .sizes)
   sizes = start .pre .1 .1
 
-  first-is : c .first .result ≡ firstLayoutOf (now (start .args .s)) (start .args .p)
+  first-is : c .first .result ≡ firstLayoutOf (chainCells (now (start .args .s))) (start .args .p)
   first-is = c .first .ensures ∙ first-of sizes
 
 -- ---- the first reduction
@@ -49,7 +49,7 @@ reduce-matrix-requires c κs =
     let s = start first in
     let filled = c .before .before .fill-first .ensures in (
       rw (filled .kept .same-length)
-          (laid (now (s .args .s)) (s .args .p) (length (now (s .args .w))) (s .pre .1 .0) (first .first .result) (first-is first)),
+          (laid (chainCells (now (s .args .s))) (s .args .p) (length (now (s .args .w))) (s .pre .1 .0) (first .first .result) (first-is first)),
       filled .kept .small,
     )
 
@@ -68,7 +68,7 @@ returns c =
     let called = c .before .before .before in
     let first = at-first called in
     let s = start first in
-    first-refused pivotRule-is-rule (now (s .args .s)) (s .args .p) (length (now (s .args .w))) (chains first) (s .pre .1 .0) (first .first .result) (first-is first)
+    first-refused pivotRule-is-rule (chainCells (now (s .args .s))) (s .args .p) (length (now (s .args .w))) (chains first) (s .pre .1 .0) (first .first .result) (first-is first)
     (called .before .before .before .fill-first .ensures) (reduces-refused (first .first .result) (called .reduce-matrix .result) (c .enum-told .given .1) (called .reduce-matrix .ensures))
 
 same-length : tie.Need-same-length
@@ -87,10 +87,10 @@ module _ (c : tie.After-known-told) where
   rank = c .before .rank .given .0 .0
 
   first : let s = start began in
-      FirstDone pivotRule-is-rule (now (s .args .s)) (s .args .p) (length (now (s .args .w))) (chains began) (s .pre .1 .0) rank (first-called .reduce-matrix .last .1 .0)
+      FirstDone pivotRule-is-rule (chainCells (now (s .args .s))) (s .args .p) (length (now (s .args .w))) (chains began) (s .pre .1 .0) rank (first-called .reduce-matrix .last .1 .0)
   first =
       let s = start began in
-      first-done pivotRule-is-rule (now (s .args .s)) (s .args .p) (length (now (s .args .w))) (chains began) (s .pre .1 .0) (began .first .result) (first-is began)
+      first-done pivotRule-is-rule (chainCells (now (s .args .s))) (s .args .p) (length (now (s .args .w))) (chains began) (s .pre .1 .0) (began .first .result) (first-is began)
       (first-called .before .before .before .fill-first .ensures) (reduces-done (began .first .result) (first-called .reduce-matrix .result) (c .before .rank .given .1) (first-called .reduce-matrix .ensures))
 
 second-requires : tie.Need-second-requires
@@ -98,7 +98,7 @@ second-requires c κs =
     let n = sizes (began c) in (n .cells-below, n .rows-below, n .columns-below, rw (cells-of n) (first c .rank-within))
 
 second-is : (c : tie.After-second) →
-    let s = start (began (c .before)) in c .second .result ≡ secondLayoutOf (now (s .args .s)) (s .args .p) (rank (c .before))
+    let s = start (began (c .before)) in c .second .result ≡ secondLayoutOf (chainCells (now (s .args .s))) (s .args .p) (rank (c .before))
 second-is c = c .second .ensures ∙ second-of (sizes (began (c .before))) (rank (c .before))
 
 multiply-requires : tie.Need-multiply-requires
@@ -107,16 +107,16 @@ multiply-requires c κs =
     let s = start (began told) in
     let W = c .before .second .result in
     let is = second-is (c .before) in
-    let l = laid-then pivotRule-is-rule (now (s .args .s)) (s .args .p) (length (now (s .args .w))) (chains (began told)) (s .pre .1 .0) (first told) W is in (
+    let l = laid-then pivotRule-is-rule (chainCells (now (s .args .s))) (s .args .p) (length (now (s .args .w))) (chains (began told)) (s .pre .1 .0) (first told) W is in (
       s .pre .0 .0,
       (
         (
-          Q-width pivotRule-is-rule (now (s .args .s)) (s .args .p) (length (now (s .args .w))) (chains (began told)) (s .pre .1 .0) (first told) W is,
-          product-width pivotRule-is-rule (now (s .args .s)) (s .args .p) (length (now (s .args .w))) (chains (began told)) (s .pre .1 .0) (first told) W is,
+          Q-width pivotRule-is-rule (chainCells (now (s .args .s))) (s .args .p) (length (now (s .args .w))) (chains (began told)) (s .pre .1 .0) (first told) W is,
+          product-width pivotRule-is-rule (chainCells (now (s .args .s))) (s .args .p) (length (now (s .args .w))) (chains (began told)) (s .pre .1 .0) (first told) W is,
           sym (l .row-follower-lines),
         ),
         (
-          Q-held pivotRule-is-rule (now (s .args .s)) (s .args .p) (length (now (s .args .w))) (chains (began told)) (s .pre .1 .0) (first told) W is,
+          Q-held pivotRule-is-rule (chainCells (now (s .args .s))) (s .args .p) (length (now (s .args .w))) (chains (began told)) (s .pre .1 .0) (first told) W is,
           omega (arith, l .after-matrix, l .after-row-inverse),
           first told .kept .small,
         ),
@@ -136,7 +136,7 @@ returns-2 c =
     let s = start (began told) in
     let W = called .before .before .second .result in
     let beyond = became-wide (called .multiply .result) (c .before .before .before .enum-told3 .given .1) (called .multiply .ensures) in (
-      product-refused pivotRule-is-rule (now (s .args .s)) (s .args .p) (length (now (s .args .w))) (chains (began told)) (s .pre .1 .0) (first told) W
+      product-refused pivotRule-is-rule (chainCells (now (s .args .s))) (s .args .p) (length (now (s .args .w))) (chains (began told)) (s .pre .1 .0) (first told) W
           (second-is (called .before .before)) beyond,
       record {
         number = refl;
@@ -159,11 +159,11 @@ module _ (c : tie.After-enum-told2) where
   first-told = c .before .before .before .before .before .before
 
   started : let s = start (began first-told) in
-      SecondStarted pivotRule-is-rule (now (s .args .s)) (s .args .p) (length (now (s .args .w))) (chains (began first-told)) (s .pre .1 .0) (rank first-told)
+      SecondStarted pivotRule-is-rule (chainCells (now (s .args .s))) (s .args .p) (length (now (s .args .w))) (chains (began first-told)) (s .pre .1 .0) (rank first-told)
       (first-called first-told .reduce-matrix .last .1 .0) (multiplied .multiply .last .1 .1 .1 .1 .0)
   started =
       let s = start (began first-told) in
-      second-started pivotRule-is-rule (now (s .args .s)) (s .args .p) (length (now (s .args .w))) (chains (began first-told)) (s .pre .1 .0) (first first-told)
+      second-started pivotRule-is-rule (chainCells (now (s .args .s))) (s .args .p) (length (now (s .args .w))) (chains (began first-told)) (s .pre .1 .0) (first first-told)
       (multiplied .before .before .second .result) (second-is (multiplied .before .before))
       (became-done (multiplied .multiply .result) (c .enum-told2 .given .1) (multiplied .multiply .ensures))
 
@@ -174,7 +174,7 @@ reduce-matrix-requires-2 c κs =
     let second = multiplied (c .before) .before .before in
     let kept = started (c .before) .kept in (
       rw (kept .same-length)
-          (laid-then pivotRule-is-rule (now (s .args .s)) (s .args .p) (length (now (s .args .w))) (chains (began told)) (s .pre .1 .0) (first told) (second .second .result)
+          (laid-then pivotRule-is-rule (chainCells (now (s .args .s))) (s .args .p) (length (now (s .args .w))) (chains (began told)) (s .pre .1 .0) (first told) (second .second .result)
           (second-is second)),
       kept .small,
     )
@@ -191,7 +191,7 @@ returns-3 c =
     let told = first-told (called .before .before) in
     let s = start (began told) in
     let second = multiplied (called .before .before) .before .before in
-    second-refused pivotRule-is-rule (now (s .args .s)) (s .args .p) (length (now (s .args .w))) (chains (began told)) (s .pre .1 .0) (started (called .before .before))
+    second-refused pivotRule-is-rule (chainCells (now (s .args .s))) (s .args .p) (length (now (s .args .w))) (chains (began told)) (s .pre .1 .0) (started (called .before .before))
     (second .second .result) (second-is second)
     (reduces-refused (second .second .result) (called .reduce-matrix2 .result) (c .enum-told4 .given .1) (called .reduce-matrix2 .ensures))
 
@@ -204,7 +204,7 @@ returns-4 c =
     let told = first-told (called .before .before) in
     let s = start (began told) in
     let second = multiplied (called .before .before) .before .before in
-    second-done pivotRule-is-rule (now (s .args .s)) (s .args .p) (length (now (s .args .w))) (chains (began told)) (s .pre .1 .0) (started (called .before .before))
+    second-done pivotRule-is-rule (chainCells (now (s .args .s))) (s .args .p) (length (now (s .args .w))) (chains (began told)) (s .pre .1 .0) (started (called .before .before))
     (second .second .result) (second-is second)
     (reduces-done (second .second .result) (called .reduce-matrix2 .result) (c .before .last .given .1) (called .reduce-matrix2 .ensures))
 

@@ -76,7 +76,7 @@ returns-2 c =
     let called = c .before .before .before in
     let a = entered (admitted called) .args in
     report-wide (a .sheet .limit) (now (a .s)) (a .dimension) (now (a .report)) (now (a .work)) (granted (admitted called) .passed)
-    (twice-refused (now (a .s)) (a .dimension) (reductionsOf pivotRule (now (a .s)) (a .dimension)) (called .reduce-twice .result) (c .enum-told .given .1)
+    (twice-refused (chainCells (now (a .s))) (a .dimension) (reductionsOf pivotRule (chainCells (now (a .s))) (a .dimension)) (called .reduce-twice .result) (c .enum-told .given .1)
     (called .reduce-twice .ensures))
 
 same-length : tie.Need-same-length
@@ -92,11 +92,11 @@ module _ (c : tie.After-known-told3) where
   sized = admitted called
 
   twice : let a = entered sized .args in
-      ReducedTwice (now (a .s)) (a .dimension) (reductionsOf pivotRule (now (a .s)) (a .dimension)) (length (now (a .work))) (c .before .reduced .given .0 .0)
+      ReducedTwice (chainCells (now (a .s))) (a .dimension) (reductionsOf pivotRule (chainCells (now (a .s))) (a .dimension)) (length (now (a .work))) (c .before .reduced .given .0 .0)
       (called .reduce-twice .last .1 .1 .1 .0)
   twice =
       let a = entered sized .args in
-      twice-done (now (a .s)) (a .dimension) (reductionsOf pivotRule (now (a .s)) (a .dimension)) (called .reduce-twice .result) (c .before .reduced .given .1)
+      twice-done (chainCells (now (a .s))) (a .dimension) (reductionsOf pivotRule (chainCells (now (a .s))) (a .dimension)) (called .reduce-twice .result) (c .before .reduced .given .1)
       (called .reduce-twice .ensures)
 
 write-report-requires : tie.Need-write-report-requires

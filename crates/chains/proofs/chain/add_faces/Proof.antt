@@ -54,7 +54,7 @@ record Given (b : List ℕ) (p j : ℕ) (x : ℤ) (sums₀ : List ℤ) : Type 0 
   inside : p < top
   below : j < count (sectionsOf b) (suc p)
   factor : natAbs x ≤ coefficientLimit
-  sums : Sums b p sums₀
+  sums : Sums (chainCells b) p sums₀
 
 module _ {b : List ℕ} {p j : ℕ} {x : ℤ} {sums₀ : List ℤ} {t : ℕ} {sums : List ℤ} (given : Given b p j x sums₀) (inv : Invariant b p j x sums₀ t sums)
     (more : t < p + 2) (i : ℕ) (face : IsFace b p j t i) (r : ℤ) (r-is : r ≡ sign t) where
@@ -119,7 +119,7 @@ module _ {b : List ℕ} {p j : ℕ} {x : ℤ} {sums₀ : List ℤ} {t : ℕ} {su
           ∙ ap (λ (z : ℤ). getD sums₀ k (pos 0) +ℤ x *ℤ z) (sym (part-other b (given .sheet) p j (given .below) t i face k l d))
 
 ended : {b : List ℕ} {p j : ℕ} {x : ℤ} {sums₀ : List ℤ} {t : ℕ} {sums : List ℤ} → Given b p j x sums₀ → Invariant b p j x sums₀ t sums → p + 2 ≤ t
-    → AddsFaces b p j x sums₀ sums
+    → AddsFaces (chainCells b) p j x sums₀ sums
 unfolding chainCells
 ended {b} {p} {j} {x} {sums₀} {t} {sums} given inv done = record {
   same-length = inv .same-length;
