@@ -9,14 +9,13 @@ use Prim.Native.Nat.{ℕ, zero, suc, _≤_}
 use native.Mathlib.Omega.{arith}
 use lib.ListN.{length, getD}
 use lib.IntN.{ℤ, pos}
-use Rattle.complexes.specs.Complex.{Sections, Complex}
-use Rattle.sheet_format.specs.Layout.{top}
-use Rattle.sheet_format.specs.Check.{sectionsOf, first}
+use Rattle.complexes.specs.Complex.{Sections}
+use Rattle.complexes.specs.ChainComplex.{ChainComplex}
+use Rattle.sheet_format.specs.Check.{chainCells, first}
 use Rattle.sheet_format.specs.Sheet.{Bytes}
-use Rattle.sheet_format.specs.Accept.{accepted-complex}
+use Rattle.sheet_format.specs.Accept.{accepted-chains}
 use Rattle.reduction_steps.specs.State.{State, within}
-use Rattle.reduction_steps.specs.Pivot.{release1}
-use Rattle.reduction_steps.specs.PivotLaws.{release1-is-rule}
+use Rattle.reduction_steps.specs.Pivot.{Rule, IsRule}
 use Rattle.reports.specs.Reductions.{Reductions, tooWide, reduced}
 use Rattle.reports.specs.Report.{freeRank, torsionCount}
 use Rattle.reports.specs.ReductionsLaws.{tooWide≢reduced}
@@ -109,33 +108,33 @@ module _ (numbers : ℕ → ℕ → State → List ℤ) (output work : List ℤ)
 
 -- ---- an accepted sheet
 
--- a call that passes the checks 1 to 9 has a complex
-pub passed-complex : (limit : ℕ) (b : List ℕ) (p : ℕ) (slots : Sections → ℕ → ℕ) (output work : ℕ) → Bytes b → first (callChecks limit b p slots output work) ≡ 0 → Complex top limit (sectionsOf b)
-passed-complex limit b p slots output work bytes e = accepted-complex limit b bytes (callChecks-zero limit b p slots output work .0 e .accepted)
+-- a call that passes the checks 1 to 9 has a chain complex
+pub passed-chains : (limit : ℕ) (b : List ℕ) (p : ℕ) (slots : Sections → ℕ → ℕ) (output work : ℕ) → Bytes b → first (callChecks limit b p slots output work) ≡ 0 → ChainComplex limit (chainCells b)
+passed-chains limit b p slots output work bytes e = accepted-chains limit b bytes (callChecks-zero limit b p slots output work .0 e .accepted)
 
-module _ {limit : ℕ} (b : List ℕ) (p : ℕ) (complex : Complex top limit (sectionsOf b)) where
-  pub reductionsOf-wide : (reductionsOf b p ≡ tooWide) ↔ GoesWide entryLimit release1 (sectionsOf b) p
+module _ {rule : Rule} (is : IsRule rule) {limit : ℕ} (K : Sections) (p : ℕ) (chains : ChainComplex limit K) where
+  pub reductionsOf-wide : (reductionsOf rule K p ≡ tooWide) ↔ GoesWide entryLimit rule K p
   unfolding reductionsOf
-  reductionsOf-wide = wide-iff complex release1 release1-is-rule entryLimit p (omega arith)
+  reductionsOf-wide = wide-iff chains rule is entryLimit p (omega arith)
 
-  module _ (s r : ℕ) (x : State) (e : reductionsOf b p ≡ reduced s r x) where
-    pub reductionsOf-right : Right (sectionsOf b) p s r x
+  module _ (s r : ℕ) (x : State) (e : reductionsOf rule K p ≡ reduced s r x) where
+    pub reductionsOf-right : Right K p s r x
     unfolding reductionsOf
-    reductionsOf-right = reductions-right complex release1 release1-is-rule entryLimit p (omega arith) s r x e
+    reductionsOf-right = reductions-right chains rule is entryLimit p (omega arith) s r x e
 
     pub reductionsOf-within : within entryLimit x ≡ true
     unfolding reductionsOf
-    reductionsOf-within = reductions-within complex release1 release1-is-rule entryLimit p (omega arith) s r x e
+    reductionsOf-within = reductions-within chains rule is entryLimit p (omega arith) s r x e
 
 -- a call that is done with f and t: two reductions that are right
-pub record Answered (b : List ℕ) (p before f t : ℕ) : Type 0 where
+pub record Answered (rule : Rule) (K : Sections) (p before f t : ℕ) : Type 0 where
   pub passes : before ≡ 0
-  pub counted : ReducedWith (reductionsOf b p) f t
-  pub right : Right (sectionsOf b) p (counted .rows) (counted .rank) (counted .state)
+  pub counted : ReducedWith (reductionsOf rule K p) f t
+  pub right : Right K p (counted .rows) (counted .rank) (counted .state)
 
-pub answered : {limit : ℕ} (b : List ℕ) (p before : ℕ) → (before ≡ 0 → Complex top limit (sectionsOf b)) → (numbers : ℕ → ℕ → State → List ℤ)
-    (output work : List ℤ) (f t : ℕ) → call before (reductionsOf b p) numbers output work .answer ≡ done f t → Answered b p before f t
-answered b p before complex numbers output work f t e =
-    let d = call-done before (reductionsOf b p) numbers output work f t e in
+pub answered : {rule : Rule} → IsRule rule → {limit : ℕ} (K : Sections) (p before : ℕ) → (before ≡ 0 → ChainComplex limit K) → (numbers : ℕ → ℕ → State → List ℤ)
+    (output work : List ℤ) (f t : ℕ) → call before (reductionsOf rule K p) numbers output work .answer ≡ done f t → Answered rule K p before f t
+answered {rule} is K p before chains numbers output work f t e =
+    let d = call-done before (reductionsOf rule K p) numbers output work f t e in
     let c = d .counted in
-    record { passes = d .passes; counted = c; right = reductionsOf-right b p (complex (d .passes)) (c .rows) (c .rank) (c .state) (c .reductions) }
+    record { passes = d .passes; counted = c; right = reductionsOf-right is K p (chains (d .passes)) (c .rows) (c .rank) (c .state) (c .reductions) }

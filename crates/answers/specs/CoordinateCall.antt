@@ -8,12 +8,13 @@ use native.Mathlib.Nat.{le-trans}
 use native.Mathlib.Omega.{arith}
 use lib.ListN.{length, getD}
 use lib.IntN.{ℤ, pos}
-use Rattle.complexes.specs.Complex.{count, Complex}
-use Rattle.sheet_format.specs.Layout.{top}
-use Rattle.sheet_format.specs.Check.{sectionsOf, first}
+use Rattle.complexes.specs.Complex.{count}
+use Rattle.complexes.specs.ChainComplex.{ChainComplex}
+use Rattle.sheet_format.specs.Check.{chainCells, first}
 use Rattle.sheet_format.specs.Sheet.{Bytes}
 use Rattle.reduction_steps.specs.State.{State}
-use Rattle.reduction_steps.specs.Pivot.{release1}
+use Rattle.reduction_steps.specs.Pivot.{pivotRule}
+use Rattle.reduction_steps.specs.PivotLaws.{pivotRule-is-rule}
 use Rattle.reports.specs.Report.{coordinateList}
 use Rattle.reports.specs.ReportLaws.{coordinates-fit}
 use Rattle.reports.specs.Call.{Called, done, written, callChecks, chainChecks, coordinateSlots, reductionsOf, coordinateCall}
@@ -28,7 +29,7 @@ use Rattle.answers.specs.Called.{answerNumber, IsDone, Answers, KeptPast
 use Rattle.answers.specs.ChainChecks.{chain-passes}
 use Rattle.answers.specs.Numbers.{coordinates-length}
 use Rattle.answers.specs.CoordinatesRight.{ReadsCoordinates}
-use Rattle.answers.specs.Calls.{told, told-answers, call-number, call-counted, output-left, output-kept, work-left, passed-complex, reductionsOf-wide, Answered, answered}
+use Rattle.answers.specs.Calls.{told, told-answers, call-number, call-counted, output-left, output-kept, work-left, passed-chains, reductionsOf-wide, Answered, answered}
 
 module _ (limit : ℕ) (b : List ℕ) (p : ℕ) (z coordinates work : List ℤ) where
   -- the refusals 1 to 9 of the coordinate call; and those with 10 to 12 after them
@@ -39,7 +40,7 @@ module _ (limit : ℕ) (b : List ℕ) (p : ℕ) (z coordinates work : List ℤ) 
   coordinatesBefore = first (callChecks limit b p coordinateSlots (length coordinates) (length work) ++ chainChecks b p z)
 
   abbrev pub coordinatesNumbers : ℕ → ℕ → State → List ℤ
-  coordinatesNumbers s r x = coordinateList (count (sectionsOf b) p) s x z
+  coordinatesNumbers s r x = coordinateList (count (chainCells b) p) s x z
 
   abbrev pub coordinatesCalled : Called
   coordinatesCalled = coordinateCall limit b p z coordinates work
@@ -50,38 +51,38 @@ module _ (limit : ℕ) (b : List ℕ) (p : ℕ) (z coordinates work : List ℤ) 
   pub coordinates-passed : (coordinatesBefore ≡ 0) ↔ ((sheetBefore ≡ 0) × (first (chainChecks b p z) ≡ 0))
   coordinates-passed = call-chain-zero limit b p coordinateSlots (length coordinates) (length work) z
 
-  coordinates-complex : Bytes b → coordinatesBefore ≡ 0 → Complex top limit (sectionsOf b)
-  coordinates-complex bytes e = passed-complex limit b p coordinateSlots (length coordinates) (length work) bytes (coordinates-passed .0 e .0)
+  coordinates-chains : Bytes b → coordinatesBefore ≡ 0 → ChainComplex limit (chainCells b)
+  coordinates-chains bytes e = passed-chains limit b p coordinateSlots (length coordinates) (length work) bytes (coordinates-passed .0 e .0)
 
-  pub chain-cycle : coordinatesBefore ≡ 0 → IsCycle (sectionsOf b) p (slot z)
+  pub chain-cycle : coordinatesBefore ≡ 0 → IsCycle (chainCells b) p (slot z)
   chain-cycle e = chain-passes b p z (coordinates-passed .0 e .1) .cycle
 
-  pub coordinates-number : answerNumber (coordinatesCalled .answer) ≡ told coordinatesBefore (reductionsOf b p)
+  pub coordinates-number : answerNumber (coordinatesCalled .answer) ≡ told coordinatesBefore (reductionsOf pivotRule (chainCells b) p)
   unfolding coordinateCall
-  coordinates-number = call-number coordinatesNumbers coordinates work coordinatesBefore (reductionsOf b p)
+  coordinates-number = call-number coordinatesNumbers coordinates work coordinatesBefore (reductionsOf pivotRule (chainCells b) p)
 
-  pub coordinates-answer : Bytes b → Answers coordinatesBefore (GoesWide entryLimit release1 (sectionsOf b) p) (answerNumber (coordinatesCalled .answer))
+  pub coordinates-answer : Bytes b → Answers coordinatesBefore (GoesWide entryLimit pivotRule (chainCells b) p) (answerNumber (coordinatesCalled .answer))
   coordinates-answer bytes =
-      rw coordinates-number (told-answers coordinatesBefore (reductionsOf b p) coordinates-narrow (λ e. reductionsOf-wide b p (coordinates-complex bytes e)))
+      rw coordinates-number (told-answers coordinatesBefore (reductionsOf pivotRule (chainCells b) p) coordinates-narrow (λ e. reductionsOf-wide pivotRule-is-rule (chainCells b) p (coordinates-chains bytes e)))
 
   pub coordinates-counted : answerNumber (coordinatesCalled .answer) ≡ 0 → IsDone (coordinatesCalled .answer)
   unfolding coordinateCall
-  coordinates-counted = call-counted coordinatesNumbers coordinates work coordinatesBefore (reductionsOf b p)
+  coordinates-counted = call-counted coordinatesNumbers coordinates work coordinatesBefore (reductionsOf pivotRule (chainCells b) p)
 
   pub coordinates-left : answerNumber (coordinatesCalled .answer) ≢ 0 → coordinatesCalled .output ≡ coordinates
   unfolding coordinateCall
-  coordinates-left d = output-left coordinatesNumbers coordinates work coordinatesBefore (reductionsOf b p) (rw coordinates-number at d)
+  coordinates-left d = output-left coordinatesNumbers coordinates work coordinatesBefore (reductionsOf pivotRule (chainCells b) p) (rw coordinates-number at d)
 
   pub coordinates-work : WorkLeft (answerNumber (coordinatesCalled .answer)) work (coordinatesCalled .work)
   unfolding coordinateCall
-  coordinates-work = rw coordinates-number (work-left coordinatesNumbers coordinates work coordinatesBefore (reductionsOf b p) coordinates-narrow)
+  coordinates-work = rw coordinates-number (work-left coordinatesNumbers coordinates work coordinatesBefore (reductionsOf pivotRule (chainCells b) p) coordinates-narrow)
 
   module _ (bytes : Bytes b) {f t : ℕ} (e : coordinatesCalled .answer ≡ done f t) where
-    pub coordinates-answered : Answered b p coordinatesBefore f t
+    pub coordinates-answered : Answered pivotRule (chainCells b) p coordinatesBefore f t
     unfolding coordinateCall
-    coordinates-answered = answered b p coordinatesBefore (coordinates-complex bytes) coordinatesNumbers coordinates work f t e
+    coordinates-answered = answered pivotRule-is-rule (chainCells b) p coordinatesBefore (coordinates-chains bytes) coordinatesNumbers coordinates work f t e
 
-    abbrev c : ReducedWith (reductionsOf b p) f t
+    abbrev c : ReducedWith (reductionsOf pivotRule (chainCells b) p) f t
     c = coordinates-answered .counted
 
     size : length (coordinatesNumbers (c .rows) (c .rank) (c .state)) ≡ t + f
@@ -89,9 +90,9 @@ module _ (limit : ℕ) (b : List ℕ) (p : ℕ) (z coordinates work : List ℤ) 
 
     output-is : coordinatesCalled .output ≡ written (coordinatesNumbers (c .rows) (c .rank) (c .state)) coordinates
     unfolding coordinateCall
-    output-is = call-output coordinatesBefore (reductionsOf b p) coordinatesNumbers coordinates work (coordinates-answered .passes) (c .rows) (c .rank) (c .state) (c .reductions)
+    output-is = call-output coordinatesBefore (reductionsOf pivotRule (chainCells b) p) coordinatesNumbers coordinates work (coordinates-answered .passes) (c .rows) (c .rank) (c .state) (c .reductions)
 
-    pub coordinates-read : ReadsCoordinates (sectionsOf b) p (c .rows) (c .rank) (c .state) z (slot (coordinatesCalled .output))
+    pub coordinates-read : ReadsCoordinates (chainCells b) p (c .rows) (c .rank) (c .state) z (slot (coordinatesCalled .output))
     coordinates-read = record {
       places = λ j l.
           ap (λ (o : List ℤ). getD o j (pos 0)) output-is
@@ -101,10 +102,10 @@ module _ (limit : ℕ) (b : List ℕ) (p : ℕ) (z coordinates work : List ℤ) 
     pub coordinates-kept : KeptPast (pos 0) (t + f) coordinates (coordinatesCalled .output)
     unfolding coordinateCall
     coordinates-kept =
-        output-kept coordinatesNumbers coordinates work coordinatesBefore (reductionsOf b p) (coordinates-answered .passes) c (t + f) size (le-trans fits slots)
+        output-kept coordinatesNumbers coordinates work coordinatesBefore (reductionsOf pivotRule (chainCells b) p) (coordinates-answered .passes) c (t + f) size (le-trans fits slots)
       where
-        fits : t + f ≤ coordinateSlots (sectionsOf b) p
-        fits = rw size at (coordinates-fit (count (sectionsOf b) p) (c .rows) (c .state) z (coordinates-answered .right .rows-bound))
+        fits : t + f ≤ coordinateSlots (chainCells b) p
+        fits = rw size at (coordinates-fit (count (chainCells b) p) (c .rows) (c .state) z (coordinates-answered .right .rows-bound))
 
-        slots : coordinateSlots (sectionsOf b) p ≤ length coordinates
+        slots : coordinateSlots (chainCells b) p ≤ length coordinates
         slots = callChecks-zero limit b p coordinateSlots (length coordinates) (length work) .0 (coordinates-passed .0 (coordinates-answered .passes) .0) .output-slots

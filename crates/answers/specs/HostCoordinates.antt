@@ -11,12 +11,13 @@ use lib.ListN.{length}
 use lib.IntN.{ℤ, pos}
 use Rattle.lists.specs.Tabulate.{tabulate}
 use Rattle.lists.specs.TabulateLaws.{getD-tabulate}
-use Rattle.complexes.specs.Complex.{count, Complex}
-use Rattle.sheet_format.specs.Layout.{top}
-use Rattle.sheet_format.specs.Check.{sectionsOf, first}
+use Rattle.complexes.specs.Complex.{count}
+use Rattle.complexes.specs.ChainComplex.{ChainComplex}
+use Rattle.sheet_format.specs.Check.{chainCells, first}
 use Rattle.sheet_format.specs.Sheet.{Bytes}
 use Rattle.reduction_steps.specs.State.{State, within}
-use Rattle.reduction_steps.specs.Pivot.{release1}
+use Rattle.reduction_steps.specs.Pivot.{pivotRule}
+use Rattle.reduction_steps.specs.PivotLaws.{pivotRule-is-rule}
 use Rattle.reports.specs.Reductions.{reduced}
 use Rattle.reports.specs.Report.{freeRank, torsionCount, coordinateList}
 use Rattle.reports.specs.ReportLaws.{coordinates-fit}
@@ -31,7 +32,7 @@ use Rattle.answers.specs.TwoReductions.{Right}
 use Rattle.answers.specs.ChainChecks.{ChainPasses, chain-passes}
 use Rattle.answers.specs.Numbers.{coordinates-length}
 use Rattle.answers.specs.CoordinatesRight.{ReadsCoordinates}
-use Rattle.answers.specs.Calls.{told, told-answers, ToldDone, told-done, passed-complex, reductionsOf-wide, reductionsOf-right, reductionsOf-within}
+use Rattle.answers.specs.Calls.{told, told-answers, ToldDone, told-done, passed-chains, reductionsOf-wide, reductionsOf-right, reductionsOf-within}
 use Rattle.answers.specs.Fits.{coordinates-word}
 use Rattle.answers.specs.HostCalls.{host-number, host-left, host-reads, host-kept}
 
@@ -54,49 +55,49 @@ given-coefficient n chain e i l = go (eqb (length chain) (4 * n)) e
 module _ (b : List ℕ) (bytes : Bytes b) (p : ℕ) (chain output : List ℕ) where
   -- the chain that the bytes give
   abbrev pub given : List ℤ
-  given = chainFrom (count (sectionsOf b) p) chain
+  given = chainFrom (count (chainCells b) p) chain
 
   -- the refusals 1 to 9 of fildwuk_coordinates, which has work slots enough; and those with 10 to 12 after them
   abbrev pub hostSheetBefore : ℕ
-  hostSheetBefore = first (callChecks hostLimit b p coordinateSlots (slotsIn output) (workSlots (sectionsOf b) p))
+  hostSheetBefore = first (callChecks hostLimit b p coordinateSlots (slotsIn output) (workSlots (chainCells b) p))
 
   abbrev pub hostCoordinatesBefore : ℕ
   hostCoordinatesBefore =
-      first (callChecks hostLimit b p coordinateSlots (slotsIn output) (workSlots (sectionsOf b) p) ++ chainChecks b p given)
+      first (callChecks hostLimit b p coordinateSlots (slotsIn output) (workSlots (chainCells b) p) ++ chainChecks b p given)
 
   abbrev numbers : ℕ → ℕ → State → List ℤ
-  numbers s r x = coordinateList (count (sectionsOf b) p) s x given
+  numbers s r x = coordinateList (count (chainCells b) p) s x given
 
   passed : (hostCoordinatesBefore ≡ 0) ↔ ((hostSheetBefore ≡ 0) × (first (chainChecks b p given) ≡ 0))
-  passed = call-chain-zero hostLimit b p coordinateSlots (slotsIn output) (workSlots (sectionsOf b) p) given
+  passed = call-chain-zero hostLimit b p coordinateSlots (slotsIn output) (workSlots (chainCells b) p) given
 
-  complex : hostCoordinatesBefore ≡ 0 → Complex top hostLimit (sectionsOf b)
-  complex e = passed-complex hostLimit b p coordinateSlots (slotsIn output) (workSlots (sectionsOf b) p) bytes (passed .0 e .0)
+  chains : hostCoordinatesBefore ≡ 0 → ChainComplex hostLimit (chainCells b)
+  chains e = passed-chains hostLimit b p coordinateSlots (slotsIn output) (workSlots (chainCells b) p) bytes (passed .0 e .0)
 
-  number : hostCoordinates b p chain output .number ≡ told hostCoordinatesBefore (reductionsOf b p)
+  number : hostCoordinates b p chain output .number ≡ told hostCoordinatesBefore (reductionsOf pivotRule (chainCells b) p)
   unfolding hostCoordinates
-  number = host-number numbers output hostCoordinatesBefore (reductionsOf b p)
+  number = host-number numbers output hostCoordinatesBefore (reductionsOf pivotRule (chainCells b) p)
 
-  pub host-coordinates-answer : Answers hostCoordinatesBefore (GoesWide entryLimit release1 (sectionsOf b) p) (hostCoordinates b p chain output .number)
+  pub host-coordinates-answer : Answers hostCoordinatesBefore (GoesWide entryLimit pivotRule (chainCells b) p) (hostCoordinates b p chain output .number)
   host-coordinates-answer =
       rw number
-      (told-answers hostCoordinatesBefore (reductionsOf b p)
-      (call-chain-narrow hostLimit b p coordinateSlots (slotsIn output) (workSlots (sectionsOf b) p) given)
-      (λ e. reductionsOf-wide b p (complex e)))
+      (told-answers hostCoordinatesBefore (reductionsOf pivotRule (chainCells b) p)
+      (call-chain-narrow hostLimit b p coordinateSlots (slotsIn output) (workSlots (chainCells b) p) given)
+      (λ e. reductionsOf-wide pivotRule-is-rule (chainCells b) p (chains e)))
 
   pub host-coordinates-left : hostCoordinates b p chain output .number ≢ 0 → hostCoordinates b p chain output .output ≡ output
   unfolding hostCoordinates
-  host-coordinates-left d = host-left numbers output hostCoordinatesBefore (reductionsOf b p) (rw number at d)
+  host-coordinates-left d = host-left numbers output hostCoordinatesBefore (reductionsOf pivotRule (chainCells b) p) (rw number at d)
 
   -- the chain is a cycle, and the two reductions behind its coordinates are right
   pub record HostCoordinated : Type 0 where
     pub rows : ℕ
     pub rank : ℕ
     pub state : State
-    pub right : Right (sectionsOf b) p rows rank state
-    pub reductions : reductionsOf b p ≡ reduced rows rank state
+    pub right : Right (chainCells b) p rows rank state
+    pub reductions : reductionsOf pivotRule (chainCells b) p ≡ reduced rows rank state
     pub chain-passed : ChainPasses b p given
-    pub reads : ReadsCoordinates (sectionsOf b) p rows rank state given (numberAt (hostCoordinates b p chain output .output))
+    pub reads : ReadsCoordinates (chainCells b) p rows rank state given (numberAt (hostCoordinates b p chain output .output))
     pub kept : KeptPast 0 (8 * (torsionCount rank state + freeRank rows rank)) output (hostCoordinates b p chain output .output)
 
   pub host-coordinated : hostCoordinates b p chain output .number ≡ 0 → HostCoordinated
@@ -110,31 +111,31 @@ module _ (b : List ℕ) (bytes : Bytes b) (p : ℕ) (chain output : List ℕ) wh
     chain-passed = cycle;
     reads = record {
       places = λ j l.
-          host-reads numbers output hostCoordinatesBefore (reductionsOf b p) d j (omega (arith, coordinates-length right given))
+          host-reads numbers output hostCoordinatesBefore (reductionsOf pivotRule (chainCells b) p) d j (omega (arith, coordinates-length right given))
           (coordinates-word right small few given (cycle .small) j);
     };
-    kept = rw (coordinates-length right given) at (host-kept numbers output hostCoordinatesBefore (reductionsOf b p) d fits);
+    kept = rw (coordinates-length right given) at (host-kept numbers output hostCoordinatesBefore (reductionsOf pivotRule (chainCells b) p) d fits);
   }
     where
-      d : ToldDone hostCoordinatesBefore (reductionsOf b p)
-      d = told-done hostCoordinatesBefore (reductionsOf b p) (sym number ∙ e)
+      d : ToldDone hostCoordinatesBefore (reductionsOf pivotRule (chainCells b) p)
+      d = told-done hostCoordinatesBefore (reductionsOf pivotRule (chainCells b) p) (sym number ∙ e)
 
       cycle : ChainPasses b p given
       cycle = chain-passes b p given (passed .0 (d .passes) .1)
 
-      right : Right (sectionsOf b) p (d .rows) (d .rank) (d .state)
-      right = reductionsOf-right b p (complex (d .passes)) (d .rows) (d .rank) (d .state) (d .reductions)
+      right : Right (chainCells b) p (d .rows) (d .rank) (d .state)
+      right = reductionsOf-right pivotRule-is-rule (chainCells b) p (chains (d .passes)) (d .rows) (d .rank) (d .state) (d .reductions)
 
       small : within entryLimit (d .state) ≡ true
-      small = reductionsOf-within b p (complex (d .passes)) (d .rows) (d .rank) (d .state) (d .reductions)
+      small = reductionsOf-within pivotRule-is-rule (chainCells b) p (chains (d .passes)) (d .rows) (d .rank) (d .state) (d .reductions)
 
-      few : count (sectionsOf b) p ≤ libraryLimit
-      few = omega (arith, complex (d .passes) .within p)
+      few : count (chainCells b) p ≤ libraryLimit
+      few = omega (arith, chains (d .passes) .within p)
 
       fits : 8 * length (numbers (d .rows) (d .rank) (d .state)) ≤ length output
       fits =
           omega (
             arith,
-            coordinates-fit (count (sectionsOf b) p) (d .rows) (d .state) given (right .rows-bound),
-            callChecks-zero hostLimit b p coordinateSlots (slotsIn output) (workSlots (sectionsOf b) p) .0 (passed .0 (d .passes) .0) .output-slots,
+            coordinates-fit (count (chainCells b) p) (d .rows) (d .state) given (right .rows-bound),
+            callChecks-zero hostLimit b p coordinateSlots (slotsIn output) (workSlots (chainCells b) p) .0 (passed .0 (d .passes) .0) .output-slots,
           )

@@ -8,12 +8,13 @@ use Prim.Native.Nat.{ℕ, _*_, _≤_}
 use native.Mathlib.Omega.{arith}
 use lib.ListN.{length}
 use lib.IntN.{ℤ}
-use Rattle.complexes.specs.Complex.{count, Complex}
-use Rattle.sheet_format.specs.Layout.{top}
-use Rattle.sheet_format.specs.Check.{sectionsOf, first}
+use Rattle.complexes.specs.Complex.{count}
+use Rattle.complexes.specs.ChainComplex.{ChainComplex}
+use Rattle.sheet_format.specs.Check.{chainCells, first}
 use Rattle.sheet_format.specs.Sheet.{Bytes}
 use Rattle.reduction_steps.specs.State.{State, within}
-use Rattle.reduction_steps.specs.Pivot.{release1}
+use Rattle.reduction_steps.specs.Pivot.{pivotRule}
+use Rattle.reduction_steps.specs.PivotLaws.{pivotRule-is-rule}
 use Rattle.reports.specs.Reductions.{reduced}
 use Rattle.reports.specs.Report.{freeRank, torsionCount, reportList}
 use Rattle.reports.specs.ReportLaws.{report-fits}
@@ -27,45 +28,45 @@ use Rattle.answers.specs.Called.{Answers, KeptPast}
 use Rattle.answers.specs.TwoReductions.{Right}
 use Rattle.answers.specs.Numbers.{report-length}
 use Rattle.answers.specs.ReportRight.{Reads}
-use Rattle.answers.specs.Calls.{told, told-answers, ToldDone, told-done, passed-complex, reductionsOf-wide, reductionsOf-right, reductionsOf-within}
+use Rattle.answers.specs.Calls.{told, told-answers, ToldDone, told-done, passed-chains, reductionsOf-wide, reductionsOf-right, reductionsOf-within}
 use Rattle.answers.specs.Fits.{report-word}
 use Rattle.answers.specs.HostCalls.{host-number, host-left, host-reads, host-kept}
 
 module _ (b : List ℕ) (bytes : Bytes b) (p : ℕ) (output : List ℕ) where
   -- the refusals 1 to 9 of fildwuk_report, which has work slots enough
   abbrev pub hostReportBefore : ℕ
-  hostReportBefore = first (callChecks hostLimit b p reportSlots (slotsIn output) (workSlots (sectionsOf b) p))
+  hostReportBefore = first (callChecks hostLimit b p reportSlots (slotsIn output) (workSlots (chainCells b) p))
 
   abbrev numbers : ℕ → ℕ → State → List ℤ
-  numbers s r x = reportList (count (sectionsOf b) p) s r x
+  numbers s r x = reportList (count (chainCells b) p) s r x
 
-  complex : hostReportBefore ≡ 0 → Complex top hostLimit (sectionsOf b)
-  complex = passed-complex hostLimit b p reportSlots (slotsIn output) (workSlots (sectionsOf b) p) bytes
+  chains : hostReportBefore ≡ 0 → ChainComplex hostLimit (chainCells b)
+  chains = passed-chains hostLimit b p reportSlots (slotsIn output) (workSlots (chainCells b) p) bytes
 
-  number : hostReport b p output .number ≡ told hostReportBefore (reductionsOf b p)
+  number : hostReport b p output .number ≡ told hostReportBefore (reductionsOf pivotRule (chainCells b) p)
   unfolding hostReport
-  number = host-number numbers output hostReportBefore (reductionsOf b p)
+  number = host-number numbers output hostReportBefore (reductionsOf pivotRule (chainCells b) p)
 
-  pub host-report-answers : Answers hostReportBefore (GoesWide entryLimit release1 (sectionsOf b) p) (hostReport b p output .number)
+  pub host-report-answers : Answers hostReportBefore (GoesWide entryLimit pivotRule (chainCells b) p) (hostReport b p output .number)
   host-report-answers =
       rw number
-      (told-answers hostReportBefore (reductionsOf b p)
-      (callChecks-narrow hostLimit b p reportSlots (slotsIn output) (workSlots (sectionsOf b) p))
-      (λ e. reductionsOf-wide b p (complex e)))
+      (told-answers hostReportBefore (reductionsOf pivotRule (chainCells b) p)
+      (callChecks-narrow hostLimit b p reportSlots (slotsIn output) (workSlots (chainCells b) p))
+      (λ e. reductionsOf-wide pivotRule-is-rule (chainCells b) p (chains e)))
 
   pub host-report-left : hostReport b p output .number ≢ 0 → hostReport b p output .output ≡ output
   unfolding hostReport
-  host-report-left d = host-left numbers output hostReportBefore (reductionsOf b p) (rw number at d)
+  host-report-left d = host-left numbers output hostReportBefore (reductionsOf pivotRule (chainCells b) p) (rw number at d)
 
   -- the two reductions behind a report that is done are right
   pub record HostReported : Type 0 where
     pub rows : ℕ
     pub rank : ℕ
     pub state : State
-    pub right : Right (sectionsOf b) p rows rank state
-    pub reductions : reductionsOf b p ≡ reduced rows rank state
-    pub reads : Reads (sectionsOf b) p rows rank state (numberAt (hostReport b p output .output))
-    pub kept : KeptPast 0 (8 * reportLength (sectionsOf b) p (freeRank rows rank) (torsionCount rank state)) output (hostReport b p output .output)
+    pub right : Right (chainCells b) p rows rank state
+    pub reductions : reductionsOf pivotRule (chainCells b) p ≡ reduced rows rank state
+    pub reads : Reads (chainCells b) p rows rank state (numberAt (hostReport b p output .output))
+    pub kept : KeptPast 0 (8 * reportLength (chainCells b) p (freeRank rows rank) (torsionCount rank state)) output (hostReport b p output .output)
 
   pub host-reported : hostReport b p output .number ≡ 0 → HostReported
   unfolding hostReport
@@ -76,27 +77,27 @@ module _ (b : List ℕ) (bytes : Bytes b) (p : ℕ) (output : List ℕ) where
     right = right;
     reductions = d .reductions;
     reads = record {
-      slots = λ i l. host-reads numbers output hostReportBefore (reductionsOf b p) d i (omega (arith, report-length right)) (report-word right small few i);
+      slots = λ i l. host-reads numbers output hostReportBefore (reductionsOf pivotRule (chainCells b) p) d i (omega (arith, report-length right)) (report-word right small few i);
     };
-    kept = rw (report-length right) at (host-kept numbers output hostReportBefore (reductionsOf b p) d fits);
+    kept = rw (report-length right) at (host-kept numbers output hostReportBefore (reductionsOf pivotRule (chainCells b) p) d fits);
   }
     where
-      d : ToldDone hostReportBefore (reductionsOf b p)
-      d = told-done hostReportBefore (reductionsOf b p) (sym number ∙ e)
+      d : ToldDone hostReportBefore (reductionsOf pivotRule (chainCells b) p)
+      d = told-done hostReportBefore (reductionsOf pivotRule (chainCells b) p) (sym number ∙ e)
 
-      right : Right (sectionsOf b) p (d .rows) (d .rank) (d .state)
-      right = reductionsOf-right b p (complex (d .passes)) (d .rows) (d .rank) (d .state) (d .reductions)
+      right : Right (chainCells b) p (d .rows) (d .rank) (d .state)
+      right = reductionsOf-right pivotRule-is-rule (chainCells b) p (chains (d .passes)) (d .rows) (d .rank) (d .state) (d .reductions)
 
       small : within entryLimit (d .state) ≡ true
-      small = reductionsOf-within b p (complex (d .passes)) (d .rows) (d .rank) (d .state) (d .reductions)
+      small = reductionsOf-within pivotRule-is-rule (chainCells b) p (chains (d .passes)) (d .rows) (d .rank) (d .state) (d .reductions)
 
-      few : count (sectionsOf b) p ≤ libraryLimit
-      few = omega (arith, complex (d .passes) .within p)
+      few : count (chainCells b) p ≤ libraryLimit
+      few = omega (arith, chains (d .passes) .within p)
 
       fits : 8 * length (numbers (d .rows) (d .rank) (d .state)) ≤ length output
       fits =
           omega (
             arith,
-            report-fits (count (sectionsOf b) p) (d .rows) (d .rank) (d .state) (right .rank-bound) (right .rows-bound),
-            callChecks-zero hostLimit b p reportSlots (slotsIn output) (workSlots (sectionsOf b) p) .0 (d .passes) .output-slots,
+            report-fits (count (chainCells b) p) (d .rows) (d .rank) (d .state) (right .rank-bound) (right .rows-bound),
+            callChecks-zero hostLimit b p reportSlots (slotsIn output) (workSlots (chainCells b) p) .0 (d .passes) .output-slots,
           )

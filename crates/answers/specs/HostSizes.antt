@@ -10,8 +10,9 @@ use lib.IntN.{ℤ}
 use Rattle.complexes.specs.Complex.{count}
 use Rattle.complexes.specs.Boundary.{countBelow}
 use Rattle.sheet_format.specs.Layout.{top}
-use Rattle.sheet_format.specs.Check.{sectionsOf, first, refusal}
+use Rattle.sheet_format.specs.Check.{chainCells, first, refusal}
 use Rattle.sheet_format.specs.Sheet.{Bytes}
+use Rattle.reduction_steps.specs.Pivot.{pivotRule}
 use Rattle.reports.specs.Report.{kind, torsionCount, reportList, coordinateList}
 use Rattle.reports.specs.ReportLaws.{length-reported-le}
 use Rattle.reports.specs.Reductions.{tooWide}
@@ -27,17 +28,17 @@ use Rattle.answers.specs.CoordinateCall.{sheetBefore, coordinatesBefore,
 
 -- the numbers of a report, with f free generators and t orders
 abbrev pub reportNumbersOf : List ℕ → ℕ → ℕ → ℕ → ℕ
-reportNumbersOf b p f t = 2 + t + (t + f) * count (sectionsOf b) p
+reportNumbersOf b p f t = 2 + t + (t + f) * count (chainCells b) p
 
 -- dimension p of the sheet b, which is accepted, gives f free generators and t orders
 pub record Sized (b : List ℕ) (p f t : ℕ) : Type 0 where
-  pub counted : ReducedWith (reductionsOf b p) f t
-  pub cells-within : count (sectionsOf b) p ≤ hostLimit
-  pub total-within : t + f ≤ count (sectionsOf b) p
-  pub report-size : length (reportList (count (sectionsOf b) p) (counted .rows) (counted .rank) (counted .state)) ≡ reportNumbersOf b p f t
-  pub coordinates-size : (z : List ℤ) → length (coordinateList (count (sectionsOf b) p) (counted .rows) (counted .state) z) ≡ t + f
+  pub counted : ReducedWith (reductionsOf pivotRule (chainCells b) p) f t
+  pub cells-within : count (chainCells b) p ≤ hostLimit
+  pub total-within : t + f ≤ count (chainCells b) p
+  pub report-size : length (reportList (count (chainCells b) p) (counted .rows) (counted .rank) (counted .state)) ≡ reportNumbersOf b p f t
+  pub coordinates-size : (z : List ℤ) → length (coordinateList (count (chainCells b) p) (counted .rows) (counted .state) z) ≡ t + f
 
-sized : (b : List ℕ) (p before f t : ℕ) → refusal hostLimit b ≡ 0 → Answered b p before f t → Sized b p f t
+sized : (b : List ℕ) (p before f t : ℕ) → refusal hostLimit b ≡ 0 → Answered pivotRule (chainCells b) p before f t → Sized b p f t
 unfolding torsionCount
 sized b p before f t accepted d =
     let c = d .counted in record {
@@ -49,8 +50,8 @@ sized b p before f t accepted d =
     }
 
 -- the report's numbers fit where all that check 9 asks for do
-pub numbers-fit : {b : List ℕ} {p f t : ℕ} → Sized b p f t → reportNumbersOf b p f t ≤ reportSlots (sectionsOf b) p
-numbers-fit {b} {p} s = omega (arith, s .total-within, mul-le-mul-right (count (sectionsOf b) p) (s .total-within))
+pub numbers-fit : {b : List ℕ} {p f t : ℕ} → Sized b p f t → reportNumbersOf b p f t ≤ reportSlots (chainCells b) p
+numbers-fit {b} {p} s = omega (arith, s .total-within, mul-le-mul-right (count (chainCells b) p) (s .total-within))
 
 -- a report call that is done, with this report slice
 pub record ReportSized (b : List ℕ) (p : ℕ) (report : List ℤ) (f t : ℕ) : Type 0 where
@@ -66,7 +67,7 @@ module _ (b : List ℕ) (bytes : Bytes b) (p : ℕ) where
   pub report-sized : (report work : List ℤ) (f t : ℕ) → reportCall hostLimit b p report work .answer ≡ done f t → ReportSized b p report f t
   report-sized report work f t e = record { is-sized = s; fits = omega (arith, numbers-fit s, h .output-slots) }
     where
-      d : Answered b p (reportBefore hostLimit b p report work) f t
+      d : Answered pivotRule (chainCells b) p (reportBefore hostLimit b p report work) f t
       d = report-answered hostLimit b p report work bytes e
 
       h : Passed hostLimit b p reportSlots (length report) (length work)
@@ -78,7 +79,7 @@ module _ (b : List ℕ) (bytes : Bytes b) (p : ℕ) where
   pub coordinates-sized : (z coordinates work : List ℤ) (f t : ℕ) → coordinateCall hostLimit b p z coordinates work .answer ≡ done f t → CoordinatesSized b p coordinates f t
   coordinates-sized z coordinates work f t e = record { is-sized = s; fits = omega (arith, s .total-within, h .output-slots) }
     where
-      d : Answered b p (coordinatesBefore hostLimit b p z coordinates work) f t
+      d : Answered pivotRule (chainCells b) p (coordinatesBefore hostLimit b p z coordinates work) f t
       d = coordinates-answered hostLimit b p z coordinates work bytes e
 
       h : Passed hostLimit b p coordinateSlots (length coordinates) (length work)
@@ -91,19 +92,19 @@ module _ (b : List ℕ) (bytes : Bytes b) (p : ℕ) where
 
 -- dimension p goes too wide, and k is the number for that
 pub record WentWide (b : List ℕ) (p k : ℕ) : Type 0 where
-  pub is-wide : reductionsOf b p ≡ tooWide
+  pub is-wide : reductionsOf pivotRule (chainCells b) p ≡ tooWide
   pub number-is : k ≡ 13
 
 module _ (b : List ℕ) (accepted : refusal hostLimit b ≡ 0) where
-  rows-within : (p : ℕ) → countBelow (sectionsOf b) p ≤ hostLimit
+  rows-within : (p : ℕ) → countBelow (chainCells b) p ≤ hostLimit
   unfolding countBelow
   rows-within zero = omega arith
   rows-within (suc p) = counts-within b accepted p
 
-  work-within : (p : ℕ) → workSlots (sectionsOf b) p ≤ workRoom
+  work-within : (p : ℕ) → workSlots (chainCells b) p ≤ workRoom
   work-within p = mul-le-mul (counts-within b accepted p) beside
     where
-      beside : 2 * count (sectionsOf b) p + max (countBelow (sectionsOf b) p) (count (sectionsOf b) (suc p)) ≤ 3 * hostLimit
+      beside : 2 * count (chainCells b) p + max (countBelow (chainCells b) p) (count (chainCells b) (suc p)) ≤ 3 * hostLimit
       beside = omega (arith, counts-within b accepted p, max-le (rows-within p) (counts-within b accepted (suc p)))
 
   module _ (p : ℕ) (dimension : p ≤ top) (report work : List ℤ) (size : length report ≡ reportRoom) (space : length work ≡ workRoom) where
@@ -118,8 +119,8 @@ module _ (b : List ℕ) (accepted : refusal hostLimit b ≡ 0) where
 
     pub accepted-refused : (k : ℕ) → reportCall hostLimit b p report work .answer ≡ refused k → WentWide b p k
     unfolding reportCall
-    accepted-refused k e = go (call-refused (reportBefore hostLimit b p report work) (reductionsOf b p) (reportNumbers hostLimit b p report work) report work k e)
+    accepted-refused k e = go (call-refused (reportBefore hostLimit b p report work) (reductionsOf pivotRule (chainCells b) p) (reportNumbers hostLimit b p report work) report work k e)
       where
-        go : CallRefused (reportBefore hostLimit b p report work) (reductionsOf b p) k → WentWide b p k
+        go : CallRefused (reportBefore hostLimit b p report work) (reductionsOf pivotRule (chainCells b) p) k → WentWide b p k
         go (earlier e d) = absurd (d (omega (arith, e, accepted-passes)))
         go (wide z e t) = record { is-wide = e; number-is = t }

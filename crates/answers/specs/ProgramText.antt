@@ -8,12 +8,15 @@ use native.Mathlib.Nat.{add-zero, zero-add}
 use native.Mathlib.Omega.{arith}
 use lib.ListN.{length, getD, drop, replicate, length-append, length-replicate}
 use lib.IntN.{ℤ, pos}
-use Rattle.complexes.specs.Complex.{Sections, count, Complex}
+use Rattle.complexes.specs.Complex.{Sections, count}
+use Rattle.complexes.specs.ChainComplex.{ChainComplex}
 use Rattle.sheet_format.specs.Layout.{top}
-use Rattle.sheet_format.specs.Check.{first, sectionsOf, refusal}
+use Rattle.sheet_format.specs.Check.{first, chainCells, refusal}
 use Rattle.sheet_format.specs.Sheet.{Bytes}
-use Rattle.sheet_format.specs.Accept.{accepted-complex}
+use Rattle.sheet_format.specs.Accept.{accepted-chains}
 use Rattle.reduction_steps.specs.State.{State}
+use Rattle.reduction_steps.specs.Pivot.{pivotRule}
+use Rattle.reduction_steps.specs.PivotLaws.{pivotRule-is-rule}
 use Rattle.reports.specs.Reductions.{Reductions, tooWide, reduced}
 use Rattle.reports.specs.Report.{kind, reported, freeRank, torsionCount, reportList, coordinateList}
 use Rattle.reports.specs.ReportLaws.{length-coordinateList}
@@ -31,7 +34,7 @@ use Rattle.answers.specs.Calls.{reductionsOf-wide, reductionsOf-right}
 
 -- the text of dimension p
 abbrev textOf : List ℕ → ℕ → List ℕ
-textOf b p = dimensionText p (count (sectionsOf b) p) (reductionsOf b p)
+textOf b p = dimensionText p (count (chainCells b) p) (reductionsOf pivotRule (chainCells b) p)
 
 turns : (b : List ℕ) (more p : ℕ) → inTurn (p + more) (textOf b) ≡ inTurn p (textOf b) ++ dimensionsText b more p
 unfolding inTurn dimensionsText
@@ -51,40 +54,40 @@ turns-all b = ap (λ (k : ℕ). inTurn k (textOf b)) (sym (zero-add (suc top))) 
 -- ---- one dimension
 
 module _ (b : List ℕ) (bytes : Bytes b) (accepted : refusal hostLimit b ≡ 0) where
-  complex : Complex top hostLimit (sectionsOf b)
-  complex = accepted-complex hostLimit b bytes accepted
+  chains : ChainComplex hostLimit (chainCells b)
+  chains = accepted-chains hostLimit b bytes accepted
 
   module _ (p : ℕ) where
     abbrev n : ℕ
-    n = count (sectionsOf b) p
+    n = count (chainCells b) p
 
     -- slices as long as check 9 wants
     abbrev report : List ℤ
-    report = replicate (reportSlots (sectionsOf b) p) (pos 0)
+    report = replicate (reportSlots (chainCells b) p) (pos 0)
 
     abbrev work : List ℤ
-    work = replicate (workSlots (sectionsOf b) p) (pos 0)
+    work = replicate (workSlots (chainCells b) p) (pos 0)
 
     passes : p ≤ top → first (callChecks hostLimit b p reportSlots (length report) (length work)) ≡ 0
     passes h =
         callChecks-zero hostLimit b p reportSlots (length report) (length work) .1 (record {
           accepted = accepted;
           dimension = h;
-          output-slots = omega (arith, length-replicate (reportSlots (sectionsOf b) p) (pos 0));
-          work-slots = omega (arith, length-replicate (workSlots (sectionsOf b) p) (pos 0));
+          output-slots = omega (arith, length-replicate (reportSlots (chainCells b) p) (pos 0));
+          work-slots = omega (arith, length-replicate (workSlots (chainCells b) p) (pos 0));
         })
 
-    module _ (h : p ≤ top) (s r : ℕ) (x : State) (e : reductionsOf b p ≡ reduced s r x) where
+    module _ (h : p ≤ top) (s r : ℕ) (x : State) (e : reductionsOf pivotRule (chainCells b) p ≡ reduced s r x) where
       abbrev numbers : ℕ → ℕ → State → List ℤ
       numbers s r x = reportList n s r x
 
       report-done : reportCall hostLimit b p report work .answer ≡ done (freeRank s r) (torsionCount r x)
       unfolding reportCall
-      report-done = call-answer (first (callChecks hostLimit b p reportSlots (length report) (length work))) (reductionsOf b p) numbers report work (passes h) s r x e
+      report-done = call-answer (first (callChecks hostLimit b p reportSlots (length report) (length work))) (reductionsOf pivotRule (chainCells b) p) numbers report work (passes h) s r x e
 
       report-left : reportCall hostLimit b p report work .output ≡ written (reportList n s r x) report
       unfolding reportCall
-      report-left = call-output (first (callChecks hostLimit b p reportSlots (length report) (length work))) (reductionsOf b p) numbers report work (passes h) s r x e
+      report-left = call-output (first (callChecks hostLimit b p reportSlots (length report) (length work))) (reductionsOf pivotRule (chainCells b) p) numbers report work (passes h) s r x e
 
       -- the numbers of the report give the text
       report-text : dimensionText p n (reduced s r x)
@@ -94,12 +97,12 @@ module _ (b : List ℕ) (bytes : Bytes b) (accepted : refusal hostLimit b ≡ 0)
           ∙ ap (λ (l : List ℤ). reportText p n (torsionCount r x) (length (reported (kind x) s)) l) (sym report-left)
           ∙ ap (λ (k : ℕ). reportText p n (torsionCount r x) k (reportCall hostLimit b p report work .output)) (sym (length-coordinateList n s x []) ∙ coordinates-length right [])
         where
-          right : Right (sectionsOf b) p s r x
-          right = reductionsOf-right b p complex s r x e
+          right : Right (chainCells b) p s r x
+          right = reductionsOf-right pivotRule-is-rule (chainCells b) p chains s r x e
 
-    printed : p ≤ top → (R : Reductions) → reductionsOf b p ≡ R → DimensionPrinted b p (dimensionText p n R)
-    unfolding dimensionText
-    printed h tooWide e = too-wide (reductionsOf-wide b p complex .0 e) refl
+    printed : p ≤ top → (R : Reductions) → reductionsOf pivotRule (chainCells b) p ≡ R → DimensionPrinted b p (dimensionText p n R)
+    unfolding dimensionText chainCells
+    printed h tooWide e = too-wide (reductionsOf-wide pivotRule-is-rule (chainCells b) p chains .0 e) refl
     printed h (reduced s r x) e = reports report work (freeRank s r) (torsionCount r x) (report-done h s r x e) (report-text h s r x e)
 
   -- ---- all dimensions
@@ -109,7 +112,7 @@ module _ (b : List ℕ) (bytes : Bytes b) (accepted : refusal hostLimit b ≡ 0)
   dimensions-printed = record {
     texts = textOf b;
     in-turn = ap (λ (k : ℕ). textFor k b) accepted ∙ sym (turns-all b);
-    each = λ p l. printed p l (reductionsOf b p) refl;
+    each = λ p l. printed p l (reductionsOf pivotRule (chainCells b) p) refl;
   }
 
 -- ---- a refused sheet
@@ -132,7 +135,7 @@ turns-feeds : (b : List ℕ) (n : ℕ) → n ≤ feeds (inTurn n (textOf b))
 unfolding inTurn
 turns-feeds b zero = omega arith
 turns-feeds b (suc n) =
-    omega (arith, turns-feeds b n, text-feeds n (count (sectionsOf b) n) (reductionsOf b n), feeds-append (inTurn n (textOf b)) (textOf b n))
+    omega (arith, turns-feeds b n, text-feeds n (count (chainCells b) n) (reductionsOf pivotRule (chainCells b) n), feeds-append (inTurn n (textOf b)) (textOf b n))
 
 module _ (b : List ℕ) where
   accepted-other : refusal hostLimit b ≡ 0 → (k : ℕ) → programText b ≢ refusalLine k

@@ -8,12 +8,13 @@ use native.Mathlib.Nat.{le-trans}
 use native.Mathlib.Omega.{arith}
 use lib.ListN.{length, getD}
 use lib.IntN.{ℤ, pos}
-use Rattle.complexes.specs.Complex.{count, Complex}
-use Rattle.sheet_format.specs.Layout.{top}
-use Rattle.sheet_format.specs.Check.{sectionsOf, first}
+use Rattle.complexes.specs.Complex.{count}
+use Rattle.complexes.specs.ChainComplex.{ChainComplex}
+use Rattle.sheet_format.specs.Check.{chainCells, first}
 use Rattle.sheet_format.specs.Sheet.{Bytes}
 use Rattle.reduction_steps.specs.State.{State}
-use Rattle.reduction_steps.specs.Pivot.{release1}
+use Rattle.reduction_steps.specs.Pivot.{pivotRule}
+use Rattle.reduction_steps.specs.PivotLaws.{pivotRule-is-rule}
 use Rattle.reports.specs.Report.{reportList}
 use Rattle.reports.specs.ReportLaws.{report-fits}
 use Rattle.reports.specs.Call.{Called, done, written, callChecks, reportSlots, reductionsOf, reportCall}
@@ -26,7 +27,7 @@ use Rattle.answers.specs.Wide.{GoesWide}
 use Rattle.answers.specs.Called.{answerNumber, IsDone, Answers, KeptPast, WorkLeft}
 use Rattle.answers.specs.Numbers.{report-length}
 use Rattle.answers.specs.ReportRight.{Reads}
-use Rattle.answers.specs.Calls.{told, told-answers, call-number, call-counted, output-left, output-kept, work-left, passed-complex, reductionsOf-wide, Answered, answered}
+use Rattle.answers.specs.Calls.{told, told-answers, call-number, call-counted, output-left, output-kept, work-left, passed-chains, reductionsOf-wide, Answered, answered}
 
 module _ (limit : ℕ) (b : List ℕ) (p : ℕ) (report work : List ℤ) where
   -- the refusals 1 to 9 of the report call
@@ -34,7 +35,7 @@ module _ (limit : ℕ) (b : List ℕ) (p : ℕ) (report work : List ℤ) where
   reportBefore = first (callChecks limit b p reportSlots (length report) (length work))
 
   abbrev pub reportNumbers : ℕ → ℕ → State → List ℤ
-  reportNumbers s r x = reportList (count (sectionsOf b) p) s r x
+  reportNumbers s r x = reportList (count (chainCells b) p) s r x
 
   abbrev pub reportCalled : Called
   reportCalled = reportCall limit b p report work
@@ -42,57 +43,57 @@ module _ (limit : ℕ) (b : List ℕ) (p : ℕ) (report work : List ℤ) where
   report-narrow : reportBefore ≢ 13
   report-narrow = callChecks-narrow limit b p reportSlots (length report) (length work)
 
-  report-complex : Bytes b → reportBefore ≡ 0 → Complex top limit (sectionsOf b)
-  report-complex bytes = passed-complex limit b p reportSlots (length report) (length work) bytes
+  report-chains : Bytes b → reportBefore ≡ 0 → ChainComplex limit (chainCells b)
+  report-chains bytes = passed-chains limit b p reportSlots (length report) (length work) bytes
 
-  pub report-number : answerNumber (reportCalled .answer) ≡ told reportBefore (reductionsOf b p)
+  pub report-number : answerNumber (reportCalled .answer) ≡ told reportBefore (reductionsOf pivotRule (chainCells b) p)
   unfolding reportCall
-  report-number = call-number reportNumbers report work reportBefore (reductionsOf b p)
+  report-number = call-number reportNumbers report work reportBefore (reductionsOf pivotRule (chainCells b) p)
 
-  pub report-answers : Bytes b → Answers reportBefore (GoesWide entryLimit release1 (sectionsOf b) p) (answerNumber (reportCalled .answer))
-  report-answers bytes = rw report-number (told-answers reportBefore (reductionsOf b p) report-narrow (λ e. reductionsOf-wide b p (report-complex bytes e)))
+  pub report-answers : Bytes b → Answers reportBefore (GoesWide entryLimit pivotRule (chainCells b) p) (answerNumber (reportCalled .answer))
+  report-answers bytes = rw report-number (told-answers reportBefore (reductionsOf pivotRule (chainCells b) p) report-narrow (λ e. reductionsOf-wide pivotRule-is-rule (chainCells b) p (report-chains bytes e)))
 
   pub report-counted : answerNumber (reportCalled .answer) ≡ 0 → IsDone (reportCalled .answer)
   unfolding reportCall
-  report-counted = call-counted reportNumbers report work reportBefore (reductionsOf b p)
+  report-counted = call-counted reportNumbers report work reportBefore (reductionsOf pivotRule (chainCells b) p)
 
   pub report-left : answerNumber (reportCalled .answer) ≢ 0 → reportCalled .output ≡ report
   unfolding reportCall
-  report-left d = output-left reportNumbers report work reportBefore (reductionsOf b p) (rw report-number at d)
+  report-left d = output-left reportNumbers report work reportBefore (reductionsOf pivotRule (chainCells b) p) (rw report-number at d)
 
   pub report-work : WorkLeft (answerNumber (reportCalled .answer)) work (reportCalled .work)
   unfolding reportCall
-  report-work = rw report-number (work-left reportNumbers report work reportBefore (reductionsOf b p) report-narrow)
+  report-work = rw report-number (work-left reportNumbers report work reportBefore (reductionsOf pivotRule (chainCells b) p) report-narrow)
 
-  pub report-output : reportBefore ≡ 0 → {f t : ℕ} (c : ReducedWith (reductionsOf b p) f t) → reportCalled .output ≡ written (reportList (count (sectionsOf b) p) (c .rows) (c .rank) (c .state)) report
+  pub report-output : reportBefore ≡ 0 → {f t : ℕ} (c : ReducedWith (reductionsOf pivotRule (chainCells b) p) f t) → reportCalled .output ≡ written (reportList (count (chainCells b) p) (c .rows) (c .rank) (c .state)) report
   unfolding reportCall
-  report-output e c = call-output reportBefore (reductionsOf b p) reportNumbers report work e (c .rows) (c .rank) (c .state) (c .reductions)
+  report-output e c = call-output reportBefore (reductionsOf pivotRule (chainCells b) p) reportNumbers report work e (c .rows) (c .rank) (c .state) (c .reductions)
 
   module _ (bytes : Bytes b) {f t : ℕ} (e : reportCalled .answer ≡ done f t) where
-    pub report-answered : Answered b p reportBefore f t
+    pub report-answered : Answered pivotRule (chainCells b) p reportBefore f t
     unfolding reportCall
-    report-answered = answered b p reportBefore (report-complex bytes) reportNumbers report work f t e
+    report-answered = answered pivotRule-is-rule (chainCells b) p reportBefore (report-chains bytes) reportNumbers report work f t e
 
-    abbrev c : ReducedWith (reductionsOf b p) f t
+    abbrev c : ReducedWith (reductionsOf pivotRule (chainCells b) p) f t
     c = report-answered .counted
 
-    size : length (reportNumbers (c .rows) (c .rank) (c .state)) ≡ reportLength (sectionsOf b) p f t
+    size : length (reportNumbers (c .rows) (c .rank) (c .state)) ≡ reportLength (chainCells b) p f t
     size = cc (report-length (report-answered .right), c .torsion, c .free)
 
-    pub report-reads : Reads (sectionsOf b) p (c .rows) (c .rank) (c .state) (slot (reportCalled .output))
+    pub report-reads : Reads (chainCells b) p (c .rows) (c .rank) (c .state) (slot (reportCalled .output))
     report-reads = record {
       slots = λ i l.
           ap (λ (o : List ℤ). getD o i (pos 0)) (report-output (report-answered .passes) c)
           ∙ getD-written (reportNumbers (c .rows) (c .rank) (c .state)) report (pos 0) i (omega (arith, report-length (report-answered .right)));
     }
 
-    pub report-kept : KeptPast (pos 0) (reportLength (sectionsOf b) p f t) report (reportCalled .output)
+    pub report-kept : KeptPast (pos 0) (reportLength (chainCells b) p f t) report (reportCalled .output)
     unfolding reportCall
     report-kept =
-        output-kept reportNumbers report work reportBefore (reductionsOf b p) (report-answered .passes) c (reportLength (sectionsOf b) p f t) size (le-trans fits slots)
+        output-kept reportNumbers report work reportBefore (reductionsOf pivotRule (chainCells b) p) (report-answered .passes) c (reportLength (chainCells b) p f t) size (le-trans fits slots)
       where
-        fits : reportLength (sectionsOf b) p f t ≤ reportSlots (sectionsOf b) p
-        fits = rw size at (report-fits (count (sectionsOf b) p) (c .rows) (c .rank) (c .state) (report-answered .right .rank-bound) (report-answered .right .rows-bound))
+        fits : reportLength (chainCells b) p f t ≤ reportSlots (chainCells b) p
+        fits = rw size at (report-fits (count (chainCells b) p) (c .rows) (c .rank) (c .state) (report-answered .right .rank-bound) (report-answered .right .rows-bound))
 
-        slots : reportSlots (sectionsOf b) p ≤ length report
+        slots : reportSlots (chainCells b) p ≤ length report
         slots = callChecks-zero limit b p reportSlots (length report) (length work) .0 (report-answered .passes) .output-slots

@@ -12,9 +12,9 @@ use lib.IntN.{ℤ, pos, natAbs}
 use Rattle.lists.specs.Tabulate.{tabulate}
 use Rattle.matrices.specs.Matrix.{mul, identity, null}
 use Rattle.matrices.specs.Product.{identity-at, identity-other}
-use Rattle.complexes.specs.Complex.{Sections, count, Complex}
+use Rattle.complexes.specs.Complex.{Sections, count}
 use Rattle.complexes.specs.Boundary.{countBelow, boundary}
-use Rattle.complexes.specs.BoundaryLaws.{boundary-small}
+use Rattle.complexes.specs.ChainComplex.{ChainComplex}
 use Rattle.reduction_steps.specs.Table.{Table, entry, table, tableWithin}
 use Rattle.reduction_steps.specs.State.{State, within}
 use Rattle.reduction_laws.specs.Tables.{table-ext, table-entry, tableWithin-iff, tableWithin-table}
@@ -65,10 +65,10 @@ first-shaped K p = record {
   columnInverse = sym (table-entry (count K p) (count K p) identity);
 }
 
-pub first-within : {top most : ℕ} {K : Sections} → Complex top most K → (limit p : ℕ) → 1 ≤ limit → within limit (firstStart K p) ≡ true
+pub first-within : {most : ℕ} {K : Sections} → ChainComplex most K → (limit p : ℕ) → 1 ≤ limit → within limit (firstStart K p) ≡ true
 unfolding firstStart
-first-within {K} complex limit p h = within-iff limit (firstStart K p) .1 (record {
-  matrix = tableWithin-table limit (countBelow K p) (count K p) (boundary K p) .1 (λ i j a b. le-trans (boundary-small complex p i j) h);
+first-within {K} chains limit p h = within-iff limit (firstStart K p) .1 (record {
+  matrix = tableWithin-table limit (countBelow K p) (count K p) (boundary K p) .1 (λ i j a b. le-trans (chains .small p i j) h);
   rowFollower = absent-within limit (countBelow K p);
   rowInverse = absent-within limit (countBelow K p);
   columnFollower = unit;

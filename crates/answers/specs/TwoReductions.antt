@@ -1,4 +1,4 @@
--- The two reductions of a dimension of a complex, both done, leave what `homology_groups` asks for (reductions-right), within the limit
+-- The two reductions of a dimension of a chain complex, both done, leave what `homology_groups` asks for (reductions-right), within the limit
 -- (reductions-within).
 use mathlib.Core.Path.{_≡_, sym, _∙_, subst}
 use mathlib.Core.Bool.{true}
@@ -12,9 +12,9 @@ use Rattle.matrices.specs.Product.{Eq-refl, Eq-trans, Eq-transpose, identity-ot
 use Rattle.smith.specs.CertificateLaws.{smith-ext}
 use Rattle.smith.specs.Rank.{IsRank}
 use Rattle.homology_groups.specs.Reduced.{Reduced, kernelBasis, kernelRows}
-use Rattle.complexes.specs.Complex.{Sections, count, Complex}
+use Rattle.complexes.specs.Complex.{Sections, count}
 use Rattle.complexes.specs.Boundary.{countBelow, boundary}
-use Rattle.complexes.specs.BoundaryLaws.{boundary-boundary}
+use Rattle.complexes.specs.ChainComplex.{ChainComplex}
 use Rattle.reduction_steps.specs.Table.{Table, entry, table}
 use Rattle.reduction_steps.specs.State.{State, within}
 use Rattle.reduction_steps.specs.Pivot.{Rule, IsRule}
@@ -68,7 +68,7 @@ module _ {n : ℕ} (r : ℕ) (T : Table) {C : Matrix} where
 
 -- ---- both reductions
 
-module _ {top most : ℕ} {K : Sections} (complex : Complex top most K) (rule : Rule) (is : IsRule rule) (limit p : ℕ) (one : 1 ≤ limit) where
+module _ {most : ℕ} {K : Sections} (chains : ChainComplex most K) (rule : Rule) (is : IsRule rule) (limit p : ℕ) (one : 1 ≤ limit) where
   abbrev m : ℕ
   m = countBelow K p
 
@@ -104,7 +104,7 @@ module _ {top most : ℕ} {K : Sections} (complex : Complex top most K) (rule : 
     unfolding firstStart secondStart
     both-right = record {
       reduced = record {
-        complex = boundary-boundary complex p;
+        complex = chains .zero p;
         rank = r₁;
         size = omega (arith, first-bound);
         d = machine.diagonalOf x₁;
@@ -128,7 +128,7 @@ module _ {top most : ℕ} {K : Sections} (complex : Complex top most K) (rule : 
     }
 
   pub first-reduced : (r₁ : ℕ) (x₁ : State) → reduce limit (firstSizes K p) rule (firstStart K p) ≡ done r₁ x₁ → machine.Reduced limit (firstSizes K p) (firstStart K p) r₁ x₁
-  first-reduced = reduce-smith limit (firstSizes K p) rule is (firstStart K p) (first-shaped K p) (first-within complex limit p one)
+  first-reduced = reduce-smith limit (firstSizes K p) rule is (firstStart K p) (first-shaped K p) (first-within chains limit p one)
 
   module _ (s r : ℕ) (x : State) (e : reductions rule limit K p ≡ reduced s r x) where
     abbrev both : BothDone rule limit K p s r x

@@ -1,10 +1,11 @@
--- The two reductions of a complex, by any pivot rule, are too wide exactly when they make an entry beyond the limit (wide-iff); otherwise they
+-- The two reductions of a chain complex, by any pivot rule, are too wide exactly when they make an entry beyond the limit (wide-iff); otherwise they
 -- are done (outcome).
 use mathlib.Core.Path.{_≡_, refl, sym, _∙_}
 use mathlib.Core.Logic.{_↔_}
 use mathlib.Core.Bool.{Bool, true, false}
 use Prim.Native.Nat.{ℕ, _-_, _≤_}
-use Rattle.complexes.specs.Complex.{Sections, count, Complex}
+use Rattle.complexes.specs.Complex.{Sections, count}
+use Rattle.complexes.specs.ChainComplex.{ChainComplex}
 use Rattle.reduction_steps.specs.Table.{tableWithin}
 use Rattle.reduction_steps.specs.State.{Sizes, State, within}
 use Rattle.reduction_steps.specs.Pivot.{Rule, IsRule}
@@ -29,12 +30,12 @@ module _ (limit : ℕ) (rule : Rule) where
     widens : GoesWide limit rule K p → Outcome K p
     ends : (s r : ℕ) (x : State) → reductions rule limit K p ≡ reduced s r x → Outcome K p
 
-module _ {top most : ℕ} {K : Sections} (complex : Complex top most K) (rule : Rule) (is : IsRule rule) (limit p : ℕ) (one : 1 ≤ limit) where
+module _ {most : ℕ} {K : Sections} (chains : ChainComplex most K) (rule : Rule) (is : IsRule rule) (limit p : ℕ) (one : 1 ≤ limit) where
   abbrev first : Machine
   first = reduce limit (firstSizes K p) rule (firstStart K p)
 
   start-within : within limit (firstStart K p) ≡ true
-  start-within = first-within complex limit p one
+  start-within = first-within chains limit p one
 
   -- every ended machine that a reduction leads to is its outcome
   first-is : (y : Machine) → FirstReaches limit rule K p y → Ended y → first ≡ y
@@ -48,7 +49,7 @@ module _ {top most : ℕ} {K : Sections} (complex : Complex top most K) (rule : 
     second = reduce limit (secondSizes K p r) rule (secondStart K p r s)
 
     S₁ : Reduced limit (firstSizes K p) (firstStart K p) r s
-    S₁ = first-reduced complex rule is limit p one r s e
+    S₁ = first-reduced chains rule is limit p one r s e
 
     shaped : Shaped (secondSizes K p r) (secondStart K p r s)
     shaped = second-shaped K p r s (S₁ .shaped)

@@ -10,18 +10,18 @@ use lib.IntN.{ℤ, _*ℤ_}
 use Rattle.matrices.specs.Sum.{sum}
 use Rattle.matrices.specs.Matrix.{mul}
 use Rattle.matrices.specs.Matrix as theory
-use Rattle.complexes.specs.Complex.{count, Complex}
+use Rattle.complexes.specs.Complex.{Sections, count, Complex}
 use Rattle.complexes.specs.Boundary.{sign, boundary}
-use Rattle.sheet_format.specs.Check.{sectionsOf}
+use Rattle.sheet_format.specs.Check.{sectionsOf, chainCells}
 use Rattle.lines.specs.Slice.{at, lineAt}
 use Rattle.lines.specs.Matrices.{contents, end, Off}
 use Rattle.lines.specs.declared.matrix.Matrix.{Matrix}
 use Rattle.faces.specs.Face.{AreFaces}
 use Rattle.faces.proofs.Sums.{sum-places}
 
--- the matrix q of a slice times the boundary matrix of dimension p + 1
-abbrev pub product : List ℕ → ℕ → Matrix → List ℤ → theory.Matrix
-product b p q w = mul (q .width) (contents q w) (boundary (sectionsOf b) (suc p))
+-- the matrix q of a slice times the boundary matrix of dimension p + 1 of the cells K
+abbrev pub product : Sections → ℕ → Matrix → List ℤ → theory.Matrix
+product K p q w = mul (q .width) (contents q w) (boundary K (suc p))
 
 pub contents-kept : (q m : Matrix) (w w′ : List ℤ) → end m ≤ q .at → ((i : ℕ) → Off m i → at w′ i ≡ at w i)
     → (i k : ℕ) → contents q w′ i k ≡ contents q w i k
@@ -29,8 +29,8 @@ contents-kept q m w w′ l off i k = off (lineAt (q .at) (q .width) i + k) (inr 
 
 pub product-entry : (b : List ℕ) {top limit : ℕ} (complex : Complex top limit (sectionsOf b)) (p j : ℕ) → j < count (sectionsOf b) (suc p)
     → (places : List ℕ) → AreFaces b p j places → (n : ℕ) → n ≡ count (sectionsOf b) p → (Q : theory.Matrix) (i : ℕ)
-    → sum (p + 2) (λ t. Q i (getD places t 0) *ℤ sign t) ≡ mul n Q (boundary (sectionsOf b) (suc p)) i j
-unfolding mul
+    → sum (p + 2) (λ t. Q i (getD places t 0) *ℤ sign t) ≡ mul n Q (boundary (chainCells b) (suc p)) i j
+unfolding mul chainCells
 product-entry b complex p j below places faces n e Q i =
     ap (λ (m : ℕ). sum m (λ t. Q i (getD places t 0) *ℤ sign t)) two
     ∙ sym (sum-places b complex p j below (λ t. getD places t 0) (faces .face) (Q i))

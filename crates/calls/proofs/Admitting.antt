@@ -3,7 +3,7 @@ use mathlib.Core.Path.{_≡_, subst}
 use mathlib.Core.List.{List}
 use Prim.Native.Nat.{ℕ}
 use Rattle.complexes.specs.Complex.{Sections}
-use Rattle.sheet_format.specs.Check.{first}
+use Rattle.sheet_format.specs.Check.{chainCells, first}
 use Rattle.reports.specs.Call.{callChecks}
 use Rattle.reports.specs.RefusalLaws.{Passed, callChecks-zero}
 use Rattle.refusal.specs.Number.{numberOf}
@@ -21,7 +21,7 @@ slotsAsked request K q = slotsFor request (sizesIn K q)
 module _ (limit : ℕ) (b : List ℕ) (p : ℕ) (request : Request) (output work : ℕ) where
   pub record Granted (n : Sizes) : Type 0 where
     pub passed : Passed limit b p (slotsAsked request) output work
-    pub sizes : SizesRead b p n
+    pub sizes : SizesRead (chainCells b) p n
 
   module _ (r : Admission) (h : Admits limit b p request output work r) where
     pub admit-refused : {x : Refusal} → r ≡ Refused x → first (callChecks limit b p (slotsAsked request) output work) ≡ numberOf x

@@ -12,9 +12,8 @@ use lib.ListN.{length, getD, drop}
 use Rattle.matrices.specs.Matrix.{Eq, mul}
 use Rattle.matrices.specs.Matrix as theory
 use Rattle.matrices.specs.Product.{Eq-refl, mul-ext}
-use Rattle.complexes.specs.Complex.{count}
+use Rattle.complexes.specs.Complex.{Sections, count}
 use Rattle.complexes.specs.Boundary.{countBelow, boundary}
-use Rattle.sheet_format.specs.Check.{sectionsOf}
 use Rattle.reduction_steps.specs.Table.{entry, table, tableWithin}
 use Rattle.reduction_laws.specs.Tables.{entry-table, table-ext, tableWithin-table, tableWithin-false}
 use Rattle.reduction_laws.specs.Shape.{Shaped}
@@ -43,59 +42,59 @@ later-lines at lines width r w = record {
       ∙ sym (entry-drop r (table lines width (contents (matrixAt at lines width) w)) i j);
 }
 
-module _ (b : List ℕ) (p n r : ℕ) (slots : workSlots (sectionsOf b) p ≤ n) (within : r ≤ count (sectionsOf b) p) (w : List ℤ)
-    (shaped : Shaped (firstSizes (sectionsOf b) p) (stateOf (firstLayoutOf b p) w)) where
+module _ (K : Sections) (p n r : ℕ) (slots : workSlots K p ≤ n) (within : r ≤ count K p) (w : List ℤ)
+    (shaped : Shaped (firstSizes K p) (stateOf (firstLayoutOf K p) w)) where
   -- Q times the boundary matrix of dimension p + 1
   abbrev pub multiplied : theory.Matrix
-  multiplied = mul (count (sectionsOf b) p) (contents (secondLayoutOf b p r .«row_follower») w) (boundary (sectionsOf b) (suc p))
+  multiplied = mul (count K p) (contents (secondLayoutOf K p r .«row_follower») w) (boundary K (suc p))
 
-  pub laid-second : Laid n (secondLayoutOf b p r)
+  pub laid-second : Laid n (secondLayoutOf K p r)
   laid-second =
-      second-laid (count (sectionsOf b) p) (countBelow (sectionsOf b) p) (count (sectionsOf b) (suc p)) slots r within
+      second-laid (count K p) (countBelow K p) (count K (suc p)) slots r within
 
-  Q-is : Eq (count (sectionsOf b) p - r) (count (sectionsOf b) p) (contents (secondLayoutOf b p r .«row_follower») w)
-      (entry (drop r (stateOf (firstLayoutOf b p) w .columnInverse)))
+  Q-is : Eq (count K p - r) (count K p) (contents (secondLayoutOf K p r .«row_follower») w)
+      (entry (drop r (stateOf (firstLayoutOf K p) w .columnInverse)))
   unfolding firstLayout secondLayout stateOf
-  Q-is = later-lines _ (count (sectionsOf b) p) (count (sectionsOf b) p) r w
+  Q-is = later-lines _ (count K p) (count K p) r w
 
-  G-is : Eq (count (sectionsOf b) p - r) (count (sectionsOf b) p) (contents (secondLayoutOf b p r .«row_inverse») w)
-      (entry (drop r (stateOf (firstLayoutOf b p) w .columnFollower)))
+  G-is : Eq (count K p - r) (count K p) (contents (secondLayoutOf K p r .«row_inverse») w)
+      (entry (drop r (stateOf (firstLayoutOf K p) w .columnFollower)))
   unfolding firstLayout secondLayout stateOf
-  G-is = later-lines _ (count (sectionsOf b) p) (count (sectionsOf b) p) r w
+  G-is = later-lines _ (count K p) (count K p) r w
 
-  product-is : table (count (sectionsOf b) p - r) (count (sectionsOf b) (suc p)) multiplied ≡ product (sectionsOf b) p r (stateOf (firstLayoutOf b p) w)
+  product-is : table (count K p - r) (count K (suc p)) multiplied ≡ product K p r (stateOf (firstLayoutOf K p) w)
   unfolding product
-  product-is = table-ext (mul-ext Q-is (Eq-refl (count (sectionsOf b) p) (count (sectionsOf b) (suc p)) (boundary (sectionsOf b) (suc p))))
+  product-is = table-ext (mul-ext Q-is (Eq-refl (count K p) (count K (suc p)) (boundary K (suc p))))
 
-  module _ {w′ : List ℤ} (h : Holds (secondLayoutOf b p r .matrix) w multiplied w′) where
-    pub second-state : stateOf (secondLayoutOf b p r) w′ ≡ secondStart (sectionsOf b) p r (stateOf (firstLayoutOf b p) w)
+  module _ {w′ : List ℤ} (h : Holds (secondLayoutOf K p r .matrix) w multiplied w′) where
+    pub second-state : stateOf (secondLayoutOf K p r) w′ ≡ secondStart K p r (stateOf (firstLayoutOf K p) w)
     unfolding stateOf linesOf secondLayout secondStart
     second-state =
         state-is
         (lines-on h ∙ product-is)
         (lines-off (matrix-row-follower laid-second) h ∙ table-ext Q-is ∙ sym (later .rowFollower))
         (lines-off (matrix-row-inverse laid-second) h ∙ table-ext G-is ∙ sym (later .rowInverse))
-        (lines-absent end (count (sectionsOf b) (suc p)) w′)
-        (lines-absent end (count (sectionsOf b) (suc p)) w′)
+        (lines-absent end (count K (suc p)) w′)
+        (lines-absent end (count K (suc p)) w′)
       where
-        later : Shaped (secondSizes (sectionsOf b) p r) (secondStart (sectionsOf b) p r (stateOf (firstLayoutOf b p) w))
-        later = second-shaped (sectionsOf b) p r (stateOf (firstLayoutOf b p) w) shaped
+        later : Shaped (secondSizes K p r) (secondStart K p r (stateOf (firstLayoutOf K p) w))
+        later = second-shaped K p r (stateOf (firstLayoutOf K p) w) shaped
 
         end : ℕ
-        end = secondLayoutOf b p r .«column_follower» .at
+        end = secondLayoutOf K p r .«column_follower» .at
 
-    pub product-narrow : tableWithin entryLimit (product (sectionsOf b) p r (stateOf (firstLayoutOf b p) w)) ≡ true
+    pub product-narrow : tableWithin entryLimit (product K p r (stateOf (firstLayoutOf K p) w)) ≡ true
     unfolding secondLayout
     product-narrow =
         rw (← product-is)
-        (tableWithin-table entryLimit (count (sectionsOf b) p - r) (count (sectionsOf b) (suc p)) multiplied .1
-        (λ i j s t. subst (λ (x : ℤ). natAbs x ≤ entryLimit) (h .on .at i j s t) (h .small .bound (lineAt 0 (count (sectionsOf b) (suc p)) i + j))))
+        (tableWithin-table entryLimit (count K p - r) (count K (suc p)) multiplied .1
+        (λ i j s t. subst (λ (x : ℤ). natAbs x ≤ entryLimit) (h .on .at i j s t) (h .small .bound (lineAt 0 (count K (suc p)) i + j))))
 
-  pub product-beyond : {w′ : List ℤ} → Exceeds (secondLayoutOf b p r .matrix) w multiplied w′
-      → tableWithin entryLimit (product (sectionsOf b) p r (stateOf (firstLayoutOf b p) w)) ≡ false
+  pub product-beyond : {w′ : List ℤ} → Exceeds (secondLayoutOf K p r .matrix) w multiplied w′
+      → tableWithin entryLimit (product K p r (stateOf (firstLayoutOf K p) w)) ≡ false
   unfolding secondLayout
   product-beyond h =
       rw (← product-is)
-      (tableWithin-false entryLimit (table (count (sectionsOf b) p - r) (count (sectionsOf b) (suc p)) multiplied) (h .line) (h .place)
-      (rw (entry-table (count (sectionsOf b) p - r) (count (sectionsOf b) (suc p)) multiplied (h .line) (h .place) (h .line-below) (h .place-below))
+      (tableWithin-false entryLimit (table (count K p - r) (count K (suc p)) multiplied) (h .line) (h .place)
+      (rw (entry-table (count K p - r) (count K (suc p)) multiplied (h .line) (h .place) (h .line-below) (h .place-below))
       (h .beyond)))

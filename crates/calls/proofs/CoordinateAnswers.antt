@@ -5,10 +5,12 @@ use Prim.Native.Nat.{ℕ}
 use native.Mathlib.Omega.{arith}
 use lib.IntN.{ℤ, pos}
 use lib.ListN.{length, replicate}
-use Rattle.complexes.specs.Complex.{Complex, count}
-use Rattle.sheet_format.specs.Layout.{top}
-use Rattle.sheet_format.specs.Check.{sectionsOf, first}
+use Rattle.complexes.specs.Complex.{count}
+use Rattle.complexes.specs.ChainComplex.{ChainComplex}
+use Rattle.sheet_format.specs.Check.{chainCells, first}
 use Rattle.reduction_steps.specs.State.{State}
+use Rattle.reduction_steps.specs.Pivot.{pivotRule}
+use Rattle.reduction_steps.specs.PivotLaws.{pivotRule-is-rule}
 use Rattle.reports.specs.Report.{coordinateList}
 use Rattle.reports.specs.Call.{coordinateSlots, callChecks, chainChecks, reductionsOf, coordinateCall, written}
 use Rattle.limits.specs.Limits.{libraryLimit}
@@ -38,12 +40,12 @@ module _ (limit : ℕ) (b : List ℕ) (p : ℕ) (z coordinates work : List ℤ) 
 
   -- the coordinates
   abbrev numbers : ℕ → ℕ → State → List ℤ
-  numbers s r x = coordinateList (count (sectionsOf b) p) s x z
+  numbers s r x = coordinateList (count (chainCells b) p) s x z
 
   pub coordinates-refuse : {x : Refusal} → before-chain ≡ numberOf x → CallAnswers (coordinateCall limit b p z coordinates work) (Refused x) coordinates work
   unfolding coordinateCall
   coordinates-refuse {x} e =
-      refuses before-reductions (reductionsOf b p) numbers coordinates work (call-told limit b p coordinateSlots (length coordinates) (length work) z (λ q. absurd (omega (arith, number-positive x))) ∙ e)
+      refuses before-reductions (reductionsOf pivotRule (chainCells b) p) numbers coordinates work (call-told limit b p coordinateSlots (length coordinates) (length work) z (λ q. absurd (omega (arith, number-positive x))) ∙ e)
 
   module _ (passed : Passed limit b p coordinateSlots (length coordinates) (length work)) where
     chain-next : before-reductions ≡ first (chainChecks b p z)
@@ -53,22 +55,22 @@ module _ (limit : ℕ) (b : List ℕ) (p : ℕ) (z coordinates work : List ℤ) 
 
     pub chain-refuses : {x : Refusal} → first (chainChecks b p z) ≡ numberOf x → CallAnswers (coordinateCall limit b p z coordinates work) (Refused x) coordinates work
     unfolding coordinateCall
-    chain-refuses e = refuses before-reductions (reductionsOf b p) numbers coordinates work (chain-next ∙ e)
+    chain-refuses e = refuses before-reductions (reductionsOf pivotRule (chainCells b) p) numbers coordinates work (chain-next ∙ e)
 
     module _ (chain : first (chainChecks b p z) ≡ 0) where
-      pub coordinates-wide : {x : Refusal} {work′ : List ℤ} → TwiceReduced b p (reductionsOf b p) (length work) (reductions.Refused x) work′
+      pub coordinates-wide : {x : Refusal} {work′ : List ℤ} → TwiceReduced (chainCells b) p (reductionsOf pivotRule (chainCells b) p) (length work) (reductions.Refused x) work′
           → CallAnswers (coordinateCall limit b p z coordinates work) (Refused refusal.TooWide) coordinates work′
       unfolding coordinateCall
-      coordinates-wide h = goes-wide before-reductions (reductionsOf b p) numbers coordinates work (chain-next ∙ chain) (h .0) (h .1 .zeros)
+      coordinates-wide h = goes-wide before-reductions (reductionsOf pivotRule (chainCells b) p) numbers coordinates work (chain-next ∙ chain) (h .0) (h .1 .zeros)
 
       pub coordinates-done :
-          Complex top libraryLimit (sectionsOf b) → {x : Reduced} {w : List ℤ} → ReducedTwice b p (reductionsOf b p) (length work) x w
+          ChainComplex libraryLimit (chainCells b) → {x : Reduced} {w : List ℤ} → ReducedTwice (chainCells b) p (reductionsOf pivotRule (chainCells b) p) (length work) x w
           → {counts : Counts} {coordinates′ work′ : List ℤ} → WroteCoordinates x w z coordinates counts coordinates′ → work′ ≡ replicate (length w) (pos 0)
           → CallAnswers (coordinateCall limit b p z coordinates work) (Done counts) coordinates′ work′
       unfolding coordinateCall
-      coordinates-done complex {x} {w} h k e =
-          is-done before-reductions (reductionsOf b p) numbers coordinates work (chain-next ∙ chain) (h .is) (k .free) (k .torsion)
+      coordinates-done chains {x} {w} h k e =
+          is-done before-reductions (reductionsOf pivotRule (chainCells b) p) numbers coordinates work (chain-next ∙ chain) (h .is) (k .free) (k .torsion)
           (k .is
           ∙ ap (λ (cells : ℕ). written (coordinateList cells (x .layout .matrix .lines) (stateOf (x .layout) w) z) coordinates)
-          (follower-width complex (passed .work-slots) h))
+          (follower-width pivotRule-is-rule chains (passed .work-slots) h))
           (e ∙ ap (λ (m : ℕ). replicate m (pos 0)) (h .kept .same-length))

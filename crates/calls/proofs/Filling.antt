@@ -7,9 +7,8 @@ use lib.IntN.{ℤ, pos}
 use lib.ListN.{length, getD, replicate, length-replicate}
 use Rattle.matrices.specs.Matrix.{Eq, identity, null}
 use Rattle.matrices.specs.Matrix as theory
-use Rattle.complexes.specs.Complex.{count}
+use Rattle.complexes.specs.Complex.{Sections, count}
 use Rattle.complexes.specs.Boundary.{countBelow, boundary}
-use Rattle.sheet_format.specs.Check.{sectionsOf}
 use Rattle.reduction_steps.specs.Table.{Table}
 use Rattle.reduction_steps.specs.State.{State}
 use Rattle.reduction_laws.specs.Tables.{table-ext}
@@ -61,43 +60,43 @@ lines-absent at lines w = table-ext (record { at = λ i j a b. absurd (omega ari
 abbrev pub CanFill : Matrix → List ℤ → Type 0
 CanFill M w = Held (length w) M × Small w × (M .lines ≡ M .width) × Eq (M .lines) (M .width) (contents M w) null
 
-module _ (b : List ℕ) (p n : ℕ) (slots : workSlots (sectionsOf b) p ≤ n) where
+module _ (K : Sections) (p n : ℕ) (slots : workSlots K p ≤ n) where
   -- the slice of zeros, and what is written in it by one call after another
   pub record Written (W : Layout) (w₁ w₂ w₃ : List ℤ) : Type 0 where
-    pub matrix : Holds (W .matrix) (replicate n (pos 0)) (boundary (sectionsOf b) p) w₁
+    pub matrix : Holds (W .matrix) (replicate n (pos 0)) (boundary K p) w₁
     pub follower : Holds (W .«column_follower») w₁ identity w₂
     pub inverse : Holds (W .«column_inverse») w₂ identity w₃
 
-  first-laid-of : Laid n (firstLayoutOf b p)
-  first-laid-of = first-laid (count (sectionsOf b) p) (countBelow (sectionsOf b) p) (count (sectionsOf b) (suc p)) slots
+  first-laid-of : Laid n (firstLayoutOf K p)
+  first-laid-of = first-laid (count K p) (countBelow K p) (count K (suc p)) slots
 
-  first-state : {w₁ w₂ w₃ : List ℤ} → Written (firstLayoutOf b p) w₁ w₂ w₃ → stateOf (firstLayoutOf b p) w₃ ≡ firstStart (sectionsOf b) p
+  first-state : {w₁ w₂ w₃ : List ℤ} → Written (firstLayoutOf K p) w₁ w₂ w₃ → stateOf (firstLayoutOf K p) w₃ ≡ firstStart K p
   unfolding stateOf firstStart firstLayout
   first-state {w₃} h =
       state-is
       (lines-off (disjoint-sym (matrix-column-inverse first-laid-of)) (h .inverse) ∙ lines-off (disjoint-sym (matrix-column-follower first-laid-of)) (h .follower) ∙ lines-on (h .matrix))
-      (lines-absent room (countBelow (sectionsOf b) p) w₃)
-      (lines-absent room (countBelow (sectionsOf b) p) w₃)
+      (lines-absent room (countBelow K p) w₃)
+      (lines-absent room (countBelow K p) w₃)
       (lines-off (disjoint-sym (column-follower-inverse first-laid-of)) (h .inverse) ∙ lines-on (h .follower))
       (lines-on (h .inverse))
     where
       room : ℕ
-      room = count (sectionsOf b) p * max (countBelow (sectionsOf b) p) (count (sectionsOf b) (suc p))
+      room = count K p * max (countBelow K p) (count K (suc p))
 
-  module _ (W : Layout) (is : W ≡ firstLayoutOf b p) where
+  module _ (W : Layout) (is : W ≡ firstLayoutOf K p) where
     pub laid : Laid n W
     laid = rw is first-laid-of
 
     -- the matrix has the rows and columns of the boundary matrix
-    pub matrix-rows : W .matrix .lines ≡ countBelow (sectionsOf b) p
+    pub matrix-rows : W .matrix .lines ≡ countBelow K p
     unfolding firstLayout
     matrix-rows = rw is refl
 
-    pub matrix-columns : W .matrix .width ≡ count (sectionsOf b) p
+    pub matrix-columns : W .matrix .width ≡ count K p
     unfolding firstLayout
     matrix-columns = rw is refl
 
-    pub filled : {w₁ w₂ w₃ : List ℤ} → Written W w₁ w₂ w₃ → Filled b p n w₃
+    pub filled : {w₁ w₂ w₃ : List ℤ} → Written W w₁ w₂ w₃ → Filled K p n w₃
     filled {w₁} {w₂} {w₃} h = record {
       state = first-state (rw is at h);
       kept = record {

@@ -10,13 +10,11 @@ use lib.IntN.{ℤ, pos}
 use lib.ListN.{length, replicate, length-replicate}
 use Rattle.matrices.specs.Matrix.{mul}
 use Rattle.matrices.specs.Matrix as theory
-use Rattle.complexes.specs.Complex.{Complex, count}
+use Rattle.complexes.specs.Complex.{Sections, count}
+use Rattle.complexes.specs.ChainComplex.{ChainComplex}
 use Rattle.complexes.specs.Boundary.{countBelow, boundary}
-use Rattle.sheet_format.specs.Layout.{top}
-use Rattle.sheet_format.specs.Check.{sectionsOf}
 use Rattle.reduction_steps.specs.Table.{tableWithin}
-use Rattle.reduction_steps.specs.Pivot.{release1}
-use Rattle.reduction_steps.specs.PivotLaws.{release1-is-rule}
+use Rattle.reduction_steps.specs.Pivot.{Rule, IsRule}
 use Rattle.reduction_steps.specs.Step.{Machine, done, reduce}
 use Rattle.reduction_laws.specs.Shape.{Shaped}
 use Rattle.reduction_laws.specs.SmithForm as machine
@@ -62,12 +60,12 @@ module _ (W : Layout) {y : Machine} {n : ℕ} {w : List ℤ} (x : Reduction) whe
   pub reduces-refused : {z : Refusal} → x ≡ reduction.Refused z → Reduces W y n x w → ReductionRefused y n z w
   reduces-refused e h = subst (λ (z : Reduction). Reduces W y n z w) e h
 
-module _ (b : List ℕ) (p : ℕ) (y : reports.Reductions) {n : ℕ} {w : List ℤ} (x : Reductions) where
-  pub twice-done : {z : Reduced} → x ≡ Done z → TwiceReduced b p y n x w → ReducedTwice b p y n z w
-  twice-done e h = subst (λ (z : Reductions). TwiceReduced b p y n z w) e h
+module _ (K : Sections) (p : ℕ) (y : reports.Reductions) {n : ℕ} {w : List ℤ} (x : Reductions) where
+  pub twice-done : {z : Reduced} → x ≡ Done z → TwiceReduced K p y n x w → ReducedTwice K p y n z w
+  twice-done e h = subst (λ (z : Reductions). TwiceReduced K p y n z w) e h
 
-  pub twice-refused : {z : Refusal} → x ≡ Refused z → TwiceReduced b p y n x w → (y ≡ reports.tooWide) × Cleared n z w
-  twice-refused e h = subst (λ (z : Reductions). TwiceReduced b p y n z w) e h
+  pub twice-refused : {z : Refusal} → x ≡ Refused z → TwiceReduced K p y n x w → (y ≡ reports.tooWide) × Cleared n z w
+  twice-refused e h = subst (λ (z : Reductions). TwiceReduced K p y n z w) e h
 
 module _ {M : Matrix} {w w′ : List ℤ} {A : theory.Matrix} (x : Effect) where
   pub became-done : x ≡ written.Done → Became M w A x w′ → Holds M w A w′
@@ -76,63 +74,63 @@ module _ {M : Matrix} {w w′ : List ℤ} {A : theory.Matrix} (x : Effect) where
   pub became-wide : x ≡ written.TooWide → Became M w A x w′ → Exceeds M w A w′
   became-wide e h = subst (λ (z : Effect). Became M w A z w′) e h
 
-module _ (b : List ℕ) (p n : ℕ) (complex : Complex top libraryLimit (sectionsOf b)) (slots : workSlots (sectionsOf b) p ≤ n) where
+module _ {rule : Rule} (is-rule : IsRule rule) (K : Sections) (p n : ℕ) (chains : ChainComplex libraryLimit K) (slots : workSlots K p ≤ n) where
   -- the first reduction is done with rank r, and the slice holds the state that it leaves
   pub record FirstDone (r : ℕ) (w : List ℤ) : Type 0 where
-    pub outcome : reduce entryLimit (firstSizes (sectionsOf b) p) release1 (firstStart (sectionsOf b) p) ≡ done r (stateOf (firstLayoutOf b p) w)
-    pub rank-within : r ≤ count (sectionsOf b) p
-    pub shaped : Shaped (firstSizes (sectionsOf b) p) (stateOf (firstLayoutOf b p) w)
+    pub outcome : reduce entryLimit (firstSizes K p) rule (firstStart K p) ≡ done r (stateOf (firstLayoutOf K p) w)
+    pub rank-within : r ≤ count K p
+    pub shaped : Shaped (firstSizes K p) (stateOf (firstLayoutOf K p) w)
     pub kept : StillSmall n w
 
   -- the product lies within the limit, and the slice holds the start of the second reduction
   pub record SecondStarted (r : ℕ) (w w′ : List ℤ) : Type 0 where
     pub first : FirstDone r w
-    pub state : stateOf (secondLayoutOf b p r) w′ ≡ secondStart (sectionsOf b) p r (stateOf (firstLayoutOf b p) w)
-    pub narrow : tableWithin entryLimit (product (sectionsOf b) p r (stateOf (firstLayoutOf b p) w)) ≡ true
+    pub state : stateOf (secondLayoutOf K p r) w′ ≡ secondStart K p r (stateOf (firstLayoutOf K p) w)
+    pub narrow : tableWithin entryLimit (product K p r (stateOf (firstLayoutOf K p) w)) ≡ true
     pub kept : StillSmall n w′
 
   -- ---- the first reduction
 
-  module _ (W : Layout) (is : W ≡ firstLayoutOf b p) {w : List ℤ} (f : Filled b p n w) where
+  module _ (W : Layout) (is : W ≡ firstLayoutOf K p) {w : List ℤ} (f : Filled K p n w) where
     -- it starts as the definition's
-    starts : reductionOf W w ≡ reduce entryLimit (firstSizes (sectionsOf b) p) release1 (firstStart (sectionsOf b) p)
+    starts : reductionOf rule W w ≡ reduce entryLimit (firstSizes K p) rule (firstStart K p)
     unfolding firstLayout
-    starts = rw is (ap (reduce entryLimit (firstSizes (sectionsOf b) p) release1) (f .state))
+    starts = rw is (ap (reduce entryLimit (firstSizes K p) rule) (f .state))
 
-    pub first-refused : {x : Refusal} {w′ : List ℤ} → ReductionRefused (reductionOf W w) (length w) x w′
-        → TwiceReduced b p (reductionsOf b p) n (Refused refusal.TooWide) w′
+    pub first-refused : {x : Refusal} {w′ : List ℤ} → ReductionRefused (reductionOf rule W w) (length w) x w′
+        → TwiceReduced K p (reductionsOf rule K p) n (Refused refusal.TooWide) w′
     unfolding reductionsOf
     first-refused h = (
-      first-wide release1 entryLimit (sectionsOf b) p (sym starts ∙ h .outcome),
+      first-wide rule entryLimit K p (sym starts ∙ h .outcome),
       cleared (f .kept .same-length) (h .cleared),
     )
 
-    pub first-done : {r : ℕ} {w′ : List ℤ} → ReductionDone W (reductionOf W w) (length w) r w′ → FirstDone r w′
+    pub first-done : {r : ℕ} {w′ : List ℤ} → ReductionDone W (reductionOf rule W w) (length w) r w′ → FirstDone r w′
     first-done {r} {w′} h = record {
       outcome = outcome;
-      rank-within = le-trans (right .bound) (min-le-right (countBelow (sectionsOf b) p) (count (sectionsOf b) p));
+      rank-within = le-trans (right .bound) (min-le-right (countBelow K p) (count K p));
       shaped = right .shaped;
       kept = record { same-length = h .kept .same-length ∙ f .kept .same-length; small = h .kept .small };
     }
       where
-        outcome : reduce entryLimit (firstSizes (sectionsOf b) p) release1 (firstStart (sectionsOf b) p) ≡ done r (stateOf (firstLayoutOf b p) w′)
+        outcome : reduce entryLimit (firstSizes K p) rule (firstStart K p) ≡ done r (stateOf (firstLayoutOf K p) w′)
         outcome = sym starts ∙ h .outcome ∙ ap (λ (X : Layout). done r (stateOf X w′)) is
 
-        right : machine.Reduced entryLimit (firstSizes (sectionsOf b) p) (firstStart (sectionsOf b) p) r (stateOf (firstLayoutOf b p) w′)
-        right = first-reduced complex release1 release1-is-rule entryLimit p (omega arith) r (stateOf (firstLayoutOf b p) w′) outcome
+        right : machine.Reduced entryLimit (firstSizes K p) (firstStart K p) r (stateOf (firstLayoutOf K p) w′)
+        right = first-reduced chains rule is-rule entryLimit p (omega arith) r (stateOf (firstLayoutOf K p) w′) outcome
 
   -- ---- the product
 
-  module _ {r : ℕ} {w : List ℤ} (f : FirstDone r w) (W : Layout) (is : W ≡ secondLayoutOf b p r) where
+  module _ {r : ℕ} {w : List ℤ} (f : FirstDone r w) (W : Layout) (is : W ≡ secondLayoutOf K p r) where
     pub laid-then : Laid n W
-    laid-then = rw is (laid-second b p n r slots (f .rank-within) w (f .shaped))
+    laid-then = rw is (laid-second K p n r slots (f .rank-within) w (f .shaped))
 
     -- what `multiply` asks of Q and of the matrix
-    pub Q-width : W .«row_follower» .width ≡ count (sectionsOf b) p
+    pub Q-width : W .«row_follower» .width ≡ count K p
     unfolding secondLayout
     Q-width = rw is refl
 
-    pub product-width : W .matrix .width ≡ count (sectionsOf b) (suc p)
+    pub product-width : W .matrix .width ≡ count K (suc p)
     unfolding secondLayout
     product-width = rw is refl
 
@@ -141,52 +139,52 @@ module _ (b : List ℕ) (p n : ℕ) (complex : Complex top libraryLimit (section
 
     -- Q times the matrix of dimension p + 1, as the code asks for it
     abbrev pub asked : theory.Matrix
-    asked = mul (W .«row_follower» .width) (contents (W .«row_follower») w) (boundary (sectionsOf b) (suc p))
+    asked = mul (W .«row_follower» .width) (contents (W .«row_follower») w) (boundary K (suc p))
 
-    pub product-refused : {w′ : List ℤ} → Exceeds (W .matrix) w asked w′ → reductionsOf b p ≡ reports.tooWide
+    pub product-refused : {w′ : List ℤ} → Exceeds (W .matrix) w asked w′ → reductionsOf rule K p ≡ reports.tooWide
     unfolding reductionsOf secondLayout
     product-refused {w′} h =
-        product-wide release1 entryLimit (sectionsOf b) p r (stateOf (firstLayoutOf b p) w) (f .outcome)
-        (product-beyond b p n r slots (f .rank-within) w (f .shaped) (rw is at h))
+        product-wide rule entryLimit K p r (stateOf (firstLayoutOf K p) w) (f .outcome)
+        (product-beyond K p n r slots (f .rank-within) w (f .shaped) (rw is at h))
 
     pub second-started : {w′ : List ℤ} → Holds (W .matrix) w asked w′ → SecondStarted r w w′
     unfolding secondLayout
     second-started {w′} h = record {
       first = f;
-      state = second-state b p n r slots (f .rank-within) w (f .shaped) (rw is at h);
-      narrow = product-narrow b p n r slots (f .rank-within) w (f .shaped) (rw is at h);
+      state = second-state K p n r slots (f .rank-within) w (f .shaped) (rw is at h);
+      narrow = product-narrow K p n r slots (f .rank-within) w (f .shaped) (rw is at h);
       kept = record { same-length = h .same-length ∙ f .kept .same-length; small = h .small };
     }
 
   -- ---- the second reduction
 
-  module _ {r : ℕ} {w w′ : List ℤ} (s : SecondStarted r w w′) (W : Layout) (is : W ≡ secondLayoutOf b p r) where
-    starts-again : reductionOf W w′ ≡ reduce entryLimit (secondSizes (sectionsOf b) p r) release1 (secondStart (sectionsOf b) p r (stateOf (firstLayoutOf b p) w))
+  module _ {r : ℕ} {w w′ : List ℤ} (s : SecondStarted r w w′) (W : Layout) (is : W ≡ secondLayoutOf K p r) where
+    starts-again : reductionOf rule W w′ ≡ reduce entryLimit (secondSizes K p r) rule (secondStart K p r (stateOf (firstLayoutOf K p) w))
     unfolding secondLayout
-    starts-again = rw is (ap (reduce entryLimit (secondSizes (sectionsOf b) p r) release1) (s .state))
+    starts-again = rw is (ap (reduce entryLimit (secondSizes K p r) rule) (s .state))
 
-    pub second-refused : {x : Refusal} {w″ : List ℤ} → ReductionRefused (reductionOf W w′) (length w′) x w″
-        → TwiceReduced b p (reductionsOf b p) n (Refused refusal.TooWide) w″
+    pub second-refused : {x : Refusal} {w″ : List ℤ} → ReductionRefused (reductionOf rule W w′) (length w′) x w″
+        → TwiceReduced K p (reductionsOf rule K p) n (Refused refusal.TooWide) w″
     unfolding reductionsOf
     second-refused h = (
-      second-wide release1 entryLimit (sectionsOf b) p r (stateOf (firstLayoutOf b p) w) (s .first .outcome) (s .narrow) (sym starts-again ∙ h .outcome),
+      second-wide rule entryLimit K p r (stateOf (firstLayoutOf K p) w) (s .first .outcome) (s .narrow) (sym starts-again ∙ h .outcome),
       cleared (s .kept .same-length) (h .cleared),
     )
 
-    pub second-done : {last : ℕ} {w″ : List ℤ} → ReductionDone W (reductionOf W w′) (length w′) last w″
-        → TwiceReduced b p (reductionsOf b p) n (Done (record { layout = W; rank = last })) w″
+    pub second-done : {last : ℕ} {w″ : List ℤ} → ReductionDone W (reductionOf rule W w′) (length w′) last w″
+        → TwiceReduced K p (reductionsOf rule K p) n (Done (record { layout = W; rank = last })) w″
     unfolding reductionsOf secondLayout afterSecond
     second-done {last} {w″} h = record {
       first-rank = r;
       rank-within = s .first .rank-within;
       layout-is = is;
       is = outcome;
-      rank-below = reductions-right complex release1 release1-is-rule entryLimit p (omega arith) (W .matrix .lines) last (stateOf W w″) outcome .rank-bound;
+      rank-below = reductions-right chains rule is-rule entryLimit p (omega arith) (W .matrix .lines) last (stateOf W w″) outcome .rank-bound;
       kept = record { same-length = h .kept .same-length ∙ s .kept .same-length; small = h .kept .small };
     }
       where
-        outcome : reductionsOf b p ≡ reports.reduced (W .matrix .lines) last (stateOf W w″)
+        outcome : reductionsOf rule K p ≡ reports.reduced (W .matrix .lines) last (stateOf W w″)
         outcome =
-            after-second release1 entryLimit (sectionsOf b) p r (stateOf (firstLayoutOf b p) w) (s .first .outcome) (s .narrow)
+            after-second rule entryLimit K p r (stateOf (firstLayoutOf K p) w) (s .first .outcome) (s .narrow)
             (done last (stateOf W w″)) (sym starts-again ∙ h .outcome)
             ∙ ap (λ (k : ℕ). reports.reduced k last (stateOf W w″)) (sym (ap (λ (X : Layout). X .matrix .lines) is))

@@ -12,7 +12,7 @@ use lib.IntN.{ℤ, pos, natAbs}
 use lib.ListN.{length, getD}
 use Rattle.complexes.specs.Complex.{Sections, count}
 use Rattle.sheet_format.specs.Layout.{top}
-use Rattle.sheet_format.specs.Check.{sectionsOf, first, refusal}
+use Rattle.sheet_format.specs.Check.{chainCells, first, refusal}
 use Rattle.reports.specs.Call.{workSlots, callChecks, chainChecks, coefficientExceeds, boundaryNotZero}
 use Rattle.reports.specs.RefusalLaws.{sheet-told, sheet-passed}
 use Rattle.limits.specs.Limits.{coefficientLimit}
@@ -34,14 +34,14 @@ module _ (limit : ℕ) (b : List ℕ) (p : ℕ) (slots : Sections → ℕ → �
     pub dimension-refused : top < p → before ≡ 8
     dimension-refused h = sheet-passed limit b p slots output work accepted ∙ rw (lt-ltb top p h)
 
-    pub output-short : p ≤ top → output < slots (sectionsOf b) p → before ≡ 9
+    pub output-short : p ≤ top → output < slots (chainCells b) p → before ≡ 9
     output-short h k =
-        sheet-passed limit b p slots output work accepted ∙ rw (le-ltb top p h, lt-ltb output (slots (sectionsOf b) p) k)
+        sheet-passed limit b p slots output work accepted ∙ rw (le-ltb top p h, lt-ltb output (slots (chainCells b) p) k)
 
-    pub work-short : p ≤ top → work < workSlots (sectionsOf b) p → before ≡ 9
+    pub work-short : p ≤ top → work < workSlots (chainCells b) p → before ≡ 9
     work-short h k =
         sheet-passed limit b p slots output work accepted
-        ∙ rw (le-ltb top p h, lt-ltb work (workSlots (sectionsOf b) p) k) (either (ltb output (slots (sectionsOf b) p)))
+        ∙ rw (le-ltb top p h, lt-ltb work (workSlots (chainCells b) p) k) (either (ltb output (slots (chainCells b) p)))
       where
         either : (t : Bool) → first ((9, t || true) ∷ []) ≡ 9
         either true = refl
@@ -50,27 +50,27 @@ module _ (limit : ℕ) (b : List ℕ) (p : ℕ) (slots : Sections → ℕ → �
 -- ---- 10 to 12
 
 module _ (b : List ℕ) (p : ℕ) (z : List ℤ) where
-  pub length-differs : length z ≢ count (sectionsOf b) p → first (chainChecks b p z) ≡ 10
+  pub length-differs : length z ≢ count (chainCells b) p → first (chainChecks b p z) ≡ 10
   unfolding chainChecks
-  length-differs h = rw (ne-eqb (length z) (count (sectionsOf b) p) h)
+  length-differs h = rw (ne-eqb (length z) (count (chainCells b) p) h)
 
-  module _ (size : length z ≡ count (sectionsOf b) p) where
+  module _ (size : length z ≡ count (chainCells b) p) where
     pub coefficient-beyond : coefficientExceeds z ≡ true → first (chainChecks b p z) ≡ 11
     unfolding chainChecks
-    coefficient-beyond e = rw (eq-eqb (length z) (count (sectionsOf b) p) size, e)
+    coefficient-beyond e = rw (eq-eqb (length z) (count (chainCells b) p) size, e)
 
     module _ (narrow : coefficientExceeds z ≡ false) where
-      pub boundary-nonzero : boundaryNotZero (sectionsOf b) p z ≡ true → first (chainChecks b p z) ≡ 12
+      pub boundary-nonzero : boundaryNotZero (chainCells b) p z ≡ true → first (chainChecks b p z) ≡ 12
       unfolding chainChecks
-      boundary-nonzero e = rw (eq-eqb (length z) (count (sectionsOf b) p) size, narrow, e)
+      boundary-nonzero e = rw (eq-eqb (length z) (count (chainCells b) p) size, narrow, e)
 
-      pub chain-passed : boundaryNotZero (sectionsOf b) p z ≡ false → first (chainChecks b p z) ≡ 0
+      pub chain-passed : boundaryNotZero (chainCells b) p z ≡ false → first (chainChecks b p z) ≡ 0
       unfolding chainChecks
-      chain-passed e = rw (eq-eqb (length z) (count (sectionsOf b) p) size, narrow, e)
+      chain-passed e = rw (eq-eqb (length z) (count (chainCells b) p) size, narrow, e)
 
       pub coefficients-small : (i : ℕ) → natAbs (getD z i (pos 0)) ≤ coefficientLimit
-      coefficients-small = go (boundaryNotZero (sectionsOf b) p z) refl
+      coefficients-small = go (boundaryNotZero (chainCells b) p z) refl
         where
-          go : (t : Bool) → boundaryNotZero (sectionsOf b) p z ≡ t → (i : ℕ) → natAbs (getD z i (pos 0)) ≤ coefficientLimit
+          go : (t : Bool) → boundaryNotZero (chainCells b) p z ≡ t → (i : ℕ) → natAbs (getD z i (pos 0)) ≤ coefficientLimit
           go true e = not-a-cycle-iff b p z .0 (boundary-nonzero e) .small
           go false e = chain-passes b p z (chain-passed e) .small

@@ -4,10 +4,12 @@ use mathlib.Core.List.{List}
 use Prim.Native.Nat.{ℕ}
 use lib.IntN.{ℤ, pos}
 use lib.ListN.{length, replicate}
-use Rattle.complexes.specs.Complex.{Complex, count}
-use Rattle.sheet_format.specs.Layout.{top}
-use Rattle.sheet_format.specs.Check.{sectionsOf, first}
+use Rattle.complexes.specs.Complex.{count}
+use Rattle.complexes.specs.ChainComplex.{ChainComplex}
+use Rattle.sheet_format.specs.Check.{chainCells, first}
 use Rattle.reduction_steps.specs.State.{State}
+use Rattle.reduction_steps.specs.Pivot.{pivotRule}
+use Rattle.reduction_steps.specs.PivotLaws.{pivotRule-is-rule}
 use Rattle.reports.specs.Report.{reportList}
 use Rattle.reports.specs.Call.{reportSlots, callChecks, reductionsOf, reportCall, written}
 use Rattle.limits.specs.Limits.{libraryLimit}
@@ -33,29 +35,29 @@ module _ (limit : ℕ) (b : List ℕ) (p : ℕ) (report work : List ℤ) where
 
   -- the numbers of the report
   abbrev numbers : ℕ → ℕ → State → List ℤ
-  numbers s r x = reportList (count (sectionsOf b) p) s r x
+  numbers s r x = reportList (count (chainCells b) p) s r x
 
   pub report-refuses : {x : Refusal} → before-report ≡ numberOf x → CallAnswers (reportCall limit b p report work) (Refused x) report work
   unfolding reportCall
-  report-refuses e = refuses before-report (reductionsOf b p) numbers report work e
+  report-refuses e = refuses before-report (reductionsOf pivotRule (chainCells b) p) numbers report work e
 
   module _ (passed : Passed limit b p reportSlots (length report) (length work)) where
     passes : before-report ≡ 0
     passes = callChecks-zero limit b p reportSlots (length report) (length work) .1 passed
 
-    pub report-wide : {x : Refusal} {work′ : List ℤ} → TwiceReduced b p (reductionsOf b p) (length work) (reductions.Refused x) work′
+    pub report-wide : {x : Refusal} {work′ : List ℤ} → TwiceReduced (chainCells b) p (reductionsOf pivotRule (chainCells b) p) (length work) (reductions.Refused x) work′
         → CallAnswers (reportCall limit b p report work) (Refused refusal.TooWide) report work′
     unfolding reportCall
-    report-wide h = goes-wide before-report (reductionsOf b p) numbers report work passes (h .0) (h .1 .zeros)
+    report-wide h = goes-wide before-report (reductionsOf pivotRule (chainCells b) p) numbers report work passes (h .0) (h .1 .zeros)
 
     pub report-done :
-        Complex top libraryLimit (sectionsOf b) → {x : Reduced} {w : List ℤ} → ReducedTwice b p (reductionsOf b p) (length work) x w
+        ChainComplex libraryLimit (chainCells b) → {x : Reduced} {w : List ℤ} → ReducedTwice (chainCells b) p (reductionsOf pivotRule (chainCells b) p) (length work) x w
         → {counts : Counts} {report′ work′ : List ℤ} → WroteReport x w report counts report′ → work′ ≡ replicate (length w) (pos 0)
         → CallAnswers (reportCall limit b p report work) (Done counts) report′ work′
     unfolding reportCall
-    report-done complex {x} {w} h k e =
-        is-done before-report (reductionsOf b p) numbers report work passes (h .is) (k .free) (k .torsion)
+    report-done chains {x} {w} h k e =
+        is-done before-report (reductionsOf pivotRule (chainCells b) p) numbers report work passes (h .is) (k .free) (k .torsion)
         (k .is
         ∙ ap (λ (cells : ℕ). written (reportList cells (x .layout .matrix .lines) (x .rank) (stateOf (x .layout) w)) report)
-        (inverse-width complex (passed .work-slots) h))
+        (inverse-width pivotRule-is-rule chains (passed .work-slots) h))
         (e ∙ ap (λ (m : ℕ). replicate m (pos 0)) (h .kept .same-length))

@@ -1,5 +1,5 @@
 -- What the sheet gives the calls: rows-none, rows-section and rows-before, the rows of a boundary matrix; sizes-read, the sizes of a
--- dimension, and what follows from them; accepted-library, a sheet that is accepted at a lower limit is accepted at the library's; sheet-complex.
+-- dimension, and what follows from them; accepted-library, a sheet that is accepted at a lower limit is accepted at the library's; sheet-chains.
 use mathlib.Core.Path.{_≡_, refl, sym, _∙_, ap}
 use mathlib.Core.Logic.{_≢_}
 use mathlib.Core.List.{List}
@@ -8,14 +8,14 @@ use native.Mathlib.Nat.{le-trans, pos-of-ne-zero}
 use native.Mathlib.Numerals.{add-one}
 use native.Mathlib.Omega.{arith}
 use lib.ListN.{length}
-use Rattle.complexes.specs.Complex.{Sections, Complex, count}
+use Rattle.complexes.specs.Complex.{Sections, count}
+use Rattle.complexes.specs.ChainComplex.{ChainComplex}
 use Rattle.complexes.specs.Boundary.{countBelow}
-use Rattle.sheet_format.specs.Layout.{top}
 use Rattle.sheet_format.specs.Sheet.{Bytes}
-use Rattle.sheet_format.specs.Accept.{accepted-complex}
-use Rattle.sheet_format.specs.Check.{countField, sectionsOf, refusal}
+use Rattle.sheet_format.specs.Accept.{accepted-chains}
+use Rattle.sheet_format.specs.Check.{countField, chainCells, refusal}
 use Rattle.sheet_format.specs.CheckLaws.{Passes, refusal-zero, countExceeds-false}
-use Rattle.sheet_format.specs.SheetLaws.{count-sectionsOf}
+use Rattle.sheet_format.specs.SheetLaws.{count-chainCells}
 use Rattle.fields.specs.Read.{ReadsBelow}
 use Rattle.reports.specs.Call.{workSlots}
 use Rattle.limits.specs.Limits.{libraryLimit}
@@ -25,18 +25,18 @@ use Rattle.calls.specs.Admission.{SizesRead}
 use Rattle.calls.specs.declared.admission.Sizes.{Sizes}
 use Rattle.calls.specs.Slices.{firstLayoutOf, secondLayoutOf}
 
-pub rows-none : (b : List ℕ) (p : ℕ) → p ≡ 0 → countBelow (sectionsOf b) p ≡ 0
+pub rows-none : (K : Sections) (p : ℕ) → p ≡ 0 → countBelow K p ≡ 0
 unfolding countBelow
-rows-none b zero e = refl
-rows-none b (suc p) e = absurd (omega arith)
+rows-none K zero e = refl
+rows-none K (suc p) e = absurd (omega arith)
 
 pub rows-section : (K : Sections) (p : ℕ) → 0 < p → countBelow K p ≡ count K (p - 1)
 unfolding countBelow
 rows-section K zero h = absurd (omega arith)
 rows-section K (suc p) h = ap (count K) (omega arith)
 
-pub rows-before : (b : List ℕ) (p : ℕ) → p ≢ 0 → countBelow (sectionsOf b) p ≡ countField b (p - 1)
-rows-before b p d = rows-section (sectionsOf b) p (pos-of-ne-zero d) ∙ count-sectionsOf b (p - 1)
+pub rows-before : (b : List ℕ) (p : ℕ) → p ≢ 0 → countBelow (chainCells b) p ≡ countField b (p - 1)
+rows-before b p d = rows-section (chainCells b) p (pos-of-ne-zero d) ∙ count-chainCells b (p - 1)
 
 pub accepted-library : {limit : ℕ} {b : List ℕ} → limit ≤ libraryLimit → refusal limit b ≡ 0 → Accepted b
 accepted-library {limit} {b} h e = record {
@@ -54,32 +54,32 @@ accepted-library {limit} {b} h e = record {
     passes : Passes limit b
     passes = refusal-zero limit b .0 e
 
-pub sheet-complex : {b : List ℕ} → Bytes b → Accepted b → Complex top libraryLimit (sectionsOf b)
-sheet-complex {b} bytes h = accepted-complex libraryLimit b bytes (h .none-applies)
+pub sheet-chains : {b : List ℕ} → Bytes b → Accepted b → ChainComplex libraryLimit (chainCells b)
+sheet-chains {b} bytes h = accepted-chains libraryLimit b bytes (h .none-applies)
 
-pub sizes-read : {b : List ℕ} {p cells rows columns : ℕ} → ReadsBelow 65536 (countField b p) cells → ReadsBelow 65536 (countBelow (sectionsOf b) p) rows
-    → ReadsBelow 65536 (countField b (p + 1)) columns → SizesRead b p (record { cells = cells; rows = rows; columns = columns })
-sizes-read {b} {p} c r d = record {
+pub sizes-read : (b : List ℕ) {p cells rows columns : ℕ} → ReadsBelow 65536 (countField b p) cells → ReadsBelow 65536 (countBelow (chainCells b) p) rows
+    → ReadsBelow 65536 (countField b (p + 1)) columns → SizesRead (chainCells b) p (record { cells = cells; rows = rows; columns = columns })
+sizes-read b {p} c r d = record {
   is =
       cc (
-        c .is ∙ sym (count-sectionsOf b p),
+        c .is ∙ sym (count-chainCells b p),
         r .is,
-        d .is ∙ ap (countField b) (add-one p) ∙ sym (count-sectionsOf b (suc p)),
+        d .is ∙ ap (countField b) (add-one p) ∙ sym (count-chainCells b (suc p)),
       );
   cells-below = c .below;
   rows-below = r .below;
   columns-below = d .below;
 }
 
-module _ {b : List ℕ} {p : ℕ} {n : Sizes} (h : SizesRead b p n) where
-  pub cells-of : n .cells ≡ count (sectionsOf b) p
+module _ {K : Sections} {p : ℕ} {n : Sizes} (h : SizesRead K p n) where
+  pub cells-of : n .cells ≡ count K p
   cells-of = ap (λ (k : Sizes). k .cells) (h .is)
 
-  pub first-of : firstLayout (n .cells) (n .rows) (n .columns) ≡ firstLayoutOf b p
+  pub first-of : firstLayout (n .cells) (n .rows) (n .columns) ≡ firstLayoutOf K p
   first-of = ap (λ (k : Sizes). firstLayout (k .cells) (k .rows) (k .columns)) (h .is)
 
-  pub second-of : (rank : ℕ) → secondLayout (n .cells) (n .rows) (n .columns) rank ≡ secondLayoutOf b p rank
+  pub second-of : (rank : ℕ) → secondLayout (n .cells) (n .rows) (n .columns) rank ≡ secondLayoutOf K p rank
   second-of rank = ap (λ (k : Sizes). secondLayout (k .cells) (k .rows) (k .columns) rank) (h .is)
 
-  pub slots-of : n .cells * (2 * n .cells + max (n .rows) (n .columns)) ≡ workSlots (sectionsOf b) p
+  pub slots-of : n .cells * (2 * n .cells + max (n .rows) (n .columns)) ≡ workSlots K p
   slots-of = ap (λ (k : Sizes). k .cells * (2 * k .cells + max (k .rows) (k .columns))) (h .is)

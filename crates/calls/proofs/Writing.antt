@@ -6,12 +6,10 @@ use native.Mathlib.Nat.{mul-le-mul, le-refl, le-trans}
 use native.Mathlib.Omega.{arith}
 use lib.IntN.{ℤ, natAbs}
 use lib.ListN.{length}
-use Rattle.complexes.specs.Complex.{Complex, count}
+use Rattle.complexes.specs.Complex.{Sections, count}
+use Rattle.complexes.specs.ChainComplex.{ChainComplex}
 use Rattle.complexes.specs.Boundary.{countBelow}
-use Rattle.sheet_format.specs.Layout.{top}
-use Rattle.sheet_format.specs.Check.{sectionsOf}
-use Rattle.reduction_steps.specs.Pivot.{release1}
-use Rattle.reduction_steps.specs.PivotLaws.{release1-is-rule}
+use Rattle.reduction_steps.specs.Pivot.{Rule, IsRule}
 use Rattle.reports.specs.Call.{workSlots, reportSlots, reductionsOf}
 use Rattle.limits.specs.Limits.{entryLimit, coefficientLimit, libraryLimit}
 use Rattle.answers.specs.TwoReductions.{Right, reductions-right}
@@ -23,40 +21,40 @@ use Rattle.operations.specs.Layouts.{secondLayout}
 use Rattle.calls.specs.Slices.{ReducedTwice}
 use Rattle.calls.proofs.Places.{second-laid}
 
-module _ {b : List ℕ} {p n : ℕ} {x : Reduced} {w : List ℤ} (complex : Complex top libraryLimit (sectionsOf b)) (slots : workSlots (sectionsOf b) p ≤ n)
-    (h : ReducedTwice b p (reductionsOf b p) n x w) where
+module _ {rule : Rule} (is : IsRule rule) {K : Sections} {p n : ℕ} {x : Reduced} {w : List ℤ} (chains : ChainComplex libraryLimit K) (slots : workSlots K p ≤ n)
+    (h : ReducedTwice K p (reductionsOf rule K p) n x w) where
   laid : Laid (length w) (x .layout)
   laid =
       rw (h .kept .same-length, h .layout-is)
-      (second-laid (count (sectionsOf b) p) (countBelow (sectionsOf b) p) (count (sectionsOf b) (suc p)) slots (h .first-rank) (h .rank-within))
+      (second-laid (count K p) (countBelow K p) (count K (suc p)) slots (h .first-rank) (h .rank-within))
 
-  right : Right (sectionsOf b) p (x .layout .matrix .lines) (x .rank) (stateOf (x .layout) w)
+  right : Right K p (x .layout .matrix .lines) (x .rank) (stateOf (x .layout) w)
   unfolding reductionsOf
   right =
-      reductions-right complex release1 release1-is-rule entryLimit p (omega arith) (x .layout .matrix .lines) (x .rank) (stateOf (x .layout) w) (h .is)
+      reductions-right chains rule is entryLimit p (omega arith) (x .layout .matrix .lines) (x .rank) (stateOf (x .layout) w) (h .is)
 
   kinds : Kinds (x .layout .matrix) w
   unfolding stateOf
   kinds = record { nonneg = right .reduced .second .nonneg }
 
-  pub inverse-width : x .layout .«row_inverse» .width ≡ count (sectionsOf b) p
+  pub inverse-width : x .layout .«row_inverse» .width ≡ count K p
   unfolding secondLayout
   inverse-width = rw (h .layout-is) refl
 
-  pub follower-width : x .layout .«row_follower» .width ≡ count (sectionsOf b) p
+  pub follower-width : x .layout .«row_follower» .width ≡ count K p
   unfolding secondLayout
   follower-width = rw (h .layout-is) refl
 
-  pub can-report : {m : ℕ} → reportSlots (sectionsOf b) p ≤ m → CanReport x w m
+  pub can-report : {m : ℕ} → reportSlots K p ≤ m → CanReport x w m
   can-report {m} room = record {
     laid = laid;
     kinds = kinds;
     rank-below = h .rank-below;
     lines-below = rw inverse-width (right .rows-bound);
-    room = rw inverse-width (omega (arith, room, h .rank-below, right .rows-bound, mul-le-mul (right .rows-bound) (le-refl (count (sectionsOf b) p))));
+    room = rw inverse-width (omega (arith, room, h .rank-below, right .rows-bound, mul-le-mul (right .rows-bound) (le-refl (count K p))));
   }
 
-  pub can-coordinate : {z : List ℤ} {m : ℕ} → count (sectionsOf b) p ≤ m → length z ≡ count (sectionsOf b) p
+  pub can-coordinate : {z : List ℤ} {m : ℕ} → count K p ≤ m → length z ≡ count K p
       → ((j : ℕ) → natAbs (at z j) ≤ coefficientLimit) → CanCoordinate x w z m
   can-coordinate {z} {m} room size small = record {
     laid = laid;
@@ -65,6 +63,6 @@ module _ {b : List ℕ} {p n : ℕ} {x : Reduced} {w : List ℤ} (complex : Comp
     rank-below = h .rank-below;
     room = le-trans (right .rows-bound) room;
     width = follower-width ∙ sym size;
-    width-within = rw size (complex .within p);
+    width-within = rw size (chains .within p);
     coefficients = small;
   }

@@ -4,7 +4,7 @@ use mathlib.Core.List.{List}
 use Prim.Native.Nat.{ℕ, suc, _+_, _*_, _<_}
 use Rattle.complexes.specs.Complex.{Sections, count}
 use Rattle.complexes.specs.Boundary.{countBelow}
-use Rattle.sheet_format.specs.Check.{sectionsOf, first}
+use Rattle.sheet_format.specs.Check.{chainCells, first}
 use Rattle.reports.specs.Call.{callChecks}
 use Rattle.refusal.specs.Number.{numberOf}
 use Rattle.calls.specs.declared.admission.Sizes.{Sizes}
@@ -16,9 +16,9 @@ use Rattle.calls.specs.declared.admission.Admission.the-variants.{Admitt
 abbrev pub sizesIn : Sections → ℕ → Sizes
 sizesIn K p = record { cells = count K p; rows = countBelow K p; columns = count K (suc p) }
 
--- the sizes of dimension p of the sheet b; each is a field
-pub record SizesRead (b : List ℕ) (p : ℕ) (r : Sizes) : Type 0 where
-  pub is : r ≡ sizesIn (sectionsOf b) p
+-- the sizes of dimension p of the cells K; each fits a field
+pub record SizesRead (K : Sections) (p : ℕ) (r : Sizes) : Type 0 where
+  pub is : r ≡ sizesIn K p
   pub cells-below : r .cells < 65536
   pub rows-below : r .rows < 65536
   pub columns-below : r .columns < 65536
@@ -31,5 +31,5 @@ slotsFor Coordinates n = n .cells
 -- the first of the checks 1 to 9 that applies, or the sizes of the dimension
 abbrev pub Admits : ℕ → List ℕ → ℕ → Request → ℕ → ℕ → Admission → Type 0
 Admits limit b p request output work (Admitted sizes) =
-    (first (callChecks limit b p (λ K q. slotsFor request (sizesIn K q)) output work) ≡ 0) × SizesRead b p sizes
+    (first (callChecks limit b p (λ K q. slotsFor request (sizesIn K q)) output work) ≡ 0) × SizesRead (chainCells b) p sizes
 Admits limit b p request output work (Refused x) = first (callChecks limit b p (λ K q. slotsFor request (sizesIn K q)) output work) ≡ numberOf x

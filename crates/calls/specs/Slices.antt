@@ -4,9 +4,8 @@ use mathlib.Core.List.{List}
 use Prim.Native.Nat.{ℕ, suc, _≤_}
 use lib.ListN.{length}
 use lib.IntN.{ℤ}
-use Rattle.complexes.specs.Complex.{count}
+use Rattle.complexes.specs.Complex.{Sections, count}
 use Rattle.complexes.specs.Boundary.{countBelow}
-use Rattle.sheet_format.specs.Check.{sectionsOf}
 use Rattle.reports.specs.Reductions as reports
 use Rattle.reports.specs.Reductions.{firstStart}
 use Rattle.operations.specs.Laid.{stateOf}
@@ -17,28 +16,28 @@ use Rattle.writers.specs.declared.reduced.Reduced.{Reduced}
 use Rattle.calls.specs.declared.reductions.Reductions.{Reductions}
 use Rattle.calls.specs.declared.reductions.Reductions.the-variants.{Done, Refused}
 
--- ---- where the matrices of dimension p of the sheet b stand
+-- ---- where the matrices of dimension p of the cells K stand
 
-abbrev pub firstLayoutOf : List ℕ → ℕ → Layout
-firstLayoutOf b p = firstLayout (count (sectionsOf b) p) (countBelow (sectionsOf b) p) (count (sectionsOf b) (suc p))
+abbrev pub firstLayoutOf : Sections → ℕ → Layout
+firstLayoutOf K p = firstLayout (count K p) (countBelow K p) (count K (suc p))
 
-abbrev pub secondLayoutOf : List ℕ → ℕ → ℕ → Layout
-secondLayoutOf b p rank = secondLayout (count (sectionsOf b) p) (countBelow (sectionsOf b) p) (count (sectionsOf b) (suc p)) rank
+abbrev pub secondLayoutOf : Sections → ℕ → ℕ → Layout
+secondLayoutOf K p rank = secondLayout (count K p) (countBelow K p) (count K (suc p)) rank
 
 -- the slice of length n holds the start of the first reduction
-pub record Filled (b : List ℕ) (p n : ℕ) (w′ : List ℤ) : Type 0 where
-  pub state : stateOf (firstLayoutOf b p) w′ ≡ firstStart (sectionsOf b) p
+pub record Filled (K : Sections) (p n : ℕ) (w′ : List ℤ) : Type 0 where
+  pub state : stateOf (firstLayoutOf K p) w′ ≡ firstStart K p
   pub kept : StillSmall n w′
 
 -- The two reductions came to x, and the slice holds the state that the second leaves; its matrix has a line for each row of Q.
-pub record ReducedTwice (b : List ℕ) (p : ℕ) (y : reports.Reductions) (n : ℕ) (x : Reduced) (w′ : List ℤ) : Type 0 where
+pub record ReducedTwice (K : Sections) (p : ℕ) (y : reports.Reductions) (n : ℕ) (x : Reduced) (w′ : List ℤ) : Type 0 where
   pub first-rank : ℕ
-  pub rank-within : first-rank ≤ count (sectionsOf b) p
-  pub layout-is : x .layout ≡ secondLayoutOf b p first-rank
+  pub rank-within : first-rank ≤ count K p
+  pub layout-is : x .layout ≡ secondLayoutOf K p first-rank
   pub is : y ≡ reports.reduced (x .layout .matrix .lines) (x .rank) (stateOf (x .layout) w′)
   pub rank-below : x .rank ≤ x .layout .matrix .lines
   pub kept : StillSmall n w′
 
-abbrev pub TwiceReduced : List ℕ → ℕ → reports.Reductions → ℕ → Reductions → List ℤ → Type 0
-TwiceReduced b p y n (Done x) w′ = ReducedTwice b p y n x w′
-TwiceReduced b p y n (Refused x) w′ = (y ≡ reports.tooWide) × Cleared n x w′
+abbrev pub TwiceReduced : Sections → ℕ → reports.Reductions → ℕ → Reductions → List ℤ → Type 0
+TwiceReduced K p y n (Done x) w′ = ReducedTwice K p y n x w′
+TwiceReduced K p y n (Refused x) w′ = (y ≡ reports.tooWide) × Cleared n x w′

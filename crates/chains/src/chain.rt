@@ -5,7 +5,7 @@ ghost use lib.ListN.{length, getD};
 ghost use lib.IntN.{natAbs, pos};
 ghost use Rattle.complexes.specs.Complex.{count};
 ghost use Rattle.sheet_format.specs.Layout.{top};
-ghost use Rattle.sheet_format.specs.Check.{sectionsOf};
+ghost use Rattle.sheet_format.specs.Check.{chainCells};
 ghost use Rattle.reports.specs.Call.{coefficientExceeds, boundaryNotZero};
 ghost use Rattle.limits.specs.Limits.{coefficientLimit};
 ghost use Rattle.faces.specs.Face.{Accepted};
@@ -39,10 +39,10 @@ pub fn coefficient_exceeds(chain: &[i32]) -> bool
 // Adds x times the boundary of cell j of section p + 1.
 fn add_faces(s: &[u8], p: usize, j: usize, x: i64, sums: &mut [i64; CELLS])
     requires { ⌜ Accepted (now s) ⌝ }
-    requires { ⌜ (p < top) × (j < count (sectionsOf (now s)) (suc p)) ⌝ }
+    requires { ⌜ (p < top) × (j < count (chainCells (now s)) (suc p)) ⌝ }
     requires { ⌜ natAbs x ≤ coefficientLimit ⌝ }
-    requires { ⌜ Sums (now s) p (now sums) ⌝ }
-    ensures { λ r. ⌜ AddsFaces (now (s .entry)) p j x (now (sums .entry)) (now (sums .exit)) ⌝ }
+    requires { ⌜ Sums (chainCells (now s)) p (now sums) ⌝ }
+    ensures { λ r. ⌜ AddsFaces (chainCells (now (s .entry))) p j x (now (sums .entry)) (now (sums .exit)) ⌝ }
 {
     let mut t: usize = 0;
     while t < p + 2 {
@@ -55,9 +55,9 @@ fn add_faces(s: &[u8], p: usize, j: usize, x: i64, sums: &mut [i64; CELLS])
 // Check 12: whether the chain of dimension p has a nonzero boundary.
 pub fn boundary_not_zero(s: &[u8], p: usize, chain: &[i32]) -> bool
     requires { ⌜ Accepted (now s) ⌝ }
-    requires { ⌜ (p ≤ top) × (length (now chain) ≡ count (sectionsOf (now s)) p) ⌝ }
+    requires { ⌜ (p ≤ top) × (length (now chain) ≡ count (chainCells (now s)) p) ⌝ }
     requires { ⌜ ((i : ℕ) → natAbs (getD (now chain) i (pos 0)) ≤ coefficientLimit) ⌝ }
-    ensures { λ r. ⌜ r ≡ boundaryNotZero (sectionsOf (now (s .entry))) p (now (chain .entry)) ⌝ }
+    ensures { λ r. ⌜ r ≡ boundaryNotZero (chainCells (now (s .entry))) p (now (chain .entry)) ⌝ }
 {
     if p == 0 {
         return false;

@@ -10,4 +10,5 @@ pub mod Subsets
 pub mod Boundary
 pub mod CoefficientLaws
 pub mod BoundaryLaws
+pub mod ChainComplex
 pub mod Examples

@@ -16,7 +16,7 @@ use Rattle.sheet_format.specs.Layout.{longest}
 use Rattle.sheet_format.specs.Check.{first, refusal, sectionsOf}
 use Rattle.sheet_format.specs.Sheet.{Bytes, IsSheet}
 use Rattle.homology_groups.specs.Chain.{Chain, combination}
-use Rattle.reduction_steps.specs.Pivot.{release1}
+use Rattle.reduction_steps.specs.Pivot.{pivotRule}
 use Rattle.reports.specs.Call.{done, callChecks, chainChecks, reportSlots, coordinateSlots, workSlots, reportCall, coordinateCall}
 use Rattle.limits.specs.Limits.{libraryLimit, hostLimit, entryLimit}
 use Rattle.reports.specs.Host.{chainFrom, coefficientIn, slotsIn, hostReport, hostCoordinates, numberAt}
@@ -27,9 +27,9 @@ use Rattle.answers.specs.Wide.{GoesWide}
 use Rattle.answers.specs.Called.{answerNumber, Answers, NoCycle, KeptPast, Leaves}
 use Rattle.answers.specs.Printed.{DimensionsPrinted}
 
--- the reduction of document 01, with its limit and the pivot rule of release 1, goes too wide
+-- the reduction of document 01, with its limit and the calls' pivot rule, goes too wide
 abbrev pub TooWide : List ℕ → ℕ → Type 0
-TooWide b p = GoesWide entryLimit release1 (sectionsOf b) p
+TooWide b p = GoesWide entryLimit pivotRule (sectionsOf b) p
 
 -- ==== Demand 1
 

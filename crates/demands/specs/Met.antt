@@ -18,9 +18,10 @@ use Rattle.matrices.specs.Sum.{sum}
 use Rattle.matrices.specs.Vector.{apply}
 use Rattle.complexes.specs.Cell.{without, same, rises, precedes, listed}
 use Rattle.complexes.specs.Complex.{Sections, count, Complex}
+use Rattle.complexes.specs.ChainComplex.{ChainComplex, complex-chains}
 use Rattle.complexes.specs.Boundary.{sign, coefficient, countBelow, boundary}
 use Rattle.sheet_format.specs.Layout.{top, start}
-use Rattle.sheet_format.specs.Check.{first, countField, offsetField, cellOf, cellsOf, sectionsOf, some, verticesDoNotRise, cellsDoNotRise, faceMissing, refusal}
+use Rattle.sheet_format.specs.Check.{first, countField, offsetField, cellOf, cellsOf, sectionsOf, chainCells, some, verticesDoNotRise, cellsDoNotRise, faceMissing, refusal}
 use Rattle.sheet_format.specs.Sheet.{Bytes}
 use Rattle.sheet_format.specs.Starred.{hollowTriangle}
 use Rattle.sheet_format.specs.Accept.{accepted-complex}
@@ -119,10 +120,10 @@ same-cells = refl
 
 pub plane-goes-wide : GoesWide 1 release1 cells 2 × GoesWide 1 release1 cells 1
 plane-goes-wide =
-    (wide-iff complex release1 release1-is-rule 1 2 (omega arith) .0 (plane-too-wide .0), wide-iff complex release1 release1-is-rule 1 1 (omega arith) .0 (plane-too-wide .1))
+    (wide-iff chains release1 release1-is-rule 1 2 (omega arith) .0 (plane-too-wide .0), wide-iff chains release1 release1-is-rule 1 1 (omega arith) .0 (plane-too-wide .1))
   where
-    complex : Complex top 256 cells
-    complex = subst (λ (K : Sections). Complex top 256 K) same-cells (accepted-complex 256 sheet plane-bytes accepted)
+    chains : ChainComplex 256 cells
+    chains = complex-chains (subst (λ (K : Sections). Complex top 256 K) same-cells (accepted-complex 256 sheet plane-bytes accepted))
 
 -- ---- the host calls and the program
 
@@ -130,7 +131,7 @@ narrow : TooWide sheet 1 → ⊥
 narrow = reportNumbers 256 sheet 1 (nines 242) (nines 600) plane-bytes .is-done .0 (ap (λ (c : Called). answerNumber (c .answer)) (plane-calls .report-call)) .1
 
 report-admitted : first (callChecks hostLimit sheet 1 reportSlots (slotsIn (replicate 1936 9)) (workSlots (sectionsOf sheet) 1)) ≡ 0
-unfolding callChecks chainChecks refusal countField offsetField cellOf cellsOf sectionsOf some verticesDoNotRise cellsDoNotRise faceMissing without same rises precedes listed start countBelow tabulate
+unfolding callChecks chainChecks refusal countField offsetField cellOf cellsOf sectionsOf chainCells some verticesDoNotRise cellsDoNotRise faceMissing without same rises precedes listed start countBelow tabulate
 report-admitted = refl
 
 pub plane-host-report : ReportOf sheet 1 (numberAt (hostReport sheet 1 (replicate 1936 9) .output))
@@ -142,7 +143,7 @@ coordinates-admitted :
     (callChecks hostLimit sheet 1 coordinateSlots (slotsIn (replicate 120 9)) (workSlots (sectionsOf sheet) 1)
     ++ chainChecks sheet 1 (chainFrom (count (sectionsOf sheet) 1) (replicate 60 0)))
     ≡ 0
-unfolding callChecks chainChecks refusal countField offsetField cellOf cellsOf sectionsOf some verticesDoNotRise cellsDoNotRise faceMissing without same rises precedes listed start countBelow tabulate
+unfolding callChecks chainChecks refusal countField offsetField cellOf cellsOf sectionsOf chainCells some verticesDoNotRise cellsDoNotRise faceMissing without same rises precedes listed start countBelow tabulate
     chainFrom coefficientAt coefficientExceeds boundaryNotZero boundary coefficient sign apply sum
 coordinates-admitted = refl
 
@@ -157,7 +158,7 @@ plane-accepted = callChecks-zero hostLimit sheet 1 reportSlots (slotsIn (replica
 -- ---- no cycle
 
 pub triangle-no-cycle : NoCycle (sectionsOf hollowTriangle) 1 (pos 1 ∷ pos 0 ∷ pos 0 ∷ [])
-unfolding chainChecks countField cellOf cellsOf sectionsOf some without same start countBelow tabulate coefficientExceeds boundaryNotZero boundary coefficient sign apply sum
+unfolding chainChecks countField cellOf cellsOf sectionsOf chainCells some without same start countBelow tabulate coefficientExceeds boundaryNotZero boundary coefficient sign apply sum
 triangle-no-cycle = notACycle hollowTriangle 1 (pos 1 ∷ pos 0 ∷ pos 0 ∷ []) .0 told
   where
     told : first (chainChecks hollowTriangle 1 (pos 1 ∷ pos 0 ∷ pos 0 ∷ [])) ≡ 12

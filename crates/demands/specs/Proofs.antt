@@ -1,4 +1,4 @@
--- The owner's demands: what `Claims` states, proved.
+-- The owner's demands: what `Claims` states, proved. The claims speak of the cells of the sheet, the calls of `chainCells`, which are these.
 use mathlib.Core.Path.{_≡_, refl, sym, _∙_, ap, ap₂, subst}
 use mathlib.Core.Logic.{_↔_}
 use mathlib.Core.List.{List}
@@ -7,12 +7,13 @@ use native.Mathlib.Omega.{arith}
 use lib.IntN.{ℤ, _-ℤ_}
 use lib.Signed.{_<ℤ_}
 use Rattle.complexes.specs.Complex.{count}
-use Rattle.sheet_format.specs.Check.{sectionsOf}
+use Rattle.sheet_format.specs.Check.{sectionsOf, chainCells}
 use Rattle.sheet_format.specs.Sheet.{Bytes}
 use Rattle.sheet_format.specs.Accept.{accepted-iff, sections-layout}
 use Rattle.homology_groups.specs.Chain.{Chain, combination}
 use Rattle.homology_groups.specs.ChainLaws.{boundary-same}
 use Rattle.reduction_steps.specs.State.{State}
+use Rattle.reduction_steps.specs.Pivot.{pivotRule}
 use Rattle.reports.specs.Report.{freeRank, torsionCount}
 use Rattle.reports.specs.Reductions.{Reductions, tooWide, reduced}
 use Rattle.reports.specs.Call.{reductionsOf, reportCall}
@@ -38,15 +39,19 @@ use Rattle.demands.specs.Claims as claims
 -- ==== Demand 1
 
 pub reportNumbers : ReportNumbers
+unfolding chainCells
 reportNumbers = report-answers
 
 pub coordinateNumbers : CoordinateNumbers
+unfolding chainCells
 coordinateNumbers = coordinates-answer
 
 pub notACycle : NotACycle
+unfolding chainCells
 notACycle = not-a-cycle-iff
 
 pub reportLeaves : ReportLeaves
+unfolding chainCells
 reportLeaves limit b p report work bytes = record {
   counted = report-counted limit b p report work;
   after-refusal = report-left limit b p report work;
@@ -75,12 +80,14 @@ pub sheetCells : SheetCells
 sheetCells limit small b s = sym (sections-layout (s .complex) small) ∙ ap sectionsOf (s .bytes)
 
 pub reports : Reports
+unfolding chainCells
 reports limit b p report work bytes f t e =
     let d = report-answered limit b p report work bytes e in
     as-counted (λ f t. IsRight (sectionsOf b) p f t (slot (reportCall limit b p report work .output))) (d .counted .free) (d .counted .torsion)
     (report-is-right (d .right) (report-reads limit b p report work bytes e))
 
 pub coordinateCounts : CoordinateCounts
+unfolding chainCells
 coordinateCounts limit b p z coordinates work bytes f t e =
     let d = coordinates-answered limit b p z coordinates work bytes e in
     as-counted (λ f t. HasCounts (sectionsOf b) p f t) (d .counted .free) (d .counted .torsion) (has-counts (d .right))
@@ -104,7 +111,7 @@ record CoordinatesBehind (b : List ℕ) (p : ℕ) (z : Chain) (c : ℕ → ℤ) 
   rows : ℕ
   rank : ℕ
   state : State
-  reductions : reductionsOf b p ≡ reduced rows rank state
+  reductions : reductionsOf pivotRule (chainCells b) p ≡ reduced rows rank state
   right : Right (sectionsOf b) p rows rank state
   chain : List ℤ
   agrees : (i : ℕ) → i < count (sectionsOf b) p → slot chain i ≡ z i
@@ -112,6 +119,7 @@ record CoordinatesBehind (b : List ℕ) (p : ℕ) (z : Chain) (c : ℕ → ℤ) 
   reads : ReadsCoordinates (sectionsOf b) p rows rank state chain c
 
 coordinates-behind : (b : List ℕ) (p : ℕ) → Bytes b → (z : Chain) (c : ℕ → ℤ) → CoordinatesOf b p z c → CoordinatesBehind b p z c
+unfolding chainCells
 coordinates-behind b p bytes _ _ (claims.CoordinatesOf.by-library limit z coordinates work f t e) =
     let d = coordinates-answered limit b p z coordinates work bytes e in
     record {
@@ -160,10 +168,11 @@ record ReportBehind (b : List ℕ) (p : ℕ) (report : ℕ → ℤ) : Type 0 whe
   rows : ℕ
   rank : ℕ
   state : State
-  reductions : reductionsOf b p ≡ reduced rows rank state
+  reductions : reductionsOf pivotRule (chainCells b) p ≡ reduced rows rank state
   reads : Reads (sectionsOf b) p rows rank state report
 
 report-behind : (b : List ℕ) (p : ℕ) → Bytes b → (report : ℕ → ℤ) → ReportOf b p report → ReportBehind b p report
+unfolding chainCells
 report-behind b p bytes _ (claims.ReportOf.by-library limit report work f t e) =
     let d = report-answered limit b p report work bytes e in
     record {
@@ -202,9 +211,11 @@ coordinatesReduced b p bytes z c report of-z of-report f t counts j l =
 -- ==== The host calls
 
 pub hostReportNumbers : HostReportNumbers
+unfolding chainCells
 hostReportNumbers b p report bytes = host-report-answers b bytes p report
 
 pub hostCoordinateNumbers : HostCoordinateNumbers
+unfolding chainCells
 hostCoordinateNumbers b p chain coordinates bytes = host-coordinates-answer b bytes p chain coordinates
 
 pub hostReportLeft : HostReportLeft
@@ -214,6 +225,7 @@ pub hostCoordinatesLeft : HostCoordinatesLeft
 hostCoordinatesLeft b p chain coordinates bytes = host-coordinates-left b bytes p chain coordinates
 
 pub hostReports : HostReports
+unfolding chainCells
 hostReports b p report bytes e =
     let d = host-reported b bytes p report e in
     record {
@@ -224,6 +236,7 @@ hostReports b p report bytes e =
     }
 
 pub hostCoordinateCounts : HostCoordinateCounts
+unfolding chainCells
 hostCoordinateCounts b p chain coordinates bytes e =
     let d = host-coordinated b bytes p chain coordinates e in
     record { free = freeRank (d .rows) (d .rank); torsion = torsionCount (d .rank) (d .state); counts = has-counts (d .right); past = d .kept }

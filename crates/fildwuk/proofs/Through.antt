@@ -8,9 +8,9 @@ use lib.ListN.{length, take, drop}
 use lib.Seq.{take-append-le}
 use lib.IntN.{ℤ}
 use Rattle.complexes.specs.Complex.{count}
-use Rattle.sheet_format.specs.Check.{sectionsOf, countField}
+use Rattle.sheet_format.specs.Check.{chainCells, countField}
 use Rattle.sheet_format.specs.Sheet.{Bytes}
-use Rattle.sheet_format.specs.SheetLaws.{count-sectionsOf}
+use Rattle.sheet_format.specs.SheetLaws.{count-chainCells}
 use Rattle.refusal.specs.declared.Refusal.{Refusal}
 use Rattle.refusal.specs.Number.{numberOf}
 use Rattle.reports.specs.Call.{reportCall, coordinateCall}
@@ -51,8 +51,8 @@ module _ (limit : ℕ) (host : limit ≡ hostLimit) (b : List ℕ) (p : ℕ) (ou
     report-sizes = report-sized b bytes p slots work (x .free) (x .torsion) (rw host at (sym (a .answer)))
 
     module _ (cells many : ℕ) (is : cells ≡ countField b p) (all : many ≡ 2 + x .torsion + (x .torsion + x .free) * cells) where
-      cells-is : many ≡ 2 + x .torsion + (x .torsion + x .free) * count (sectionsOf b) p
-      cells-is = cc (all, is, count-sectionsOf b p)
+      cells-is : many ≡ 2 + x .torsion + (x .torsion + x .free) * count (chainCells b) p
+      cells-is = cc (all, is, count-chainCells b p)
 
       pub report-room : many ≤ length slots
       report-room = omega (arith, cells-is, report-sizes .fits)
@@ -71,7 +71,7 @@ module _ (limit : ℕ) (host : limit ≡ hostLimit) (b : List ℕ) (p : ℕ) (ou
 
 module _ (limit : ℕ) (host : limit ≡ hostLimit) (b : List ℕ) (p : ℕ) (output : List ℕ) (z slots work : List ℤ)
     (size : length slots ≡ min (slotsIn output) coordinateRoom) (space : length work ≡ workRoom) where
-  module _ (chain : List ℕ) (read : count (sectionsOf b) p ≤ hostLimit → z ≡ chainFrom (count (sectionsOf b) p) chain) where
+  module _ (chain : List ℕ) (read : count (chainCells b) p ≤ hostLimit → z ≡ chainFrom (count (chainCells b) p) chain) where
     pub coordinates-refuse : (x : Refusal) (after work′ : List ℤ) (n : ℕ) → CallAnswers (coordinateCall limit b p z slots work) (Refused x) after work′
         → n ≡ numberOf x → HostAnswers (hostCoordinates b p chain output) n output
     coordinates-refuse x after work′ n a e =
@@ -81,7 +81,7 @@ module _ (limit : ℕ) (host : limit ≡ hostLimit) (b : List ℕ) (p : ℕ) (ou
     pub coordinates-sizes : CoordinatesSized b p slots (x .free) (x .torsion)
     coordinates-sizes = coordinates-sized b bytes p z slots work (x .free) (x .torsion) (rw host at (sym (a .answer)))
 
-    module _ (chain : List ℕ) (read : count (sectionsOf b) p ≤ hostLimit → z ≡ chainFrom (count (sectionsOf b) p) chain) where
+    module _ (chain : List ℕ) (read : count (chainCells b) p ≤ hostLimit → z ≡ chainFrom (count (chainCells b) p) chain) where
       pub coordinates-write : (rest : List ℤ) (output′ : List ℕ) → length after ≡ length slots
           → output′ ≡ numbersBytes (take (x .torsion + x .free) (after ++ rest)) ++ drop (8 * (x .torsion + x .free)) output
           → HostAnswers (hostCoordinates b p chain output) 0 output′

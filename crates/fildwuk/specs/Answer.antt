@@ -4,7 +4,7 @@ use mathlib.Core.List.{List}
 use Prim.Native.Nat.{ℕ, _≤_}
 use lib.IntN.{ℤ}
 use Rattle.complexes.specs.Complex.{count}
-use Rattle.sheet_format.specs.Check.{sectionsOf}
+use Rattle.sheet_format.specs.Check.{chainCells}
 use Rattle.limits.specs.Limits.{hostLimit}
 use Rattle.reports.specs.Host.{HostCalled, chainFrom, hostCoordinates}
 
@@ -15,4 +15,4 @@ pub record HostAnswers (called : HostCalled) (r : ℕ) (output : List ℕ) : Typ
 
 -- the answer is right for each chain from whose bytes these coefficients were read
 pub record AnswersChain (b : List ℕ) (p : ℕ) (z : List ℤ) (output : List ℕ) (r : ℕ) (output′ : List ℕ) : Type 0 where
-  pub answers : (chain : List ℕ) → (count (sectionsOf b) p ≤ hostLimit → z ≡ chainFrom (count (sectionsOf b) p) chain) → HostAnswers (hostCoordinates b p chain output) r output′
+  pub answers : (chain : List ℕ) → (count (chainCells b) p ≤ hostLimit → z ≡ chainFrom (count (chainCells b) p) chain) → HostAnswers (hostCoordinates b p chain output) r output′

@@ -98,7 +98,7 @@ pub fn find_pivot(m: Matrix, w: &[i32], k: usize) -> Pivot
     requires { ⌜ Held (length (now w)) m ⌝ }
     requires { ⌜ Small (now w) ⌝ }
     requires { ⌜ k ≤ m .width ⌝ }
-    ensures { λ r. ⌜ pivotChoice r ≡ steps.release1 (m .lines) (m .width) k (contents m (now (w .entry))) ⌝ }
+    ensures { λ r. ⌜ pivotChoice r ≡ steps.pivotRule (m .lines) (m .width) k (contents m (now (w .entry))) ⌝ }
 {
     let mut best = Best::none();
     let mut i = k;

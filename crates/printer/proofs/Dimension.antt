@@ -8,9 +8,10 @@ use lib.ListN.{length, drop}
 use lib.IntN.{ℤ}
 use Rattle.complexes.specs.Complex.{count}
 use Rattle.sheet_format.specs.Layout.{top}
-use Rattle.sheet_format.specs.Check.{sectionsOf, countField, refusal}
+use Rattle.sheet_format.specs.Check.{chainCells, countField, refusal}
 use Rattle.sheet_format.specs.Sheet.{Bytes}
-use Rattle.sheet_format.specs.SheetLaws.{count-sectionsOf}
+use Rattle.sheet_format.specs.SheetLaws.{count-chainCells}
+use Rattle.reduction_steps.specs.Pivot.{pivotRule}
 use Rattle.refusal.specs.declared.Refusal.{Refusal}
 use Rattle.refusal.specs.Number.{numberOf}
 use Rattle.reports.specs.Report.{kind, reported, torsionCount, reportList}
@@ -32,7 +33,7 @@ use Rattle.calls.specs.Answer.{CallAnswers}
 
 -- the text of dimension p of the sheet b
 abbrev pub textOf : List ℕ → ℕ → List ℕ
-textOf b p = dimensionText p (count (sectionsOf b) p) (reductionsOf b p)
+textOf b p = dimensionText p (count (chainCells b) p) (reductionsOf pivotRule (chainCells b) p)
 
 -- what `put_report` asks for
 pub record ReportRoom (cells t f : ℕ) (report : List ℤ) : Type 0 where
@@ -53,7 +54,7 @@ module _ (limit : ℕ) (host : limit ≡ hostLimit) (b : List ℕ) (accepted : r
       w = accepted-refused b accepted p dimension report work size space (numberOf x) (rw host at (sym (a .answer)))
 
       same : refusalLine (numberOf x) ≡ textOf b p
-      same = ap refusalLine (w .number-is) ∙ ap (dimensionText p (count (sectionsOf b) p)) (sym (w .is-wide))
+      same = ap refusalLine (w .number-is) ∙ ap (dimensionText p (count (chainCells b) p)) (sym (w .is-wide))
 
   module _ (bytes : Bytes b) (x : Counts) (after work′ : List ℤ) (a : CallAnswers (reportCall limit b p report work) (Done x) after work′) where
     sizes : ReportSized b p report (x .free) (x .torsion)
@@ -64,7 +65,7 @@ module _ (limit : ℕ) (host : limit ≡ hostLimit) (b : List ℕ) (accepted : r
 
     pub done-room : (cells : ℕ) → cells ≡ countField b p → ReportRoom cells (x .torsion) (x .free) report
     done-room cells is =
-        rw (is ∙ sym (count-sectionsOf b p)) (record {
+        rw (is ∙ sym (count-chainCells b p)) (record {
           cells-within = sizes .is-sized .cells-within;
           torsion-within = omega (arith, sizes .is-sized .total-within);
           generators-within = sizes .is-sized .total-within;
@@ -78,11 +79,11 @@ module _ (limit : ℕ) (host : limit ≡ hostLimit) (b : List ℕ) (accepted : r
         s : Sized b p (x .free) (x .torsion)
         s = sizes .is-sized
 
-        c : ReducedWith (reductionsOf b p) (x .free) (x .torsion)
+        c : ReducedWith (reductionsOf pivotRule (chainCells b) p) (x .free) (x .torsion)
         c = s .counted
 
         n : ℕ
-        n = count (sectionsOf b) p
+        n = count (chainCells b) p
 
         rest : List ℤ
         rest = drop (length (reportList n (c .rows) (c .rank) (c .state))) report
@@ -97,7 +98,7 @@ module _ (limit : ℕ) (host : limit ≡ hostLimit) (b : List ℕ) (accepted : r
         total = sym (s .coordinates-size report) ∙ length-coordinateList n (c .rows) (c .state) report
 
         cells-are : cells ≡ n
-        cells-are = is ∙ sym (count-sectionsOf b p)
+        cells-are = is ∙ sym (count-chainCells b p)
 
         same : reportText p cells (x .torsion) (x .torsion + x .free) after ≡ textOf b p
         same =

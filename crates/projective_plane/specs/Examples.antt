@@ -15,10 +15,10 @@ use Rattle.matrices.specs.Operation.{onRows, onColumns, inverse}
 use Rattle.complexes.specs.Cell.{without, same, rises, precedes, listed}
 use Rattle.complexes.specs.Boundary.{sign, coefficient, countBelow, boundary}
 use Rattle.sheet_format.specs.Layout.{start}
-use Rattle.sheet_format.specs.Check.{countField, offsetField, cellOf, cellsOf, sectionsOf, some, verticesDoNotRise, cellsDoNotRise, faceMissing, refusal}
+use Rattle.sheet_format.specs.Check.{countField, offsetField, cellOf, cellsOf, sectionsOf, chainCells, some, verticesDoNotRise, cellsDoNotRise, faceMissing, refusal}
 use Rattle.reduction_steps.specs.Table.{table, rowWithin, tableWithin}
 use Rattle.reduction_steps.specs.State.{follow, rowOperation, columnOperation, within, checked, andThen, onRow, onColumn}
-use Rattle.reduction_steps.specs.Pivot.{better, alongRow, downRows, release1}
+use Rattle.reduction_steps.specs.Pivot.{better, alongRow, downRows, release1, pivotRule}
 use Rattle.reduction_steps.specs.Step.{columnKeeps, rowKeeps, rowIndivisible, firstIndivisible, positive, bring, quotient, rowPass, columnPass, next, step, run, reduce}
 use Rattle.reports.specs.Reductions.{tooWide, reduced, firstStart, product, secondStart, afterSecond, second, afterFirst, reductions}
 use Rattle.reports.specs.Report.{reported, columnsOf, torsionCount, reportList, coordinateAt, coordinateList}
@@ -28,9 +28,9 @@ use Rattle.reports.specs.WideEnd.{inFirst, inSecond, endOfSecond, endOfProduct,
 use Rattle.projective_plane.specs.Plane.{cells, sheet, left, report, loop, twice, backwards, text}
 
 -- ten rows of Q, ten pivots
-pub reductions-plane : reductionsOf sheet 1 ≡ reduced 10 10 left
+pub reductions-plane : reductionsOf pivotRule (chainCells sheet) 1 ≡ reduced 10 10 left
 unfolding reductionsOf reductions firstStart afterFirst second product secondStart afterSecond countBelow boundary coefficient sign
-    countField cellOf cellsOf sectionsOf without same start
+    countField cellOf cellsOf sectionsOf chainCells without same start
     reduce run step next bring positive quotient rowPass columnPass columnKeeps rowKeeps rowIndivisible firstIndivisible
     release1 downRows alongRow better onRow onColumn checked andThen within rowOperation columnOperation follow tableWithin rowWithin table
     onRows onColumns inverse identity null mul sum floor divides tabulate
@@ -51,11 +51,11 @@ pub record PlaneCalls : Type 0 where
   pub coordinate-loop : coordinateCall 256 sheet 1 loop (nines 15) (nines 600) ≡ gives (pos 1 ∷ []) (nines 14)
   pub coordinate-twice : coordinateCall 256 sheet 1 twice (nines 15) (nines 600) ≡ gives (pos 0 ∷ []) (nines 14)
   pub coordinate-backwards : coordinateCall 256 sheet 1 backwards (nines 15) (nines 600) ≡ gives (pos 1 ∷ []) (nines 14)
-  pub printed : dimensionText 1 15 (reductionsOf sheet 1) ≡ text
+  pub printed : dimensionText 1 15 (reductionsOf pivotRule (chainCells sheet) 1) ≡ text
 
 pub plane-calls : PlaneCalls
 unfolding reportCall coordinateCall callChecks chainChecks coefficientExceeds boundaryNotZero finished
-    refusal countField offsetField cellOf cellsOf sectionsOf some verticesDoNotRise cellsDoNotRise faceMissing without same rises precedes listed start
+    refusal countField offsetField cellOf cellsOf sectionsOf chainCells some verticesDoNotRise cellsDoNotRise faceMissing without same rises precedes listed start
     countBelow boundary coefficient sign apply sum floor modulo tabulate reportList coordinateList coordinateAt torsionCount columnsOf reported
     dimensionText generatorLines spaced decimal digits
 plane-calls = record {
@@ -69,8 +69,8 @@ plane-calls = record {
 -- ---- too wide at the entry limit 1: the order 2 stands in the matrix of dimension 2, and in the second reduction of dimension 1
 
 pub record PlaneWide : Type 0 where
-  pub first : end 1 cells 2 ≡ inFirst
-  pub second : end 1 cells 1 ≡ inSecond
+  pub first : end release1 1 cells 2 ≡ inFirst
+  pub second : end release1 1 cells 1 ≡ inSecond
 
 pub plane-wide : PlaneWide
 unfolding end endOfFirst endOfProduct endOfSecond firstStart product secondStart countBelow boundary coefficient sign without same
@@ -82,4 +82,4 @@ plane-wide = record { first = refl; second = refl }
 -- so the two reductions are too wide
 pub plane-too-wide : (reductions release1 1 cells 2 ≡ tooWide) × (reductions release1 1 cells 1 ≡ tooWide)
 unfolding endsWide
-plane-too-wide = (end-wide 1 cells 2 inFirst (plane-wide .first) refl, end-wide 1 cells 1 inSecond (plane-wide .second) refl)
+plane-too-wide = (end-wide release1 1 cells 2 inFirst (plane-wide .first) refl, end-wide release1 1 cells 1 inSecond (plane-wide .second) refl)

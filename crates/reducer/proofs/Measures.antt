@@ -8,8 +8,7 @@ use native.Mathlib.Omega.{arith}
 use lib.IntN.{natAbs}
 use Rattle.integers.specs.Division.{_∣ℤ_}
 use Rattle.matrices.specs.Matrix.{Matrix}
-use Rattle.reduction_steps.specs.Pivot.{Choice, none, place, release1}
-use Rattle.reduction_steps.specs.PivotLaws.{release1-is-rule}
+use Rattle.reduction_steps.specs.Pivot.{Choice, none, place, Rule, IsRule}
 use Rattle.reduction_steps.specs.Step.{Row, noRow, row, firstIndivisible}
 use Rattle.reduction_laws.specs.Scans.{Indivisible, firstIndivisible-none, firstIndivisible-row}
 use Rattle.reduction_laws.specs.Letters.{Smaller}
@@ -79,17 +78,17 @@ calls-fall n k A B l h x = omega (arith, calls-remain n k B l x, calls-divided n
 
 -- ---- the fall of the pivot
 
-module _ (m n k : ℕ) (A : Matrix) where
-  pub chosen-at : (i j : ℕ) → release1 m n k A ≡ place i j → sizeAt A (release1 m n k A) ≡ natAbs (A i j)
+module _ {rule : Rule} (is : IsRule rule) (m n k : ℕ) (A : Matrix) where
+  pub chosen-at : (i j : ℕ) → rule m n k A ≡ place i j → sizeAt A (rule m n k A) ≡ natAbs (A i j)
   unfolding sizeAt
   chosen-at i j e = rw e
 
   -- some nonzero entry is smaller than p
-  pub smaller-chosen : (p : ℕ) → Smaller m n k p A → sizeAt A (release1 m n k A) + 1 ≤ p
+  pub smaller-chosen : (p : ℕ) → Smaller m n k p A → sizeAt A (rule m n k A) + 1 ≤ p
   unfolding sizeAt
-  smaller-chosen p x = go (release1 m n k A) refl
+  smaller-chosen p x = go (rule m n k A) refl
     where
-      go : (c : Choice) → release1 m n k A ≡ c → sizeAt A c + 1 ≤ p
+      go : (c : Choice) → rule m n k A ≡ c → sizeAt A c + 1 ≤ p
       go none e = omega (arith, x .less)
       go (place i j) e =
-          omega (arith, x .less, release1-is-rule .chosen m n k A i j e .least (x .row) (x .column) (x .row-from) (x .row-below) (x .column-from) (x .column-below) (x .nonzero))
+          omega (arith, x .less, is .chosen m n k A i j e .least (x .row) (x .column) (x .row-from) (x .row-below) (x .column-from) (x .column-below) (x .nonzero))

@@ -7,8 +7,7 @@ use native.Mathlib.Numerals.{add-one}
 use native.Mathlib.Omega.{arith}
 use lib.IntN.{ℤ, pos, natAbs}
 use lib.ListN.{length, replicate}
-use Rattle.reduction_steps.specs.Pivot.{Choice, none, place, release1}
-use Rattle.reduction_steps.specs.PivotLaws.{release1-is-rule}
+use Rattle.reduction_steps.specs.Pivot.{Choice, none, place, Rule, IsRule}
 use Rattle.reduction_steps.specs.Step.{Letter, Machine, at, Ended}
 use Rattle.reduction_laws.specs.Run.{reaches-refl, reaches-trans}
 use Rattle.reduction_laws.specs.Ends.{reaches-reduce}
@@ -24,74 +23,74 @@ use Rattle.passes.proofs.States.{entry-state, shaped-state, within-state}
 use Rattle.passes.proofs.Words.{small-entry}
 
 -- from the slice w₀ the reduction has come to letter a of stage k with the slice w
-pub record Reducing (W : Layout) (w₀ : List ℤ) (k : ℕ) (w : List ℤ) : Type 0 where
+pub record Reducing (rule : Rule) (W : Layout) (w₀ : List ℤ) (k : ℕ) (w : List ℤ) : Type 0 where
   pub laid : Laid (length w₀) W
   pub small : Small w₀
-  pub goes : Goes W (at Letter.a 0 (stateOf W w₀)) (at Letter.a k (stateOf W w))
+  pub goes : Goes rule W (at Letter.a 0 (stateOf W w₀)) (at Letter.a k (stateOf W w))
   pub begun : Begun W k w
   pub same-length : length w ≡ length w₀
 
-pub reducing-start : {W : Layout} {w : List ℤ} → Laid (length w) W → Small w → Reducing W w 0 w
-reducing-start {W} {w} l s = record {
+pub reducing-start : {rule : Rule} {W : Layout} {w : List ℤ} → Laid (length w) W → Small w → Reducing rule W w 0 w
+reducing-start {rule} {W} {w} l s = record {
   laid = l;
   small = s;
-  goes = reaches-refl limit (sizesOf W) release1 (at Letter.a 0 (stateOf W w));
+  goes = reaches-refl limit (sizesOf W) rule (at Letter.a 0 (stateOf W w));
   begun = record { laid = l; small = s; row-bound = zero-le; column-bound = zero-le; rows-done = record { zero = λ i j a. absurd (omega arith) } };
   same-length = refl;
 }
 
 -- the entry to be chosen lies within the limit
-chosen-small : {W : Layout} {k : ℕ} {w : List ℤ} → Begun W k w → chosenSize W k w ≤ limit
+chosen-small : {rule : Rule} → IsRule rule → {W : Layout} {k : ℕ} {w : List ℤ} → Begun W k w → chosenSize rule W k w ≤ limit
 unfolding sizeAt
-chosen-small {W} {k} {w} h = go (release1 (W .matrix .lines) (W .matrix .width) k (matrixOf W w)) refl
+chosen-small {rule} is {W} {k} {w} h = go (rule (W .matrix .lines) (W .matrix .width) k (matrixOf W w)) refl
   where
-    go : (c : Choice) → release1 (W .matrix .lines) (W .matrix .width) k (matrixOf W w) ≡ c → sizeAt (matrixOf W w) c ≤ limit
+    go : (c : Choice) → rule (W .matrix .lines) (W .matrix .width) k (matrixOf W w) ≡ c → sizeAt (matrixOf W w) c ≤ limit
     go none e = omega arith
     go (place i j) e =
-        let l = release1-is-rule .chosen (W .matrix .lines) (W .matrix .width) k (matrixOf W w) i j e in
+        let l = is .chosen (W .matrix .lines) (W .matrix .width) k (matrixOf W w) i j e in
         subst (λ (x : ℤ). natAbs x ≤ limit) (sym (entry-state W w i j (l .row-below) (l .column-below))) (small-entry (W .matrix) (h .small) i j)
 
 -- The measure of the loop: a stage more counts for more than any entry, and within a stage the entry to be chosen falls.
-abbrev pub stagesLeft : Layout → ℕ → List ℤ → ℕ
-stagesLeft W k w = (W .matrix .lines - k) * suc limit + chosenSize W k w
+abbrev pub stagesLeft : Rule → Layout → ℕ → List ℤ → ℕ
+stagesLeft rule W k w = (W .matrix .lines - k) * suc limit + chosenSize rule W k w
 
-module _ {W : Layout} {w₀ : List ℤ} {k : ℕ} {w : List ℤ} (h : Reducing W w₀ k w) where
+module _ {rule : Rule} {W : Layout} {w₀ : List ℤ} {k : ℕ} {w : List ℤ} (h : Reducing rule W w₀ k w) where
   -- the machine comes to letter a of stage l
-  onward : {l : ℕ} {w′ : List ℤ} → Goes W (at Letter.a k (stateOf W w)) (at Letter.a l (stateOf W w′)) → Begun W l w′ → length w′ ≡ length w → Reducing W w₀ l w′
-  onward g b s = record { laid = h .laid; small = h .small; goes = reaches-trans limit (sizesOf W) release1 (h .goes) g; begun = b; same-length = s ∙ h .same-length }
+  onward : {l : ℕ} {w′ : List ℤ} → Goes rule W (at Letter.a k (stateOf W w)) (at Letter.a l (stateOf W w′)) → Begun W l w′ → length w′ ≡ length w → Reducing rule W w₀ l w′
+  onward g b s = record { laid = h .laid; small = h .small; goes = reaches-trans limit (sizesOf W) rule (h .goes) g; begun = b; same-length = s ∙ h .same-length }
 
-  ended : {y : Machine} → Goes W (at Letter.a k (stateOf W w)) y → Ended y → reductionOf W w₀ ≡ y
-  ended g = reaches-reduce limit (sizesOf W) release1 release1-is-rule (stateOf W w₀) (shaped-state w₀ (h .laid)) (within-state W w₀ (h .small)) (reaches-trans limit (sizesOf W) release1 (h .goes) g)
+  ended : IsRule rule → {y : Machine} → Goes rule W (at Letter.a k (stateOf W w)) y → Ended y → reductionOf rule W w₀ ≡ y
+  ended is g = reaches-reduce limit (sizesOf W) rule is (stateOf W w₀) (shaped-state w₀ (h .laid)) (within-state W w₀ (h .small)) (reaches-trans limit (sizesOf W) rule (h .goes) g)
 
 -- the stage k that begins with the slice w has come to r and the slice w′
-module _ {W : Layout} {w₀ : List ℤ} {k : ℕ} {w : List ℤ} (h : Reducing W w₀ k w) (rounds : ℕ) {r : Stage} (w′ : List ℤ) (e : ChoiceEnds W k rounds w r w′) where
-  ends-as : {r′ : Stage} → r ≡ r′ → ChoiceEnds W k rounds w r′ w′
-  ends-as i = subst (λ (r : Stage). ChoiceEnds W k rounds w r w′) i e
+module _ {rule : Rule} (is : IsRule rule) {W : Layout} {w₀ : List ℤ} {k : ℕ} {w : List ℤ} (h : Reducing rule W w₀ k w) (rounds : ℕ) {r : Stage} (w′ : List ℤ) (e : ChoiceEnds rule W k rounds w r w′) where
+  ends-as : {r′ : Stage} → r ≡ r′ → ChoiceEnds rule W k rounds w r′ w′
+  ends-as i = subst (λ (r : Stage). ChoiceEnds rule W k rounds w r w′) i e
 
-  pub reducing-next : r ≡ stage.Cleared → Reducing W w₀ (k + 1) w′
-  reducing-next i = let c = ends-as i in subst (λ (n : ℕ). Reducing W w₀ n w′) (sym (add-one k)) (onward h (c .goes) (c .begun) (c .same-length))
+  pub reducing-next : r ≡ stage.Cleared → Reducing rule W w₀ (k + 1) w′
+  reducing-next i = let c = ends-as i in subst (λ (n : ℕ). Reducing rule W w₀ n w′) (sym (add-one k)) (onward h (c .goes) (c .begun) (c .same-length))
 
-  pub next-less : r ≡ stage.Cleared → stagesLeft W (k + 1) w′ < stagesLeft W k w
-  next-less i = let n = reducing-next i in omega (arith, n .begun .row-bound, chosen-small (n .begun))
+  pub next-less : r ≡ stage.Cleared → stagesLeft rule W (k + 1) w′ < stagesLeft rule W k w
+  next-less i = let n = reducing-next i in omega (arith, n .begun .row-bound, chosen-small is (n .begun))
 
-  pub reducing-again : r ≡ stage.Again → Reducing W w₀ k w′
+  pub reducing-again : r ≡ stage.Again → Reducing rule W w₀ k w′
   reducing-again i = let c = ends-as i in onward h (c .goes) (c .begun) (c .same-length)
 
-  pub again-less : 0 < rounds → r ≡ stage.Again → stagesLeft W k w′ < stagesLeft W k w
+  pub again-less : 0 < rounds → r ≡ stage.Again → stagesLeft rule W k w′ < stagesLeft rule W k w
   again-less p i = omega (arith, ends-as i .falls)
 
-  pub reduced : r ≡ stage.Exhausted → ReductionDone W (reductionOf W w₀) (length w₀) k w′
+  pub reduced : r ≡ stage.Exhausted → ReductionDone W (reductionOf rule W w₀) (length w₀) k w′
   reduced i =
       let c = ends-as i in
       record {
-        outcome = ended h (c .goes) tt;
+        outcome = ended h is (c .goes) tt;
         kept = record { same-length = c .kept .same-length ∙ h .same-length; small = c .kept .small };
       }
 
-  pub reduction-refused : {y : Refusal} → r ≡ stage.Refused y → ReductionRefused (reductionOf W w₀) (length w₀) y w′
+  pub reduction-refused : {y : Refusal} → r ≡ stage.Refused y → ReductionRefused (reductionOf rule W w₀) (length w₀) y w′
   reduction-refused i =
       let c = ends-as i in
       record {
-        outcome = ended h (c .goes) tt;
+        outcome = ended h is (c .goes) tt;
         cleared = record { number = c .cleared .number; zeros = c .cleared .zeros ∙ ap (λ (n : ℕ). replicate n (pos 0)) (h .same-length) };
       }

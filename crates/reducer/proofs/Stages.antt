@@ -14,8 +14,7 @@ use Rattle.integers.specs.Division.{_∣ℤ_}
 use Rattle.integers.specs.Floor.{dvd-iff-modulo, natAbs-modulo}
 use Rattle.matrices.specs.Operation.{subtract}
 use Rattle.reduction_steps.specs.State.{Outcome, tooWide, made, onRow}
-use Rattle.reduction_steps.specs.Pivot.{Choice, none, place, release1, Least}
-use Rattle.reduction_steps.specs.PivotLaws.{release1-is-rule, release1-cong}
+use Rattle.reduction_steps.specs.Pivot.{Choice, none, place, Rule, IsRule, Least}
 use Rattle.reduction_steps.specs.Step.{Letter, Machine, at, wide, columnKeeps, rowKeeps, firstIndivisible, Row, noRow, row}
 use Rattle.reduction_laws.specs.Run.{reaches-refl, reaches-next, reaches-trans}
 use Rattle.reduction_laws.specs.Shape.{Shaped}
@@ -41,60 +40,60 @@ use Rattle.reducer.proofs.Measures.{columnCalls, calls-fall, chosen-at,
 
 -- From the machine x the layout has come to letter l with the slice w′, of which P holds. The absolute value to be brought down, which was `bound`, has
 -- fallen by `spent` at least.
-pub record Onward (P : Layout → ℕ → List ℤ → Type 0) (size : Layout → ℕ → List ℤ → ℕ) (l : Letter) (W : Layout) (k : ℕ) (x : Machine) (n spent bound : ℕ) (w′ : List ℤ) : Type 0 where
+pub record Onward (rule : Rule) (P : Layout → ℕ → List ℤ → Type 0) (size : Layout → ℕ → List ℤ → ℕ) (l : Letter) (W : Layout) (k : ℕ) (x : Machine) (n spent bound : ℕ) (w′ : List ℤ) : Type 0 where
   pub holds : P W k w′
   pub falls : size W k w′ + spent ≤ bound
-  pub goes : Goes W x (at l k (stateOf W w′))
+  pub goes : Goes rule W x (at l k (stateOf W w′))
   pub same-length : length w′ ≡ n
 
 -- from the choice to the row pass
-abbrev pub ToRows : Layout → ℕ → List ℤ → List ℤ → Type 0
-ToRows W k w w′ = Onward Placed pivotSize Letter.c W k (at Letter.a k (stateOf W w)) (length w) 0 (chosenSize W k w) w′
+abbrev pub ToRows : Rule → Layout → ℕ → List ℤ → List ℤ → Type 0
+ToRows rule W k w w′ = Onward rule Placed pivotSize Letter.c W k (at Letter.a k (stateOf W w)) (length w) 0 (chosenSize rule W k w) w′
 
 -- from letter l back to the choice
-abbrev pub ToChoice : Letter → Layout → ℕ → List ℤ → List ℤ → Type 0
-ToChoice l W k w w′ = Onward Begun chosenSize Letter.a W k (at l k (stateOf W w)) (length w) 1 (pivotSize W k w) w′
+abbrev pub ToChoice : Rule → Letter → Layout → ℕ → List ℤ → List ℤ → Type 0
+ToChoice rule l W k w w′ = Onward rule Begun (chosenSize rule) Letter.a W k (at l k (stateOf W w)) (length w) 1 (pivotSize W k w) w′
 
 -- from letter l to the column pass: from the row pass, or after step e
-abbrev pub ToColumns : Letter → Layout → ℕ → List ℤ → List ℤ → Type 0
-ToColumns l W k w w′ = Onward ColumnClear pivotSize Letter.d W k (at l k (stateOf W w)) (length w) 0 (pivotSize W k w) w′
+abbrev pub ToColumns : Rule → Letter → Layout → ℕ → List ℤ → List ℤ → Type 0
+ToColumns rule l W k w w′ = Onward rule ColumnClear pivotSize Letter.d W k (at l k (stateOf W w)) (length w) 0 (pivotSize W k w) w′
 
 -- a stage that goes on from y ends as one from x that comes to y
 pub stage-after :
-    (W : Layout) (k rounds′ rounds size′ size : ℕ) (x y : Machine) (n : ℕ) (w : List ℤ) (r : Stage) (w′ : List ℤ) → size′ + rounds ≤ size + rounds′ → Goes W x y → length w ≡ n
-    → StageEnds W k rounds′ size′ y (length w) r w′ → StageEnds W k rounds size x n r w′
-stage-after W k rounds′ rounds size′ size x y n w stage.Cleared w′ b g l e = record {
-  goes = reaches-trans limit (sizesOf W) release1 g (e .goes);
+    {rule : Rule} (W : Layout) (k rounds′ rounds size′ size : ℕ) (x y : Machine) (n : ℕ) (w : List ℤ) (r : Stage) (w′ : List ℤ) → size′ + rounds ≤ size + rounds′ → Goes rule W x y → length w ≡ n
+    → StageEnds rule W k rounds′ size′ y (length w) r w′ → StageEnds rule W k rounds size x n r w′
+stage-after {rule} W k rounds′ rounds size′ size x y n w stage.Cleared w′ b g l e = record {
+  goes = reaches-trans limit (sizesOf W) rule g (e .goes);
   begun = e .begun;
   same-length = e .same-length ∙ l;
 }
-stage-after W k rounds′ rounds size′ size x y n w stage.Exhausted w′ b g l e = record {
-  goes = reaches-trans limit (sizesOf W) release1 g (e .goes);
+stage-after {rule} W k rounds′ rounds size′ size x y n w stage.Exhausted w′ b g l e = record {
+  goes = reaches-trans limit (sizesOf W) rule g (e .goes);
   kept = record { same-length = e .kept .same-length ∙ l; small = e .kept .small };
 }
-stage-after W k rounds′ rounds size′ size x y n w stage.Again w′ b g l e = record {
-  goes = reaches-trans limit (sizesOf W) release1 g (e .goes);
+stage-after {rule} W k rounds′ rounds size′ size x y n w stage.Again w′ b g l e = record {
+  goes = reaches-trans limit (sizesOf W) rule g (e .goes);
   begun = e .begun;
   falls = omega (arith, e .falls);
   same-length = e .same-length ∙ l;
 }
-stage-after W k rounds′ rounds size′ size x y n w (stage.Refused z) w′ b g l e = record {
-  goes = reaches-trans limit (sizesOf W) release1 g (e .goes);
+stage-after {rule} W k rounds′ rounds size′ size x y n w (stage.Refused z) w′ b g l e = record {
+  goes = reaches-trans limit (sizesOf W) rule g (e .goes);
   cleared = record { number = e .cleared .number; zeros = e .cleared .zeros ∙ ap (λ (n : ℕ). replicate n (pos 0)) l };
 }
 
 -- what is spent is the rounds that the callee does not count
 pub onward-ends :
-    {P : Layout → ℕ → List ℤ → Type 0} {size : Layout → ℕ → List ℤ → ℕ} {l : Letter} {W : Layout} {k : ℕ} {x : Machine} {n spent bound : ℕ} {w : List ℤ}
-    → Onward P size l W k x n spent bound w → (rounds′ rounds : ℕ) → rounds ≤ rounds′ + spent → (r : Stage) (w′ : List ℤ)
-    → StageEnds W k rounds′ (size W k w) (at l k (stateOf W w)) (length w) r w′ → StageEnds W k rounds bound x n r w′
-onward-ends {P} {size} {l} {W} {k} {x} {n} {spent} {bound} {w} o rounds′ rounds b r w′ e =
+    {rule : Rule} {P : Layout → ℕ → List ℤ → Type 0} {size : Layout → ℕ → List ℤ → ℕ} {l : Letter} {W : Layout} {k : ℕ} {x : Machine} {n spent bound : ℕ} {w : List ℤ}
+    → Onward rule P size l W k x n spent bound w → (rounds′ rounds : ℕ) → rounds ≤ rounds′ + spent → (r : Stage) (w′ : List ℤ)
+    → StageEnds rule W k rounds′ (size W k w) (at l k (stateOf W w)) (length w) r w′ → StageEnds rule W k rounds bound x n r w′
+onward-ends {rule} {P} {size} {l} {W} {k} {x} {n} {spent} {bound} {w} o rounds′ rounds b r w′ e =
     stage-after W k rounds′ rounds (size W k w) bound x (at l k (stateOf W w)) n w r w′ (omega (arith, o .falls)) (o .goes) (o .same-length) e
 
 -- no round is left, and the stage stays at letter a
-pub again : {W : Layout} {k : ℕ} {w : List ℤ} → Begun W k w → (rounds : ℕ) → rounds ≡ 0 → StageAgain W k rounds (chosenSize W k w) (at Letter.a k (stateOf W w)) (length w) w
-again {W} {k} {w} h rounds e = record {
-  goes = reaches-refl limit (sizesOf W) release1 (at Letter.a k (stateOf W w));
+pub again : {rule : Rule} {W : Layout} {k : ℕ} {w : List ℤ} → Begun W k w → (rounds : ℕ) → rounds ≡ 0 → StageAgain rule W k rounds (chosenSize rule W k w) (at Letter.a k (stateOf W w)) (length w) w
+again {rule} {W} {k} {w} h rounds e = record {
+  goes = reaches-refl limit (sizesOf W) rule (at Letter.a k (stateOf W w));
   begun = h;
   falls = omega arith;
   same-length = refl;
@@ -106,43 +105,43 @@ passed-made {W} {o} {n} {r} {w′} e h = subst (λ (x : Pass). Passed W o n x w�
 
 -- a pass that went too wide ends the stage
 pub pass-stops :
-    (W : Layout) (x : Machine) {o : Outcome} {n : ℕ} (r : Pass) {y : Refusal} (w′ : List ℤ) → (o ≡ tooWide → Goes W x wide) → r ≡ pass.Refused y → Passed W o n r w′
-    → StageRefused W x n refusal.TooWide w′
+    {rule : Rule} (W : Layout) (x : Machine) {o : Outcome} {n : ℕ} (r : Pass) {y : Refusal} (w′ : List ℤ) → (o ≡ tooWide → Goes rule W x wide) → r ≡ pass.Refused y → Passed W o n r w′
+    → StageRefused rule W x n refusal.TooWide w′
 pass-stops W x {o} {n} r {y} w′ f e h =
     let p : PassRefused o n y w′ = subst (λ (x : Pass). Passed W o n x w′) e h in
     record { goes = f (p .outcome); cleared = record { number = refl; zeros = p .cleared .zeros } }
 
 -- ---- letter a
 
-module _ (W : Layout) (k : ℕ) (w : List ℤ) where
+module _ {rule : Rule} (is : IsRule rule) (W : Layout) (k : ℕ) (w : List ℤ) where
   -- the rule's choice, read from the slice
-  choice-state : release1 (W .matrix .lines) (W .matrix .width) k (contents (W .matrix) w) ≡ release1 (W .matrix .lines) (W .matrix .width) k (matrixOf W w)
-  choice-state = release1-cong (W .matrix .lines) (W .matrix .width) k (contents (W .matrix) w) (matrixOf W w) (λ i j _ a _ b. sym (entry-state W w i j a b))
+  choice-state : rule (W .matrix .lines) (W .matrix .width) k (contents (W .matrix) w) ≡ rule (W .matrix .lines) (W .matrix .width) k (matrixOf W w)
+  choice-state = is .block (W .matrix .lines) (W .matrix .width) k (contents (W .matrix) w) (matrixOf W w) (λ i j _ a _ b. sym (entry-state W w i j a b))
 
   -- the choice that the code makes
   abbrev pub Chosen : Choice → Type 0
-  Chosen c = c ≡ release1 (W .matrix .lines) (W .matrix .width) k (contents (W .matrix) w)
+  Chosen c = c ≡ rule (W .matrix .lines) (W .matrix .width) k (contents (W .matrix) w)
 
-  pub exhausted : Begun W k w → Chosen none → StageExhausted W k (at Letter.a k (stateOf W w)) (length w) w
+  pub exhausted : Begun W k w → Chosen none → StageExhausted rule W k (at Letter.a k (stateOf W w)) (length w) w
   exhausted h e = record {
-    goes = reaches-next limit (sizesOf W) release1 (step-a-none limit (sizesOf W) release1 k (stateOf W w) (sym choice-state ∙ sym e));
+    goes = reaches-next limit (sizesOf W) rule (step-a-none limit (sizesOf W) rule k (stateOf W w) (sym choice-state ∙ sym e));
     kept = record { same-length = refl; small = h .small };
   }
 
   module _ (i j : ℕ) (e : Chosen (place i j)) where
     pub chosen-least : Least (W .matrix .lines) (W .matrix .width) k (matrixOf W w) i j
-    chosen-least = release1-is-rule .chosen (W .matrix .lines) (W .matrix .width) k (matrixOf W w) i j (sym choice-state ∙ sym e)
+    chosen-least = is .chosen (W .matrix .lines) (W .matrix .width) k (matrixOf W w) i j (sym choice-state ∙ sym e)
 
-    pub bring-goes : bringOf W k i j w ≡ tooWide → Goes W (at Letter.a k (stateOf W w)) wide
-    bring-goes o = reaches-next limit (sizesOf W) release1 (step-a-wide limit (sizesOf W) release1 k (stateOf W w) i j (sym choice-state ∙ sym e) o)
+    pub bring-goes : bringOf W k i j w ≡ tooWide → Goes rule W (at Letter.a k (stateOf W w)) wide
+    bring-goes o = reaches-next limit (sizesOf W) rule (step-a-wide limit (sizesOf W) rule k (stateOf W w) i j (sym choice-state ∙ sym e) o)
 
     pub to-rows :
         {w′ : List ℤ} → Begun W k w → PassMade W (bringOf W k i j w) (length w) w′
-        → ToRows W k w w′
+        → ToRows rule W k w w′
     to-rows {w′} h p = record {
       holds = record { laid = laid-kept w′ (h .laid) (p .kept .same-length); small = p .kept .small; ready = after .ready; rows-done = rowsDone-moves (after .moves) shaped (h .rows-done) };
-      falls = omega (arith, after .size, chosen-at (W .matrix .lines) (W .matrix .width) k (matrixOf W w) i j (sym choice-state ∙ sym e));
-      goes = reaches-next limit (sizesOf W) release1 (step-a-made limit (sizesOf W) release1 k (stateOf W w) i j (stateOf W w′) (sym choice-state ∙ sym e) (p .outcome));
+      falls = omega (arith, after .size, chosen-at is (W .matrix .lines) (W .matrix .width) k (matrixOf W w) i j (sym choice-state ∙ sym e));
+      goes = reaches-next limit (sizesOf W) rule (step-a-made limit (sizesOf W) rule k (stateOf W w) i j (stateOf W w′) (sym choice-state ∙ sym e) (p .outcome));
       same-length = p .kept .same-length;
     }
       where
@@ -154,9 +153,9 @@ module _ (W : Layout) (k : ℕ) (w : List ℤ) where
 
 -- ---- letter c
 
-module _ {W : Layout} {k : ℕ} {w : List ℤ} (h : Placed W k w) where
-  pub rows-go : rowPassOf W k w ≡ tooWide → Goes W (at Letter.c k (stateOf W w)) wide
-  rows-go o = reaches-next limit (sizesOf W) release1 (step-c-wide limit (sizesOf W) release1 k (stateOf W w) o)
+module _ {rule : Rule} (is : IsRule rule) {W : Layout} {k : ℕ} {w : List ℤ} (h : Placed W k w) where
+  pub rows-go : rowPassOf W k w ≡ tooWide → Goes rule W (at Letter.c k (stateOf W w)) wide
+  rows-go o = reaches-next limit (sizesOf W) rule (step-c-wide limit (sizesOf W) rule k (stateOf W w) o)
 
   module _ {w′ : List ℤ} (p : PassMade W (rowPassOf W k w) (length w) w′) where
     after-rows : AfterC limit (sizesOf W) k (stateOf W w) (stateOf W w′)
@@ -184,16 +183,16 @@ module _ {W : Layout} {k : ℕ} {w : List ℤ} (h : Placed W k w) where
         (λ i _ l. entry-state W w′ i k (omega (arith, h .ready .row)) (h .ready .column))
         ∙ sym e
 
-    rows-goes : (b : Bool) → b ≡ columnKeeps (contents (W .matrix) w′) k (W .matrix .lines - suc k) (suc k) → Goes W (at Letter.c k (stateOf W w)) (at (elim b [ true ↦ Letter.a | false ↦ Letter.d ]) k (stateOf W w′))
-    rows-goes true e = reaches-next limit (sizesOf W) release1 (step-c-made limit (sizesOf W) release1 k (stateOf W w) (stateOf W w′) true (p .outcome) (column-test true e))
-    rows-goes false e = reaches-next limit (sizesOf W) release1 (step-c-made limit (sizesOf W) release1 k (stateOf W w) (stateOf W w′) false (p .outcome) (column-test false e))
+    rows-goes : (b : Bool) → b ≡ columnKeeps (contents (W .matrix) w′) k (W .matrix .lines - suc k) (suc k) → Goes rule W (at Letter.c k (stateOf W w)) (at (elim b [ true ↦ Letter.a | false ↦ Letter.d ]) k (stateOf W w′))
+    rows-goes true e = reaches-next limit (sizesOf W) rule (step-c-made limit (sizesOf W) rule k (stateOf W w) (stateOf W w′) true (p .outcome) (column-test true e))
+    rows-goes false e = reaches-next limit (sizesOf W) rule (step-c-made limit (sizesOf W) rule k (stateOf W w) (stateOf W w′) false (p .outcome) (column-test false e))
 
     pub rows-to-choice :
         true ≡ columnKeeps (contents (W .matrix) w′) k (W .matrix .lines - suc k) (suc k)
-        → ToChoice Letter.c W k w w′
+        → ToChoice rule Letter.c W k w w′
     rows-to-choice e = record {
       holds = record { laid = rows-laid; small = p .kept .small; row-bound = Nat.le-of-lt (h .ready .row); column-bound = Nat.le-of-lt (h .ready .column); rows-done = rows-still-done };
-      falls = smaller-chosen (W .matrix .lines) (W .matrix .width) k (matrixOf W w′) (pivotSize W k w)
+      falls = smaller-chosen is (W .matrix .lines) (W .matrix .width) k (matrixOf W w′) (pivotSize W k w)
           (after-c-keeps limit (sizesOf W) k (stateOf W w) (stateOf W w′) (h .ready) after-rows (column-test true e));
       goes = rows-goes true e;
       same-length = p .kept .same-length;
@@ -201,7 +200,7 @@ module _ {W : Layout} {k : ℕ} {w : List ℤ} (h : Placed W k w) where
 
     pub rows-to-columns :
         false ≡ columnKeeps (contents (W .matrix) w′) k (W .matrix .lines - suc k) (suc k)
-        → ToColumns Letter.c W k w w′
+        → ToColumns rule Letter.c W k w w′
     rows-to-columns e = record {
       holds = record { laid = rows-laid; small = p .kept .small; ready = after-c-clear limit (sizesOf W) k (stateOf W w) (stateOf W w′) after-rows (column-test false e); rows-done = rows-still-done };
       falls = omega (arith, ap natAbs (after-rows .pivot));
@@ -212,19 +211,19 @@ module _ {W : Layout} {k : ℕ} {w : List ℤ} (h : Placed W k w) where
 -- ---- letter d
 
 -- after a column pass that has cleared row k: letter e
-pub record RowClear (W : Layout) (k : ℕ) (w w′ : List ℤ) : Type 0 where
+pub record RowClear (rule : Rule) (W : Layout) (k : ℕ) (w w′ : List ℤ) : Type 0 where
   pub laid : Laid (length w′) W
   pub small : Small w′
   pub ready : ReadyE (sizesOf W) k (stateOf W w′)
   pub rows-done : RowsDone W k w′
-  pub goes : Goes W (at Letter.d k (stateOf W w)) (at Letter.e k (stateOf W w′))
+  pub goes : Goes rule W (at Letter.d k (stateOf W w)) (at Letter.e k (stateOf W w′))
   pub pivot : matrixOf W w′ k k ≡ matrixOf W w k k
   pub divided : (j : ℕ) → k < j → j < W .matrix .width → matrixOf W w k k ∣ℤ matrixOf W w k j
   pub same-length : length w′ ≡ length w
 
-module _ {W : Layout} {k : ℕ} {w : List ℤ} (h : ColumnClear W k w) where
-  pub columns-go : columnPassOf W k w ≡ tooWide → Goes W (at Letter.d k (stateOf W w)) wide
-  columns-go o = reaches-next limit (sizesOf W) release1 (step-d-wide limit (sizesOf W) release1 k (stateOf W w) o)
+module _ {rule : Rule} (is : IsRule rule) {W : Layout} {k : ℕ} {w : List ℤ} (h : ColumnClear W k w) where
+  pub columns-go : columnPassOf W k w ≡ tooWide → Goes rule W (at Letter.d k (stateOf W w)) wide
+  columns-go o = reaches-next limit (sizesOf W) rule (step-d-wide limit (sizesOf W) rule k (stateOf W w) o)
 
   module _ {w′ : List ℤ} (p : PassMade W (columnPassOf W k w) (length w) w′) where
     after-columns : AfterD limit (sizesOf W) k (stateOf W w) (stateOf W w′)
@@ -244,22 +243,22 @@ module _ {W : Layout} {k : ℕ} {w : List ℤ} (h : ColumnClear W k w) where
 
     pub columns-to-choice :
         true ≡ rowKeeps (contents (W .matrix) w′) k (W .matrix .width - suc k) (suc k)
-        → ToChoice Letter.d W k w w′
+        → ToChoice rule Letter.d W k w w′
     columns-to-choice e = record {
       holds = record { laid = columns-laid; small = p .kept .small; row-bound = Nat.le-of-lt (h .ready .ready .row); column-bound = Nat.le-of-lt (h .ready .ready .column); rows-done = columns-rows-done };
-      falls = smaller-chosen (W .matrix .lines) (W .matrix .width) k (matrixOf W w′) (pivotSize W k w)
+      falls = smaller-chosen is (W .matrix .lines) (W .matrix .width) k (matrixOf W w′) (pivotSize W k w)
           (after-d-keeps limit (sizesOf W) k (stateOf W w) (stateOf W w′) (h .ready) after-columns (row-test true e));
-      goes = reaches-next limit (sizesOf W) release1 (step-d-made limit (sizesOf W) release1 k (stateOf W w) (stateOf W w′) true (p .outcome) (row-test true e));
+      goes = reaches-next limit (sizesOf W) rule (step-d-made limit (sizesOf W) rule k (stateOf W w) (stateOf W w′) true (p .outcome) (row-test true e));
       same-length = p .kept .same-length;
     }
 
-    pub row-clear : false ≡ rowKeeps (contents (W .matrix) w′) k (W .matrix .width - suc k) (suc k) → RowClear W k w w′
+    pub row-clear : false ≡ rowKeeps (contents (W .matrix) w′) k (W .matrix .width - suc k) (suc k) → RowClear rule W k w w′
     row-clear e = record {
       laid = columns-laid;
       small = p .kept .small;
       ready = ready;
       rows-done = columns-rows-done;
-      goes = reaches-next limit (sizesOf W) release1 (step-d-made limit (sizesOf W) release1 k (stateOf W w) (stateOf W w′) false (p .outcome) (row-test false e));
+      goes = reaches-next limit (sizesOf W) rule (step-d-made limit (sizesOf W) rule k (stateOf W w) (stateOf W w′) false (p .outcome) (row-test false e));
       pivot = after-columns .pivot;
       divided = λ j a b. dvd-iff-modulo (matrixOf W w k j) (matrixOf W w k k) (h .ready .ready .positive) .1 (sym (after-columns .remainder j a b) ∙ ready .right j a b);
       same-length = p .kept .same-length;
@@ -271,11 +270,11 @@ module _ {W : Layout} {k : ℕ} {w : List ℤ} (h : ColumnClear W k w) where
 -- ---- letter e
 
 -- from the column pass to the column pass after step e, which calls no further one
-pub record ColumnsAgain (W : Layout) (k : ℕ) (w w′ : List ℤ) : Type 0 where
-  pub onward : ToColumns Letter.d W k w w′
+pub record ColumnsAgain (rule : Rule) (W : Layout) (k : ℕ) (w w′ : List ℤ) : Type 0 where
+  pub onward : ToColumns rule Letter.d W k w w′
   pub calls : columnCalls (W .matrix .width) k (matrixOf W w′) < columnCalls (W .matrix .width) k (matrixOf W w)
 
-module _ {W : Layout} {k : ℕ} {w w′ : List ℤ} (h : RowClear W k w w′) where
+module _ {rule : Rule} {W : Layout} {k : ℕ} {w w′ : List ℤ} (h : RowClear rule W k w w′) where
   ready-pivot : ReadyC (sizesOf W) k (stateOf W w′)
   ready-pivot = h .ready .ready .ready
 
@@ -290,9 +289,9 @@ module _ {W : Layout} {k : ℕ} {w w′ : List ℤ} (h : RowClear W k w w′) wh
       (λ i j _ a _ b. entry-state W w′ i j (omega (arith, ready-pivot .row)) (omega (arith, ready-pivot .column)))
       ∙ sym e
 
-  pub cleared : Found noRow → StageCleared W k (at Letter.d k (stateOf W w)) (length w) w′
+  pub cleared : Found noRow → StageCleared rule W k (at Letter.d k (stateOf W w)) (length w) w′
   cleared e = record {
-    goes = reaches-trans limit (sizesOf W) release1 (h .goes) (reaches-next limit (sizesOf W) release1 (step-e-none limit (sizesOf W) release1 k (stateOf W w′) (found-state noRow e)));
+    goes = reaches-trans limit (sizesOf W) rule (h .goes) (reaches-next limit (sizesOf W) rule (step-e-none limit (sizesOf W) rule k (stateOf W w′) (found-state noRow e)));
     begun = record {
       laid = h .laid;
       small = h .small;
@@ -317,23 +316,23 @@ module _ {W : Layout} {k : ℕ} {w w′ : List ℤ} (h : RowClear W k w w′) wh
     pub row-within : i < W .matrix .lines
     row-within = omega (arith, found-row .below, ready-pivot .row)
 
-    add-goes : onRow limit (sizesOf W) (subtract k i (negsuc 0)) (stateOf W w′) ≡ tooWide → Goes W (at Letter.d k (stateOf W w)) wide
-    add-goes o = reaches-trans limit (sizesOf W) release1 (h .goes) (reaches-next limit (sizesOf W) release1 (step-e-wide limit (sizesOf W) release1 k (stateOf W w′) i (found-state (row i) e) o))
+    add-goes : onRow limit (sizesOf W) (subtract k i (negsuc 0)) (stateOf W w′) ≡ tooWide → Goes rule W (at Letter.d k (stateOf W w)) wide
+    add-goes o = reaches-trans limit (sizesOf W) rule (h .goes) (reaches-next limit (sizesOf W) rule (step-e-wide limit (sizesOf W) rule k (stateOf W w′) i (found-state (row i) e) o))
 
     -- the addition went too wide, and the slice was cleared
     pub add-stops :
         (u : List ℤ) {w″ : List ℤ} → onRow limit (sizesOf W) (subtract k i (negsuc 0)) (stateOf W w′) ≡ tooWide → w″ ≡ replicate (length u) (pos 0) → length u ≡ length w′
-        → StageRefused W (at Letter.d k (stateOf W w)) (length w) refusal.TooWide w″
+        → StageRefused rule W (at Letter.d k (stateOf W w)) (length w) refusal.TooWide w″
     add-stops u o z l = record { goes = add-goes o; cleared = record { number = refl; zeros = z ∙ ap (λ (n : ℕ). replicate n (pos 0)) (l ∙ h .same-length) } }
 
     pub columns-again :
         {w″ : List ℤ} → onRow limit (sizesOf W) (subtract k i (negsuc 0)) (stateOf W w′) ≡ made (stateOf W w″) → Small w″ → length w″ ≡ length w′
-        → ColumnsAgain W k w w″
+        → ColumnsAgain rule W k w w″
     columns-again {w″} o s l = record {
       onward = record {
         holds = record { laid = laid-kept w″ (h .laid) l; small = s; ready = after .ready; rows-done = rowsDone-moves (after .moves) (ready-pivot .shaped) (h .rows-done) };
         falls = omega (arith, ap natAbs (after .pivot ∙ h .pivot));
-        goes = reaches-trans limit (sizesOf W) release1 (h .goes) (reaches-next limit (sizesOf W) release1 (step-e-made limit (sizesOf W) release1 k (stateOf W w′) i (stateOf W w″) (found-state (row i) e) o));
+        goes = reaches-trans limit (sizesOf W) rule (h .goes) (reaches-next limit (sizesOf W) rule (step-e-made limit (sizesOf W) rule k (stateOf W w′) i (stateOf W w″) (found-state (row i) e) o));
         same-length = l ∙ h .same-length;
       };
       calls = calls-fall (W .matrix .width) k (matrixOf W w) (matrixOf W w″) (ready-pivot .column) (h .divided) (after .remains);

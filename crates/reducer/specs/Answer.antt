@@ -6,7 +6,7 @@ use Prim.Native.Nat.{ℕ, suc, _+_, _≤_}
 use lib.ListN.{length}
 use lib.IntN.{ℤ, natAbs}
 use Rattle.matrices.specs.Matrix.{Matrix}
-use Rattle.reduction_steps.specs.Pivot.{Choice, none, place, release1}
+use Rattle.reduction_steps.specs.Pivot.{Choice, none, place, Rule}
 use Rattle.reduction_steps.specs.Step.{Letter, Machine, at, done, wide, a, reduce, Reaches}
 use Rattle.lines.specs.Slice.{limit, Small}
 use Rattle.refusal.specs.declared.Refusal.{Refusal}
@@ -35,9 +35,9 @@ unfoldable pub sizeAt : Matrix → Choice → ℕ
 sizeAt A none = 0
 sizeAt A (place i j) = natAbs (A i j)
 
--- of the entry that step a chooses
-abbrev pub chosenSize : Layout → ℕ → List ℤ → ℕ
-chosenSize W k w = sizeAt (matrixOf W w) (release1 (W .matrix .lines) (W .matrix .width) k (matrixOf W w))
+-- of the entry that step a chooses by the rule
+abbrev pub chosenSize : Rule → Layout → ℕ → List ℤ → ℕ
+chosenSize rule W k w = sizeAt (matrixOf W w) (rule (W .matrix .lines) (W .matrix .width) k (matrixOf W w))
 
 -- of the pivot
 abbrev pub pivotSize : Layout → ℕ → List ℤ → ℕ
@@ -45,52 +45,52 @@ pivotSize W k w = natAbs (matrixOf W w k k)
 
 -- ---- what the reduction makes of the slice w
 
--- the whole reduction by the pivot rule of release 1
-abbrev pub reductionOf : Layout → List ℤ → Machine
-reductionOf W w = reduce limit (sizesOf W) release1 (stateOf W w)
+-- the whole reduction by a pivot rule
+abbrev pub reductionOf : Rule → Layout → List ℤ → Machine
+reductionOf rule W w = reduce limit (sizesOf W) rule (stateOf W w)
 
 -- ---- what is answered
 
--- the machine goes from x to y by the steps of document 01 under the pivot rule of release 1
-abbrev pub Goes : Layout → Machine → Machine → Type 0
-Goes W x y = Reaches limit (sizesOf W) release1 x y
+-- the machine goes from x to y by the steps of document 01 under the rule
+abbrev pub Goes : Rule → Layout → Machine → Machine → Type 0
+Goes rule W x y = Reaches limit (sizesOf W) rule x y
 
 -- stage k, entered at the machine x, leads to letter a of the next stage
-pub record StageCleared (W : Layout) (k : ℕ) (x : Machine) (n : ℕ) (w′ : List ℤ) : Type 0 where
-  pub goes : Goes W x (at a (suc k) (stateOf W w′))
+pub record StageCleared (rule : Rule) (W : Layout) (k : ℕ) (x : Machine) (n : ℕ) (w′ : List ℤ) : Type 0 where
+  pub goes : Goes rule W x (at a (suc k) (stateOf W w′))
   pub begun : Begun W (suc k) w′
   pub same-length : length w′ ≡ n
 
 -- or back to letter a of stage k after so many rounds, each of which has lowered the absolute value to be chosen, at first `size`
-pub record StageAgain (W : Layout) (k rounds size : ℕ) (x : Machine) (n : ℕ) (w′ : List ℤ) : Type 0 where
-  pub goes : Goes W x (at a k (stateOf W w′))
+pub record StageAgain (rule : Rule) (W : Layout) (k rounds size : ℕ) (x : Machine) (n : ℕ) (w′ : List ℤ) : Type 0 where
+  pub goes : Goes rule W x (at a k (stateOf W w′))
   pub begun : Begun W k w′
-  pub falls : chosenSize W k w′ + rounds ≤ size
+  pub falls : chosenSize rule W k w′ + rounds ≤ size
   pub same-length : length w′ ≡ n
 
 -- or the layout is done with rank k
-pub record StageExhausted (W : Layout) (k : ℕ) (x : Machine) (n : ℕ) (w′ : List ℤ) : Type 0 where
-  pub goes : Goes W x (done k (stateOf W w′))
+pub record StageExhausted (rule : Rule) (W : Layout) (k : ℕ) (x : Machine) (n : ℕ) (w′ : List ℤ) : Type 0 where
+  pub goes : Goes rule W x (done k (stateOf W w′))
   pub kept : StillSmall n w′
 
 -- or it goes too wide
-pub record StageRefused (W : Layout) (x : Machine) (n : ℕ) (y : Refusal) (w′ : List ℤ) : Type 0 where
-  pub goes : Goes W x wide
+pub record StageRefused (rule : Rule) (W : Layout) (x : Machine) (n : ℕ) (y : Refusal) (w′ : List ℤ) : Type 0 where
+  pub goes : Goes rule W x wide
   pub cleared : Cleared n y w′
 
-abbrev pub StageEnds : Layout → ℕ → ℕ → ℕ → Machine → ℕ → Stage → List ℤ → Type 0
-StageEnds W k rounds size x n stage.Cleared w′ = StageCleared W k x n w′
-StageEnds W k rounds size x n stage.Exhausted w′ = StageExhausted W k x n w′
-StageEnds W k rounds size x n stage.Again w′ = StageAgain W k rounds size x n w′
-StageEnds W k rounds size x n (stage.Refused y) w′ = StageRefused W x n y w′
+abbrev pub StageEnds : Rule → Layout → ℕ → ℕ → ℕ → Machine → ℕ → Stage → List ℤ → Type 0
+StageEnds rule W k rounds size x n stage.Cleared w′ = StageCleared rule W k x n w′
+StageEnds rule W k rounds size x n stage.Exhausted w′ = StageExhausted rule W k x n w′
+StageEnds rule W k rounds size x n stage.Again w′ = StageAgain rule W k rounds size x n w′
+StageEnds rule W k rounds size x n (stage.Refused y) w′ = StageRefused rule W x n y w′
 
 -- from the choice, with the slice w and so many rounds left
-abbrev pub ChoiceEnds : Layout → ℕ → ℕ → List ℤ → Stage → List ℤ → Type 0
-ChoiceEnds W k rounds w r w′ = StageEnds W k rounds (chosenSize W k w) (at a k (stateOf W w)) (length w) r w′
+abbrev pub ChoiceEnds : Rule → Layout → ℕ → ℕ → List ℤ → Stage → List ℤ → Type 0
+ChoiceEnds rule W k rounds w r w′ = StageEnds rule W k rounds (chosenSize rule W k w) (at a k (stateOf W w)) (length w) r w′
 
 -- from the pass of letter l, in a round after which so many are left
-abbrev pub PassEnds : Letter → Layout → ℕ → ℕ → List ℤ → Stage → List ℤ → Type 0
-PassEnds l W k rounds w r w′ = StageEnds W k (suc rounds) (pivotSize W k w) (at l k (stateOf W w)) (length w) r w′
+abbrev pub PassEnds : Rule → Letter → Layout → ℕ → ℕ → List ℤ → Stage → List ℤ → Type 0
+PassEnds rule l W k rounds w r w′ = StageEnds rule W k (suc rounds) (pivotSize W k w) (at l k (stateOf W w)) (length w) r w′
 
 -- the whole reduction, which ends at the machine y
 pub record ReductionDone (W : Layout) (y : Machine) (n r : ℕ) (w′ : List ℤ) : Type 0 where

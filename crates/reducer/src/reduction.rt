@@ -1,5 +1,6 @@
 // The reduction from stage 0 to its rank.
 ghost use lib.ListN.{length};
+ghost use Rattle.reduction_steps.specs.Pivot.{pivotRule};
 ghost use Rattle.lines.specs.Slice.{Small};
 ghost use Rattle.operations.specs.Laid.{Laid};
 ghost use Rattle.reducer.specs.Answer.{reductionOf, Reduces};
@@ -15,11 +16,11 @@ pub enum Reduction {
     Refused(Refusal),
 }
 
-// Reduces the matrix, and its companions with it, by the pivot rule of release 1.
+// Reduces the matrix, and its companions with it, by the pivot rule.
 pub fn reduce_matrix(layout: Layout, w: &mut [i32]) -> Reduction
     requires { ⌜ Laid (length (now w)) layout ⌝ }
     requires { ⌜ Small (now w) ⌝ }
-    ensures { λ r. ⌜ Reduces layout (reductionOf layout (now (w .entry))) (length (now (w .entry))) r (now (w .exit)) ⌝ }
+    ensures { λ r. ⌜ Reduces layout (reductionOf pivotRule layout (now (w .entry))) (length (now (w .entry))) r (now (w .exit)) ⌝ }
 {
     let mut k: usize = 0;
     loop {

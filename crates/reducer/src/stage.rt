@@ -1,5 +1,6 @@
 // One stage of the reduction. Pivot choice, row pass and column pass call one another; the pivot's absolute value falls on each return to the
 // choice, and step e is followed by a column pass that leaves a remainder. The number of rounds bounds how deep the calls go.
+ghost use Rattle.reduction_steps.specs.Pivot.{pivotRule};
 ghost use Rattle.reduction_steps.specs.Step as steps;
 ghost use Rattle.passes.specs.Answer.{Placed, ColumnClear};
 ghost use Rattle.reducer.specs.Answer.{Begun, ChoiceEnds, PassEnds};
@@ -36,7 +37,7 @@ pub enum Stage {
 // Steps a and b, where a round is left.
 pub fn choose_pivot(layout: Layout, w: &mut [i32], k: usize, rounds: usize) -> Stage
     requires { ⌜ Begun layout k (now w) ⌝ }
-    ensures { λ r. ⌜ ChoiceEnds layout k rounds (now (w .entry)) r (now (w .exit)) ⌝ }
+    ensures { λ r. ⌜ ChoiceEnds pivotRule layout k rounds (now (w .entry)) r (now (w .exit)) ⌝ }
 {
     if rounds == 0 {
         return Stage::Again;
@@ -53,7 +54,7 @@ pub fn choose_pivot(layout: Layout, w: &mut [i32], k: usize, rounds: usize) -> S
 // Step c.
 fn row_pass(layout: Layout, w: &mut [i32], k: usize, rounds: usize) -> Stage
     requires { ⌜ Placed layout k (now w) ⌝ }
-    ensures { λ r. ⌜ PassEnds steps.c layout k rounds (now (w .entry)) r (now (w .exit)) ⌝ }
+    ensures { λ r. ⌜ PassEnds pivotRule steps.c layout k rounds (now (w .entry)) r (now (w .exit)) ⌝ }
 {
     let Pass::Made = clear_column(layout, w, k) else {
         return Stage::Refused(Refusal::TooWide);
@@ -67,7 +68,7 @@ fn row_pass(layout: Layout, w: &mut [i32], k: usize, rounds: usize) -> Stage
 // Steps d and e.
 fn column_pass(layout: Layout, w: &mut [i32], k: usize, rounds: usize) -> Stage
     requires { ⌜ ColumnClear layout k (now w) ⌝ }
-    ensures { λ r. ⌜ PassEnds steps.d layout k rounds (now (w .entry)) r (now (w .exit)) ⌝ }
+    ensures { λ r. ⌜ PassEnds pivotRule steps.d layout k rounds (now (w .entry)) r (now (w .exit)) ⌝ }
 {
     let Pass::Made = clear_row(layout, w, k) else {
         return Stage::Refused(Refusal::TooWide);

@@ -35,6 +35,10 @@ downRows A k across (suc more) i best = downRows A k across more (suc i) (alongR
 unfoldable pub release1 : Rule
 release1 m n k A = downRows A k (n - k) (m - k) k none
 
+-- the rule of the calls and of the program
+abbrev pub pivotRule : Rule
+pivotRule = release1
+
 -- ---- what the rest relies on
 
 -- (i, j) is a nonzero entry of least absolute value among rows and columns from k on
@@ -46,7 +50,10 @@ pub record Least (m n k : ℕ) (A : Matrix) (i j : ℕ) : Type 0 where
   pub nonzero : A i j ≢ pos 0
   pub least : (a b : ℕ) → k ≤ a → a < m → k ≤ b → b < n → A a b ≢ pos 0 → natAbs (A i j) ≤ natAbs (A a b)
 
--- a rule chooses a least nonzero entry, or none where there is none
+-- a rule chooses a least nonzero entry, or none where there is none, and reads only rows and columns from k on
 pub record IsRule (rule : Rule) : Type 0 where
   pub chosen : (m n k : ℕ) (A : Matrix) (i j : ℕ) → rule m n k A ≡ place i j → Least m n k A i j
   pub empty : (m n k : ℕ) (A : Matrix) → rule m n k A ≡ none → (a b : ℕ) → k ≤ a → a < m → k ≤ b → b < n → A a b ≡ pos 0
+  pub block :
+      (m n k : ℕ) (A B : Matrix) → ((i j : ℕ) → k ≤ i → i < m → k ≤ j → j < n → A i j ≡ B i j)
+      → rule m n k A ≡ rule m n k B

@@ -1,6 +1,7 @@
 -- What the pivot rule of release 1 chooses.
 -- `release1-first`: a nonzero entry of least absolute value, the lowest row and then the lowest column among those; `release1-unique`: such a place
--- is the one chosen. `release1-none`: none where the block is zero; `release1-is-rule`. `release1-cong`: only the block is read.
+-- is the one chosen. `release1-none`: none where the block is zero; `release1-cong`: only the block is read. `release1-is-rule`,
+-- `pivotRule-is-rule`: so it is a rule, and the calls' rule is one.
 -- `alongRow-one`, `downRows-one`: an entry of absolute value 1 stays chosen, so a scan may stop there.
 use mathlib.Core.Bool.{cond, not, _&&_}
 use mathlib.Core.Path.{_≡_, refl, sym, _∙_, ap, subst, subst₂}
@@ -12,7 +13,7 @@ use lib.Dec.{eqb, ltb, eqb·suc-zero}
 use lib.IntN.{ℤ, pos, natAbs}
 use borrow.Author.Tests.{le-ltb}
 use Rattle.matrices.specs.Matrix.{Matrix}
-use Rattle.reduction_steps.specs.Pivot.{Choice, none, place, better, alongRow, downRows, release1, Least, IsRule}
+use Rattle.reduction_steps.specs.Pivot.{Choice, none, place, better, alongRow, downRows, release1, pivotRule, Least, IsRule}
 use Rattle.reduction_steps.specs.Scan.{Precedes, precedes-antisymm, Best, Chosen, Block, release1-chosen}
 
 -- ---- what release 1 chooses
@@ -63,9 +64,6 @@ pub release1-empty : (m n k : ℕ) (A : Matrix) → release1 m n k A ≡ none �
 release1-empty m n k A e a b ka am kb bn =
     let none-chosen : Chosen (Block m n k) A none = subst (λ (c : Choice). Chosen (Block m n k) A c) e (release1-chosen m n k A) in
     none-chosen a b (record { row-from = ka; row-below = am; column-from = kb; column-below = bn })
-
-pub release1-is-rule : IsRule release1
-release1-is-rule = record { chosen = λ m n k A i j e. release1-first m n k A i j e .least; empty = release1-empty }
 
 -- ---- the choice is the only one
 
@@ -122,6 +120,12 @@ release1-cong m n k A B agree = pick (release1 m n k A) refl
     pick none e =
         e ∙ sym (release1-none m n k B (λ a b ka am kb bn. sym (agree a b ka am kb bn) ∙ release1-empty m n k A e a b ka am kb bn))
     pick (place i j) e = e ∙ sym (release1-unique m n k B i j (first-cong i j (release1-first m n k A i j e)))
+
+pub release1-is-rule : IsRule release1
+release1-is-rule = record { chosen = λ m n k A i j e. release1-first m n k A i j e .least; empty = release1-empty; block = release1-cong }
+
+pub pivotRule-is-rule : IsRule pivotRule
+pivotRule-is-rule = release1-is-rule
 
 -- ---- an entry of absolute value 1 stays chosen
 

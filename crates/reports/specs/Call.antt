@@ -11,9 +11,9 @@ use Rattle.matrices.specs.Vector.{apply}
 use Rattle.complexes.specs.Complex.{Sections, count}
 use Rattle.complexes.specs.Boundary.{countBelow, boundary}
 use Rattle.sheet_format.specs.Layout.{top}
-use Rattle.sheet_format.specs.Check.{sectionsOf, some, first, sheetChecks}
+use Rattle.sheet_format.specs.Check.{chainCells, some, first, sheetChecks}
 use Rattle.reduction_steps.specs.State.{State}
-use Rattle.reduction_steps.specs.Pivot.{release1}
+use Rattle.reduction_steps.specs.Pivot.{Rule, pivotRule}
 use Rattle.reports.specs.Reductions.{Reductions, tooWide, reduced, reductions}
 use Rattle.reports.specs.Report.{freeRank, torsionCount, reportList, coordinateList}
 
@@ -50,14 +50,14 @@ unfoldable pub callChecks : ℕ → List ℕ → ℕ → (Sections → ℕ → �
 callChecks limit b p slots output work =
     sheetChecks limit b
     ++ (8, ltb top p)
-    ∷ (9, ltb output (slots (sectionsOf b) p) || ltb work (workSlots (sectionsOf b) p)) ∷ []
+    ∷ (9, ltb output (slots (chainCells b) p) || ltb work (workSlots (chainCells b) p)) ∷ []
 
 -- 10 to 12, for a chain z
 unfoldable pub chainChecks : List ℕ → ℕ → List ℤ → List (ℕ × Bool)
 chainChecks b p z =
-    (10, chainLengthDiffers (sectionsOf b) p z)
+    (10, chainLengthDiffers (chainCells b) p z)
     ∷ (11, coefficientExceeds z)
-    ∷ (12, boundaryNotZero (sectionsOf b) p z) ∷ []
+    ∷ (12, boundaryNotZero (chainCells b) p z) ∷ []
 
 -- ---- what a call answers and leaves
 
@@ -91,18 +91,18 @@ finished tooWide numbers output work = record { answer = refused 13; output = ou
 finished (reduced s r x) numbers output work =
     record { answer = done (freeRank s r) (torsionCount r x); output = written (numbers s r x) output; work = cleared work }
 
--- the two reductions of dimension p of the sheet b, by the pivot rule of release 1
-unfoldable pub reductionsOf : List ℕ → ℕ → Reductions
-reductionsOf b p = reductions release1 entryLimit (sectionsOf b) p
+-- the two reductions of dimension p of the cells K, by a pivot rule
+unfoldable pub reductionsOf : Rule → Sections → ℕ → Reductions
+reductionsOf rule K p = reductions rule entryLimit K p
 
 -- the report call at a count limit, on a sheet, a dimension, a report slice and a work slice
 unfoldable pub reportCall : ℕ → List ℕ → ℕ → List ℤ → List ℤ → Called
 reportCall limit b p report work =
     orRefused (first (callChecks limit b p reportSlots (length report) (length work))) report work
-    (finished (reductionsOf b p) (λ s r x. reportList (count (sectionsOf b) p) s r x) report work)
+    (finished (reductionsOf pivotRule (chainCells b) p) (λ s r x. reportList (count (chainCells b) p) s r x) report work)
 
 -- the coordinate call at a count limit, on a sheet, a dimension, a chain, a coordinate slice and a work slice
 unfoldable pub coordinateCall : ℕ → List ℕ → ℕ → List ℤ → List ℤ → List ℤ → Called
 coordinateCall limit b p z coordinates work =
     orRefused (first (callChecks limit b p coordinateSlots (length coordinates) (length work) ++ chainChecks b p z)) coordinates work
-    (finished (reductionsOf b p) (λ s r x. coordinateList (count (sectionsOf b) p) s x z) coordinates work)
+    (finished (reductionsOf pivotRule (chainCells b) p) (λ s r x. coordinateList (count (chainCells b) p) s x z) coordinates work)

@@ -17,7 +17,7 @@ use Rattle.matrices.specs.Operation.{onRows, onColumns, inverse}
 use Rattle.complexes.specs.Cell.{without, same, rises, precedes, listed}
 use Rattle.complexes.specs.Boundary.{sign, coefficient, countBelow, boundary}
 use Rattle.sheet_format.specs.Layout.{start}
-use Rattle.sheet_format.specs.Check.{countField, offsetField, cellOf, cellsOf, sectionsOf, some, verticesDoNotRise, cellsDoNotRise, faceMissing, refusal}
+use Rattle.sheet_format.specs.Check.{countField, offsetField, cellOf, cellsOf, sectionsOf, chainCells, some, verticesDoNotRise, cellsDoNotRise, faceMissing, refusal}
 use Rattle.sheet_format.specs.Starred.{hollowTriangle, edgeSections}
 use Rattle.reduction_steps.specs.Table.{table, rowWithin, tableWithin}
 use Rattle.reduction_steps.specs.State.{follow, rowOperation, columnOperation, within, checked, andThen, onRow, onColumn}
@@ -69,13 +69,13 @@ pub record Examples : Type 0 where
   pub texts : T (every textGood textCases)
   pub hosts : T (every hostGood hostCases)
   -- an edge at the limits 0 and 1
-  pub wideInFirst : end 0 edgeSections 1 ≡ inFirst
-  pub wideInProduct : end 0 edgeSections 0 ≡ inProduct
-  pub notWide : end 1 edgeSections 1 ≡ atEnd
+  pub wideInFirst : end release1 0 edgeSections 1 ≡ inFirst
+  pub wideInProduct : end release1 0 edgeSections 0 ≡ inProduct
+  pub notWide : end release1 1 edgeSections 1 ≡ atEnd
 
 pub examples : Examples
 unfolding every sameList sameBytes textGood hostGood called sameCalled end endOfFirst endOfProduct endOfSecond
-    refusal countField offsetField cellOf cellsOf sectionsOf some verticesDoNotRise cellsDoNotRise faceMissing without same rises precedes listed start
+    refusal countField offsetField cellOf cellsOf sectionsOf chainCells some verticesDoNotRise cellsDoNotRise faceMissing without same rises precedes listed start
     reductionsOf reductions firstStart afterFirst second product secondStart afterSecond countBelow boundary coefficient sign
     reduce run step next bring positive quotient rowPass columnPass columnKeeps rowKeeps rowIndivisible firstIndivisible
     release1 downRows alongRow better onRow onColumn checked andThen within rowOperation columnOperation follow tableWithin rowWithin table
@@ -88,4 +88,4 @@ examples = record { texts = tt; hosts = tt; wideInFirst = refl; wideInProduct = 
 -- the edge's reductions at the limit 0 are too wide
 pub edge-wide : (reductions release1 0 edgeSections 1 ≡ tooWide) × (reductions release1 0 edgeSections 0 ≡ tooWide)
 unfolding endsWide
-edge-wide = (end-wide 0 edgeSections 1 inFirst (examples .wideInFirst) refl, end-wide 0 edgeSections 0 inProduct (examples .wideInProduct) refl)
+edge-wide = (end-wide release1 0 edgeSections 1 inFirst (examples .wideInFirst) refl, end-wide release1 0 edgeSections 0 inProduct (examples .wideInProduct) refl)

@@ -8,8 +8,9 @@ use lib.ListN.{length, getD, take, drop, replicate}
 use lib.IntN.{ℤ, pos, negsuc}
 use Rattle.lists.specs.Tabulate.{tabulate}
 use Rattle.complexes.specs.Complex.{count}
-use Rattle.sheet_format.specs.Check.{sectionsOf, first}
+use Rattle.sheet_format.specs.Check.{chainCells, first}
 use Rattle.reduction_steps.specs.State.{State}
+use Rattle.reduction_steps.specs.Pivot.{pivotRule}
 use Rattle.reports.specs.Reductions.{Reductions, tooWide, reduced}
 use Rattle.reports.specs.Report.{reportList, coordinateList}
 use Rattle.reports.specs.Call.{callChecks, chainChecks, reportSlots, coordinateSlots, workSlots, reductionsOf}
@@ -91,14 +92,14 @@ finishedWith (reduced s r x) numbers output =
 -- fildwuk_report
 unfoldable pub hostReport : List ℕ → ℕ → List ℕ → HostCalled
 hostReport b p output =
-    orRefusedWith (first (callChecks hostLimit b p reportSlots (slotsIn output) (workSlots (sectionsOf b) p))) output
-    (finishedWith (reductionsOf b p) (λ s r x. reportList (count (sectionsOf b) p) s r x) output)
+    orRefusedWith (first (callChecks hostLimit b p reportSlots (slotsIn output) (workSlots (chainCells b) p))) output
+    (finishedWith (reductionsOf pivotRule (chainCells b) p) (λ s r x. reportList (count (chainCells b) p) s r x) output)
 
 -- fildwuk_coordinates
 unfoldable pub hostCoordinates : List ℕ → ℕ → List ℕ → List ℕ → HostCalled
 hostCoordinates b p chain output =
     orRefusedWith
-    (first (callChecks hostLimit b p coordinateSlots (slotsIn output) (workSlots (sectionsOf b) p)
-    ++ chainChecks b p (chainFrom (count (sectionsOf b) p) chain)))
+    (first (callChecks hostLimit b p coordinateSlots (slotsIn output) (workSlots (chainCells b) p)
+    ++ chainChecks b p (chainFrom (count (chainCells b) p) chain)))
     output
-    (finishedWith (reductionsOf b p) (λ s r x. coordinateList (count (sectionsOf b) p) s x (chainFrom (count (sectionsOf b) p) chain)) output)
+    (finishedWith (reductionsOf pivotRule (chainCells b) p) (λ s r x. coordinateList (count (chainCells b) p) s x (chainFrom (count (chainCells b) p) chain)) output)

@@ -15,11 +15,12 @@ use lib.IntN.{ℤ}
 use Rattle.complexes.specs.Complex.{Sections, count}
 use Rattle.complexes.specs.Boundary.{countBelow}
 use Rattle.sheet_format.specs.Layout.{top}
-use Rattle.sheet_format.specs.Check.{sectionsOf, first, refusal}
+use Rattle.sheet_format.specs.Check.{chainCells, first, refusal}
 use Rattle.sheet_format.specs.FirstLaws.{orElse, first-append}
 use Rattle.sheet_format.specs.CheckLaws.{refusal-zero, countExceeds-false}
-use Rattle.sheet_format.specs.SheetLaws.{count-sectionsOf, countField-out}
+use Rattle.sheet_format.specs.SheetLaws.{count-chainCells, countField-out}
 use Rattle.reduction_steps.specs.State.{State}
+use Rattle.reduction_steps.specs.Pivot.{pivotRule}
 use Rattle.reports.specs.Reductions.{Reductions}
 use Rattle.reports.specs.Report.{reportList, coordinateList}
 use Rattle.reports.specs.Call.{done, refused, callChecks, chainChecks, reportSlots, coordinateSlots, workSlots, reductionsOf, reportCall, coordinateCall}
@@ -83,26 +84,26 @@ workRoom = hostLimit * (3 * hostLimit)
 
 -- a sheet that is accepted needs no more
 module _ (b : List ℕ) (accepted : refusal hostLimit b ≡ 0) where
-  pub counts-within : (p : ℕ) → count (sectionsOf b) p ≤ hostLimit
+  pub counts-within : (p : ℕ) → count (chainCells b) p ≤ hostLimit
   counts-within p = go (decLe p top)
     where
-      go : Dec (p ≤ top) → count (sectionsOf b) p ≤ hostLimit
-      go (yes h) = omega (arith, count-sectionsOf b p, countExceeds-false hostLimit b .0 (refusal-zero hostLimit b .0 accepted .counts) p h)
-      go (no h) = omega (arith, count-sectionsOf b p, countField-out b p (omega arith))
+      go : Dec (p ≤ top) → count (chainCells b) p ≤ hostLimit
+      go (yes h) = omega (arith, count-chainCells b p, countExceeds-false hostLimit b .0 (refusal-zero hostLimit b .0 accepted .counts) p h)
+      go (no h) = omega (arith, count-chainCells b p, countField-out b p (omega arith))
 
-  rows-within : (p : ℕ) → countBelow (sectionsOf b) p ≤ hostLimit
+  rows-within : (p : ℕ) → countBelow (chainCells b) p ≤ hostLimit
   unfolding countBelow
   rows-within zero = omega arith
   rows-within (suc p) = counts-within p
 
   module _ (p : ℕ) where
-    report-room : reportSlots (sectionsOf b) p ≤ reportRoom
+    report-room : reportSlots (chainCells b) p ≤ reportRoom
     report-room = omega (arith, counts-within p, mul-le-mul (counts-within p) (counts-within p))
 
-    work-room : workSlots (sectionsOf b) p ≤ workRoom
+    work-room : workSlots (chainCells b) p ≤ workRoom
     work-room = mul-le-mul (counts-within p) beside
       where
-        beside : 2 * count (sectionsOf b) p + max (countBelow (sectionsOf b) p) (count (sectionsOf b) (suc p)) ≤ 3 * hostLimit
+        beside : 2 * count (chainCells b) p + max (countBelow (chainCells b) p) (count (chainCells b) (suc p)) ≤ 3 * hostLimit
         beside = omega (arith, counts-within p, max-le (rows-within p) (counts-within (suc p)))
 
 -- ---- the refusals before the reduction
@@ -118,11 +119,11 @@ module _ (b : List ℕ) (p : ℕ) (slots : Sections → ℕ → ℕ) (room o out
   abbrev before : ℕ → ℕ → ℕ
   before o w = first (callChecks hostLimit b p slots o w)
 
-  same-refusal : (refusal hostLimit b ≡ 0 → slots (sectionsOf b) p ≤ room) → before output work ≡ before o (workSlots (sectionsOf b) p)
+  same-refusal : (refusal hostLimit b ≡ 0 → slots (chainCells b) p ≤ room) → before output work ≡ before o (workSlots (chainCells b) p)
   same-refusal fits = go (refusal hostLimit b) refl
     where
       needed : ℕ
-      needed = workSlots (sectionsOf b) p
+      needed = workSlots (chainCells b) p
 
       go : (k : ℕ) → refusal hostLimit b ≡ k → before output work ≡ before o needed
       go (suc k) e =
@@ -130,44 +131,44 @@ module _ (b : List ℕ) (p : ℕ) (slots : Sections → ℕ → ℕ) (room o out
           ∙ sym (sheet-told hostLimit b p slots o needed (λ z. absurd (omega arith)))
       go zero e =
           sheet-passed hostLimit b p slots output work e
-          ∙ (rw (size, ltb-min o room (slots (sectionsOf b) p) (fits e), le-ltb work needed (omega (arith, work-room b e p)), le-ltb needed needed (omega arith)))
+          ∙ (rw (size, ltb-min o room (slots (chainCells b) p) (fits e), le-ltb work needed (omega (arith, work-room b e p)), le-ltb needed needed (omega arith)))
           ∙ sym (sheet-passed hostLimit b p slots o needed e)
 
 -- ---- the report
 
 module _ (b : List ℕ) (p : ℕ) (output : List ℕ) (slots work : List ℤ) (size : length slots ≡ min (slotsIn output) reportRoom) (space : length work ≡ workRoom) where
   reportNumbers : ℕ → ℕ → State → List ℤ
-  reportNumbers s r x = reportList (count (sectionsOf b) p) s r x
+  reportNumbers s r x = reportList (count (chainCells b) p) s r x
 
   reportBefore : ℕ
   reportBefore = first (callChecks hostLimit b p reportSlots (length slots) (length work))
 
-  report-same : hostReport b p output ≡ hostCall reportBefore (reductionsOf b p) reportNumbers output
+  report-same : hostReport b p output ≡ hostCall reportBefore (reductionsOf pivotRule (chainCells b) p) reportNumbers output
   unfolding hostReport reportBefore reportNumbers
   report-same =
-      ap (λ (n : ℕ). hostCall n (reductionsOf b p) reportNumbers output)
+      ap (λ (n : ℕ). hostCall n (reductionsOf pivotRule (chainCells b) p) reportNumbers output)
       (sym (same-refusal b p reportSlots reportRoom (slotsIn output) (length slots) (length work) size space (λ e. report-room b e p)))
 
   pub report-refused : (k : ℕ) → reportCall hostLimit b p slots work .answer ≡ refused k → HostRefused (hostReport b p output) k output
   unfolding reportCall reportBefore reportNumbers
-  report-refused k e = rw report-same (host-refused reportBefore (reductionsOf b p) reportNumbers slots work output k e)
+  report-refused k e = rw report-same (host-refused reportBefore (reductionsOf pivotRule (chainCells b) p) reportNumbers slots work output k e)
 
   -- where the report has `many` numbers
-  pub report-done : {f t : ℕ} (many : ℕ) → reportCall hostLimit b p slots work .answer ≡ done f t → (c : ReducedWith (reductionsOf b p) f t)
-      → length (reportList (count (sectionsOf b) p) (c .rows) (c .rank) (c .state)) ≡ many
+  pub report-done : {f t : ℕ} (many : ℕ) → reportCall hostLimit b p slots work .answer ≡ done f t → (c : ReducedWith (reductionsOf pivotRule (chainCells b) p) f t)
+      → length (reportList (count (chainCells b) p) (c .rows) (c .rank) (c .state)) ≡ many
       → HostDone (hostReport b p output) many (reportCall hostLimit b p slots work .output) output
   unfolding reportCall reportBefore reportNumbers
   report-done {f} {t} many e c long =
-      let d = call-done reportBefore (reductionsOf b p) reportNumbers slots work f t e in
-      rw report-same (host-done reportBefore (reductionsOf b p) reportNumbers slots work output many (d .passes) c long)
+      let d = call-done reportBefore (reductionsOf pivotRule (chainCells b) p) reportNumbers slots work f t e in
+      rw report-same (host-done reportBefore (reductionsOf pivotRule (chainCells b) p) reportNumbers slots work output many (d .passes) c long)
 
 -- ---- the coordinates
 
 module _ (b : List ℕ) (p : ℕ) (chain output : List ℕ) (z slots work : List ℤ)
     (size : length slots ≡ min (slotsIn output) coordinateRoom) (space : length work ≡ workRoom)
-    (read : count (sectionsOf b) p ≤ hostLimit → z ≡ chainFrom (count (sectionsOf b) p) chain) where
+    (read : count (chainCells b) p ≤ hostLimit → z ≡ chainFrom (count (chainCells b) p) chain) where
   coordinateNumbers : List ℤ → ℕ → ℕ → State → List ℤ
-  coordinateNumbers y s r x = coordinateList (count (sectionsOf b) p) s x y
+  coordinateNumbers y s r x = coordinateList (count (chainCells b) p) s x y
 
   sheetChecked : List (ℕ × Bool)
   sheetChecked = callChecks hostLimit b p coordinateSlots (length slots) (length work)
@@ -176,7 +177,7 @@ module _ (b : List ℕ) (p : ℕ) (chain output : List ℕ) (z slots work : List
   coordinateBefore y = first (sheetChecked ++ chainChecks b p y)
 
   answered : List ℤ → HostCalled
-  answered y = hostCall (coordinateBefore y) (reductionsOf b p) (coordinateNumbers y) output
+  answered y = hostCall (coordinateBefore y) (reductionsOf pivotRule (chainCells b) p) (coordinateNumbers y) output
 
   -- the checks 1 to 9 of the library's call decide, or those of the chain
   before-is : (y : List ℤ) → coordinateBefore y ≡ orElse (first sheetChecked) (first (chainChecks b p y))
@@ -184,36 +185,36 @@ module _ (b : List ℕ) (p : ℕ) (chain output : List ℕ) (z slots work : List
   before-is y = first-append sheetChecked (chainChecks b p y) refl
 
   -- only a sheet that is accepted has its chain read
-  same-chain : (k : ℕ) → refusal hostLimit b ≡ k → answered (chainFrom (count (sectionsOf b) p) chain) ≡ answered z
+  same-chain : (k : ℕ) → refusal hostLimit b ≡ k → answered (chainFrom (count (chainCells b) p) chain) ≡ answered z
   unfolding answered sheetChecked
   same-chain zero e = ap answered (sym (read (counts-within b e p)))
   same-chain (suc k) e =
       let told = sheet-told hostLimit b p coordinateSlots (length slots) (length work) (λ z. absurd (omega arith)) in
-      rw (before-is (chainFrom (count (sectionsOf b) p) chain), before-is z, told, e)
+      rw (before-is (chainFrom (count (chainCells b) p) chain), before-is z, told, e)
 
   coordinates-same : hostCoordinates b p chain output ≡ answered z
   unfolding hostCoordinates answered sheetChecked coordinateNumbers callChecks
   coordinates-same =
-      ap (λ (n : ℕ). hostCall n (reductionsOf b p) (coordinateNumbers y) output)
-      (first-append (callChecks hostLimit b p coordinateSlots (slotsIn output) (workSlots (sectionsOf b) p)) (chainChecks b p y) refl
+      ap (λ (n : ℕ). hostCall n (reductionsOf pivotRule (chainCells b) p) (coordinateNumbers y) output)
+      (first-append (callChecks hostLimit b p coordinateSlots (slotsIn output) (workSlots (chainCells b) p)) (chainChecks b p y) refl
       ∙ ap (λ (n : ℕ). orElse n (first (chainChecks b p y)))
       (sym (same-refusal b p coordinateSlots coordinateRoom (slotsIn output) (length slots) (length work) size space (λ e. counts-within b e p)))
       ∙ sym (before-is y))
       ∙ same-chain (refusal hostLimit b) refl
     where
       y : List ℤ
-      y = chainFrom (count (sectionsOf b) p) chain
+      y = chainFrom (count (chainCells b) p) chain
 
   pub coordinates-refused : (k : ℕ) → coordinateCall hostLimit b p z slots work .answer ≡ refused k → HostRefused (hostCoordinates b p chain output) k output
   unfolding coordinateCall answered coordinateBefore sheetChecked coordinateNumbers
   coordinates-refused k e =
-      rw coordinates-same (host-refused (coordinateBefore z) (reductionsOf b p) (coordinateNumbers z) slots work output k e)
+      rw coordinates-same (host-refused (coordinateBefore z) (reductionsOf pivotRule (chainCells b) p) (coordinateNumbers z) slots work output k e)
 
   -- where there are `many` coordinates
-  pub coordinates-done : {f t : ℕ} (many : ℕ) → coordinateCall hostLimit b p z slots work .answer ≡ done f t → (c : ReducedWith (reductionsOf b p) f t)
-      → length (coordinateList (count (sectionsOf b) p) (c .rows) (c .state) z) ≡ many
+  pub coordinates-done : {f t : ℕ} (many : ℕ) → coordinateCall hostLimit b p z slots work .answer ≡ done f t → (c : ReducedWith (reductionsOf pivotRule (chainCells b) p) f t)
+      → length (coordinateList (count (chainCells b) p) (c .rows) (c .state) z) ≡ many
       → HostDone (hostCoordinates b p chain output) many (coordinateCall hostLimit b p z slots work .output) output
   unfolding coordinateCall answered coordinateBefore sheetChecked coordinateNumbers
   coordinates-done {f} {t} many e c long =
-      let d = call-done (coordinateBefore z) (reductionsOf b p) (coordinateNumbers z) slots work f t e in
-      rw coordinates-same (host-done (coordinateBefore z) (reductionsOf b p) (coordinateNumbers z) slots work output many (d .passes) c long)
+      let d = call-done (coordinateBefore z) (reductionsOf pivotRule (chainCells b) p) (coordinateNumbers z) slots work f t e in
+      rw coordinates-same (host-done (coordinateBefore z) (reductionsOf pivotRule (chainCells b) p) (coordinateNumbers z) slots work output many (d .passes) c long)

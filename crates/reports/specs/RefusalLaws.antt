@@ -12,7 +12,7 @@ use lib.Dec.{ltb}
 use lib.IntN.{ℤ}
 use Rattle.complexes.specs.Complex.{Sections}
 use Rattle.sheet_format.specs.Layout.{top}
-use Rattle.sheet_format.specs.Check.{first, sheetChecks, refusal, sectionsOf}
+use Rattle.sheet_format.specs.Check.{first, sheetChecks, refusal, chainCells}
 use Rattle.sheet_format.specs.FirstLaws.{first-zero, first-absent, first-append-told, first-append-passed, first-append-zero}
 use Rattle.reports.specs.Call.{callChecks, chainChecks, workSlots}
 
@@ -24,12 +24,12 @@ or-false false t e = (refl, e)
 pub record Passed (limit : ℕ) (b : List ℕ) (p : ℕ) (slots : Sections → ℕ → ℕ) (output work : ℕ) : Type 0 where
   pub accepted : refusal limit b ≡ 0
   pub dimension : p ≤ top
-  pub output-slots : slots (sectionsOf b) p ≤ output
-  pub work-slots : workSlots (sectionsOf b) p ≤ work
+  pub output-slots : slots (chainCells b) p ≤ output
+  pub work-slots : workSlots (chainCells b) p ≤ work
 
 module _ (limit : ℕ) (b : List ℕ) (p : ℕ) (slots : Sections → ℕ → ℕ) (output work : ℕ) where
   abbrev short : Bool
-  short = ltb output (slots (sectionsOf b) p) || ltb work (workSlots (sectionsOf b) p)
+  short = ltb output (slots (chainCells b) p) || ltb work (workSlots (chainCells b) p)
 
   -- the checks after the sheet's
   abbrev pub laterChecks : List (ℕ × Bool)
@@ -54,12 +54,12 @@ module _ (limit : ℕ) (b : List ℕ) (p : ℕ) (slots : Sections → ℕ → �
       forward e =
           let k = sheet-zero .0 e in
           let (dimension, (long, _)) = first-zero laterChecks refl .0 (k .1) in
-          let l = or-false (ltb output (slots (sectionsOf b) p)) (ltb work (workSlots (sectionsOf b) p)) long in
+          let l = or-false (ltb output (slots (chainCells b) p)) (ltb work (workSlots (chainCells b) p)) long in
           record {
             accepted = k .0;
             dimension = ltb-false top p dimension;
-            output-slots = ltb-false output (slots (sectionsOf b) p) (l .0);
-            work-slots = ltb-false work (workSlots (sectionsOf b) p) (l .1);
+            output-slots = ltb-false output (slots (chainCells b) p) (l .0);
+            work-slots = ltb-false work (workSlots (chainCells b) p) (l .1);
           }
 
       backward : Passed limit b p slots output work → first (callChecks limit b p slots output work) ≡ 0
@@ -67,8 +67,8 @@ module _ (limit : ℕ) (b : List ℕ) (p : ℕ) (slots : Sections → ℕ → �
           sheet-passed (h .accepted)
           ∙ rw (
             le-ltb top p (h .dimension),
-            le-ltb output (slots (sectionsOf b) p) (h .output-slots),
-            le-ltb work (workSlots (sectionsOf b) p) (h .work-slots),
+            le-ltb output (slots (chainCells b) p) (h .output-slots),
+            le-ltb work (workSlots (chainCells b) p) (h .work-slots),
           )
 
   pub callChecks-narrow : first (callChecks limit b p slots output work) ≢ 13

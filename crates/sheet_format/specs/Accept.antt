@@ -2,6 +2,7 @@
 --     accepted-iff        no refusal applies exactly when the bytes are the layout of a complex within the limit
 --     sections-layout, layout-sections, layout-injective     that complex is the one read from the bytes, and the only one
 --     accepted-complex    what is read from an accepted sheet is a complex
+--     accepted-chains     the cells that the calls work with make a chain complex
 use mathlib.Core.Path.{_≡_, sym, ap, _∙_, subst}
 use mathlib.Core.Logic.{_↔_}
 use mathlib.Core.List.{List, []}
@@ -13,8 +14,9 @@ use lib.Seq.{ext-getD}
 use Rattle.limits.specs.Limits.{libraryLimit}
 use Rattle.complexes.specs.Cell.{Cell}
 use Rattle.complexes.specs.Complex.{Sections, section, count, cell, Complex}
+use Rattle.complexes.specs.ChainComplex.{ChainComplex, complex-chains}
 use Rattle.sheet_format.specs.Layout.{top, start, layout}
-use Rattle.sheet_format.specs.Check.{fieldAt, countField, startAt, cellOf, sectionsOf, refusal}
+use Rattle.sheet_format.specs.Check.{fieldAt, countField, startAt, cellOf, sectionsOf, chainCells, refusal}
 use Rattle.sheet_format.specs.Sheet.{Bytes, IsSheet}
 use Rattle.sheet_format.specs.CheckLaws.{
   Passes,
@@ -57,6 +59,10 @@ accepted-complex limit b h e = record {
 
     at : (p i : ℕ) → i < count (sectionsOf b) p → cell (sectionsOf b) p i ≡ cellOf b (suc p) (startAt b p + 2 * (suc p * i))
     at p i l = cell-sectionsOf b p i (below p i l) (rw (count-sectionsOf b p) at l)
+
+pub accepted-chains : (limit : ℕ) (b : List ℕ) → Bytes b → refusal limit b ≡ 0 → ChainComplex limit (chainCells b)
+unfolding chainCells
+accepted-chains limit b h e = complex-chains (accepted-complex limit b h e)
 
 -- ---- the bytes of a complex give the complex back
 

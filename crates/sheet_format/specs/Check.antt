@@ -39,6 +39,10 @@ cellsOf b n many at = tabulate many (λ i. cellOf b n (at + 2 * (n * i)))
 unfoldable pub sectionsOf : List ℕ → Sections
 sectionsOf b = tabulate (suc top) (λ p. cellsOf b (suc p) (countField b p) (startAt b p))
 
+-- the cells that chains, matrices and counts use from check 9 on: all of them
+unfoldable pub chainCells : List ℕ → Sections
+chainCells b = sectionsOf b
+
 -- ---- the checks
 
 -- the test passes for some number below n

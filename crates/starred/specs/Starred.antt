@@ -11,7 +11,7 @@ use Rattle.matrices.specs.Operation.{onRows, onColumns, inverse}
 use Rattle.complexes.specs.Cell.{without, same, rises, precedes, listed}
 use Rattle.complexes.specs.Boundary.{sign, coefficient, countBelow, boundary}
 use Rattle.sheet_format.specs.Layout.{start}
-use Rattle.sheet_format.specs.Check.{countField, offsetField, cellOf, cellsOf, sectionsOf, some, verticesDoNotRise, cellsDoNotRise, faceMissing, refusal}
+use Rattle.sheet_format.specs.Check.{countField, offsetField, cellOf, cellsOf, sectionsOf, chainCells, some, verticesDoNotRise, cellsDoNotRise, faceMissing, refusal}
 use Rattle.lists.specs.Same.{every, sameNumber, sameList}
 use Rattle.reduction_steps.specs.Table.{table, rowWithin, tableWithin}
 use Rattle.reduction_steps.specs.State.{follow, rowOperation, columnOperation, within, checked, andThen, onRow, onColumn}
@@ -32,7 +32,7 @@ cases = noCellsCases ++ (reportCases ++ (coordinateCases ++ (sheetCases ++ (dime
 pub starred-sheets-and-calls : T (every good cases)
 unfolding every good sameCalled sameAnswer sameSlice sameList sameNumber
     answered reportCall coordinateCall callChecks chainChecks coefficientExceeds boundaryNotZero reductionsOf finished
-    refusal countField offsetField cellOf cellsOf sectionsOf some verticesDoNotRise cellsDoNotRise faceMissing without same rises precedes listed start
+    refusal countField offsetField cellOf cellsOf sectionsOf chainCells some verticesDoNotRise cellsDoNotRise faceMissing without same rises precedes listed start
     reductions firstStart afterFirst second product secondStart afterSecond countBelow boundary coefficient sign
     reduce run step next bring positive quotient rowPass columnPass columnKeeps rowKeeps rowIndivisible firstIndivisible
     release1 downRows alongRow better onRow onColumn checked andThen within rowOperation columnOperation follow tableWithin rowWithin table

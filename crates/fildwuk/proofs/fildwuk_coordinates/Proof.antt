@@ -7,8 +7,8 @@ use borrow.Author.Needs.{needs}
 use denote.Ref.{now}
 use lib.Seq.{length-take-le}
 use Rattle.complexes.specs.Complex.{count}
-use Rattle.sheet_format.specs.Check.{sectionsOf}
-use Rattle.sheet_format.specs.SheetLaws.{count-sectionsOf}
+use Rattle.sheet_format.specs.Check.{chainCells}
+use Rattle.sheet_format.specs.SheetLaws.{count-chainCells}
 use Rattle.reports.specs.Host.{chainFrom}
 use Rattle.fildwuk.proofs.fildwuk_coordinates.Statement.{statement}
 use Rattle.fildwuk.proofs.fildwuk_coordinates.Tie as tie
@@ -26,8 +26,8 @@ returns c =
     let start = c .before .before .before .before .before .before .before .before .before .before .before .before .before .before .before in
     let read = called .before .before .before .before .before in
     let counted = read .before .before in
-    let same : count (sectionsOf (now (start .args .sheet))) (start .args .dimension) ≡ counted .count .result
-    = count-sectionsOf (now (start .args .sheet)) (start .args .dimension) ∙ sym (counted .count .ensures .is) in
+    let same : count (chainCells (now (start .args .sheet))) (start .args .dimension) ≡ counted .count .result
+    = count-chainCells (now (start .args .sheet)) (start .args .dimension) ∙ sym (counted .count .ensures .is) in
     called .coordinates-through .ensures .answers (now (start .args .chain))
     (λ h. read .read-chain .ensures .is (omega (arith, h, same)) ∙ ap (λ (n : ℕ). chainFrom n (now (start .args .chain))) (sym same))
 

@@ -5,14 +5,14 @@ use Prim.Native.Nat.{suc, _-_, _≤_}
 use native.Mathlib.Omega.{arith}
 use Rattle.matrices.specs.Matrix as theory
 use Rattle.complexes.specs.Boundary.{boundary}
-use Rattle.sheet_format.specs.Check.{sectionsOf}
+use Rattle.sheet_format.specs.Check.{chainCells}
 use Rattle.lines.specs.Matrices.{contents, Holds}
 use Rattle.boundaries.proofs.Columns.{leftOf, columns-none, columns-next, columns-more, columns-all}
 use Rattle.boundaries.proofs.fill.fill_boundary.Statement.{statement}
 use Rattle.boundaries.proofs.fill.fill_boundary.Tie as tie
 
 abbrev Inv-loop : tie.InvT-loop
-Inv-loop s p m w₀ j₀ columns w j = (j ≤ m .width) × Holds m w₀ (leftOf j (boundary (sectionsOf s) (suc p)) (contents m w₀)) w
+Inv-loop s p m w₀ j₀ columns w j = (j ≤ m .width) × Holds m w₀ (leftOf j (boundary (chainCells s) (suc p)) (contents m w₀)) w
 
 abbrev μ-loop : tie.MeasureT-loop
 μ-loop s p m w₀ j₀ columns w j = m .width - j
@@ -20,11 +20,11 @@ abbrev μ-loop : tie.MeasureT-loop
 loop-holds : tie.Need-loop-holds Inv-loop μ-loop
 loop-holds c =
     let args = c .before .args in
-    (omega arith, columns-none (args .m) (args .w .now) (boundary (sectionsOf (args .s .now)) (suc (args .p))) (c .before .pre .1 .1 .1))
+    (omega arith, columns-none (args .m) (args .w .now) (boundary (chainCells (args .s .now)) (suc (args .p))) (c .before .pre .1 .1 .1))
 
 -- the boundary matrix, and what the slice held at first
 abbrev whole : tie.Start Inv-loop μ-loop → theory.Matrix
-whole c = boundary (sectionsOf (c .args .s .now)) (suc (c .args .p))
+whole c = boundary (chainCells (c .args .s .now)) (suc (c .args .p))
 
 abbrev old : tie.Start Inv-loop μ-loop → theory.Matrix
 old c = contents (c .args .m) (c .args .w .now)

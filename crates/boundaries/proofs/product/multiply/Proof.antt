@@ -6,11 +6,11 @@ use Prim.Native.Nat.{ℕ, suc, _+_, _-_, _<_, _≤_}
 use native.Mathlib.Omega.{arith}
 use lib.IntN.{ℤ, natAbs}
 use Rattle.matrices.specs.Product.{mul-ext-at}
-use Rattle.complexes.specs.Complex.{count}
+use Rattle.complexes.specs.Complex.{Sections, count}
 use Rattle.complexes.specs.Boundary.{boundary}
 use Rattle.sheet_format.specs.Layout.{top}
-use Rattle.sheet_format.specs.Check.{sectionsOf}
-use Rattle.sheet_format.specs.SheetLaws.{count-sectionsOf, countField-below}
+use Rattle.sheet_format.specs.Check.{chainCells}
+use Rattle.sheet_format.specs.SheetLaws.{count-chainCells, countField-below}
 use Rattle.lines.specs.Slice.{limit}
 use Rattle.lines.specs.Matrices.{contents, end, Holds, Exceeds}
 use Rattle.lines.specs.declared.matrix.Matrix.{Matrix}
@@ -22,25 +22,25 @@ use Rattle.boundaries.proofs.Products.{product, contents-kept}
 use Rattle.boundaries.proofs.product.multiply.Statement.{statement}
 use Rattle.boundaries.proofs.product.multiply.Tie as tie
 
-record Invariant (b : List ℕ) (p : ℕ) (q M : Matrix) (w₀ : List ℤ) (w : List ℤ) (j : ℕ) : Type 0 where
+record Invariant (K : Sections) (p : ℕ) (q M : Matrix) (w₀ : List ℤ) (w : List ℤ) (j : ℕ) : Type 0 where
   below : j ≤ M .width
-  so-far : Holds M w₀ (leftOf j (product b p q w₀) (contents M w₀)) w
+  so-far : Holds M w₀ (leftOf j (product K p q w₀) (contents M w₀)) w
 
-module _ {b : List ℕ} {p : ℕ} {q M : Matrix} {w₀ w : List ℤ} {j : ℕ} (inv : Invariant b p q M w₀ w j) (before : end M ≤ q .at) where
+module _ {K : Sections} {p : ℕ} {q M : Matrix} {w₀ w : List ℤ} {j : ℕ} (inv : Invariant K p q M w₀ w j) (before : end M ≤ q .at) where
   -- q is kept, and so is the product
-  product-kept : (i : ℕ) → product b p q w i j ≡ product b p q w₀ i j
+  product-kept : (i : ℕ) → product K p q w i j ≡ product K p q w₀ i j
   product-kept i =
-      mul-ext-at (q .width) (contents q w) (contents q w₀) (boundary (sectionsOf b) (suc p)) (boundary (sectionsOf b) (suc p)) i j
+      mul-ext-at (q .width) (contents q w) (contents q w₀) (boundary K (suc p)) (boundary K (suc p)) i j
       (λ k l. contents-kept q M w₀ w before (inv .so-far .off) i k) (λ k l. refl)
 
   module _ (l : j < M .width) {w′ : List ℤ} where
-    more : ColumnFilled M w (product b p q w) j w′ → Invariant b p q M w₀ w′ (j + 1)
+    more : ColumnFilled M w (product K p q w) j w′ → Invariant K p q M w₀ w′ (j + 1)
     more f = record {
       below = omega arith;
-      so-far = columns-more (product b p q w₀) (contents M w₀) j (inv .so-far) f (λ i k. product-kept i);
+      so-far = columns-more (product K p q w₀) (contents M w₀) j (inv .so-far) f (λ i k. product-kept i);
     }
 
-    too-wide : ColumnExceeds M w (product b p q w) j w′ → Exceeds M w₀ (product b p q w₀) w′
+    too-wide : ColumnExceeds M w (product K p q w) j w′ → Exceeds M w₀ (product K p q w₀) w′
     too-wide e = record {
       same-length = e .same-length ∙ inv .so-far .same-length;
       line = e .line;
@@ -52,11 +52,11 @@ module _ {b : List ℕ} {p : ℕ} {q M : Matrix} {w₀ w : List ℤ} {j : ℕ} (
     }
 
 -- a section with cells is one of the sheet's
-dimension : (b : List ℕ) (p j : ℕ) → j < count (sectionsOf b) (suc p) → p < top
-dimension b p j l = omega (arith, countField-below b (suc p) j (rw (count-sectionsOf b (suc p)) at l))
+dimension : (b : List ℕ) (p j : ℕ) → j < count (chainCells b) (suc p) → p < top
+dimension b p j l = omega (arith, countField-below b (suc p) j (rw (count-chainCells b (suc p)) at l))
 
 abbrev Inv-loop : tie.InvT-loop
-Inv-loop s p q m w₀ j₀ columns w j = Invariant s p q m w₀ w j
+Inv-loop s p q m w₀ j₀ columns w j = Invariant (chainCells s) p q m w₀ w j
 
 abbrev μ-loop : tie.MeasureT-loop
 μ-loop s p q m w₀ j₀ columns w j = m .width - j
@@ -66,7 +66,7 @@ loop-holds c =
     let args = c .before .args in
     record {
       below = omega arith;
-      so-far = columns-none (args .m) (args .w .now) (product (args .s .now) (args .p) (args .q) (args .w .now)) (c .before .pre .1 .1 .2);
+      so-far = columns-none (args .m) (args .w .now) (product (chainCells (args .s .now)) (args .p) (args .q) (args .w .now)) (c .before .pre .1 .1 .2);
     }
 
 multiply-column-requires : tie.Need-multiply-column-requires Inv-loop μ-loop
@@ -97,7 +97,7 @@ module _ (c : tie.After-multiply-column Inv-loop μ-loop) where
   abbrev Left : Effect → Type 0
   Left r =
       let args = start .args in let head = turn .before .loop in
-      ColumnBecame (args .m) (head .w) (product (args .s .now) (args .p) (args .q) (head .w)) (head .j) r (c .multiply-column .last .1 .1 .1 .1 .0)
+      ColumnBecame (args .m) (head .w) (product (chainCells (args .s .now)) (args .p) (args .q) (head .w)) (head .j) r (c .multiply-column .last .1 .1 .1 .1 .0)
 
   became : (r : Effect) → c .multiply-column .result ≡ r → Left r
   became r e = subst Left e (c .multiply-column .ensures)
@@ -128,7 +128,7 @@ same-length-2 c = c .before .loop .inv .so-far .same-length
 returns-2 : tie.Need-returns-2 Inv-loop μ-loop
 returns-2 c =
     let args = c .before .before .before .args in
-    columns-all (product (args .s .now) (args .p) (args .q) (args .w .now)) (contents (args .m) (args .w .now)) (c .before .loop .j) (c .before .loop .inv .so-far)
+    columns-all (product (chainCells (args .s .now)) (args .p) (args .q) (args .w .now)) (contents (args .m) (args .w .now)) (c .before .loop .j) (c .before .loop .inv .so-far)
     (c .loop-test .left)
 
 pub multiply-spec : {M : Type 1} → statement M

@@ -16,7 +16,7 @@ use Rattle.matrices.specs.Matrix as theory
 use Rattle.complexes.specs.Complex.{count, Complex}
 use Rattle.complexes.specs.Boundary.{sign}
 use Rattle.sheet_format.specs.Layout.{top}
-use Rattle.sheet_format.specs.Check.{sectionsOf}
+use Rattle.sheet_format.specs.Check.{sectionsOf, chainCells}
 use Rattle.limits.specs.Limits.{libraryLimit}
 use Rattle.lines.specs.Slice.{limit, at, lineAt, Small}
 use Rattle.lines.specs.Matrices.{Held, contents, end}
@@ -46,7 +46,7 @@ record Given (b : List ℕ) (p : ℕ) (q M : Matrix) (w₀ : List ℤ) (j : ℕ)
 
 record Invariant (b : List ℕ) (p : ℕ) (q M : Matrix) (w₀ : List ℤ) (j : ℕ) (w : List ℤ) (i : ℕ) : Type 0 where
   below : i ≤ M .lines
-  so-far : ColumnFilled M w₀ (upTo i (product b p q w₀) (contents M w₀)) j w
+  so-far : ColumnFilled M w₀ (upTo i (product (chainCells b) p q w₀) (contents M w₀)) j w
 
 module _ {b : List ℕ} {p : ℕ} {q M : Matrix} {w₀ : List ℤ} {j : ℕ} {places : List ℕ} (given : Given b p q M w₀ j places) where
   begun : Invariant b p q M w₀ j w₀ 0
@@ -54,7 +54,7 @@ module _ {b : List ℕ} {p : ℕ} {q M : Matrix} {w₀ : List ℤ} {j : ℕ} {pl
     below = omega arith;
     so-far = record {
       same-length = refl;
-      on = λ i l. sym (upTo-from 0 (product b p q w₀) (contents M w₀) i j (omega arith));
+      on = λ i l. sym (upTo-from 0 (product (chainCells b) p q w₀) (contents M w₀) i j (omega arith));
       beside = λ i k l m d. refl;
       off = λ i o. refl;
       small = given .small;
@@ -67,7 +67,7 @@ module _ {b : List ℕ} {p : ℕ} {q M : Matrix} {w₀ : List ℤ} {j : ℕ} {pl
   module _ {w : List ℤ} {i : ℕ} (inv : Invariant b p q M w₀ j w i) where
     -- line i times the column
     entry-is : (line : ℕ) → line ≡ lineAt (q .at) (q .width) i → (v : ℤ) → v ≡ sum (p + 2) (λ t. at w (line + getD places t 0) *ℤ sign t)
-        → v ≡ product b p q w₀ i j
+        → v ≡ product (chainCells b) p q w₀ i j
     entry-is line e v v-is =
         v-is
         ∙ ap (λ (l : ℕ). sum (p + 2) (λ t. at w (l + getD places t 0) *ℤ sign t)) e
@@ -75,22 +75,22 @@ module _ {b : List ℕ} {p : ℕ} {q M : Matrix} {w₀ : List ℤ} {j : ℕ} {pl
         (λ t l. ap (λ (x : ℤ). x *ℤ sign t) (contents-kept q M w₀ w (given .before) (inv .so-far .off) i (getD places t 0)))
         ∙ product-entry b (given .sheet) p j (omega (arith, given .below, given .columns)) places (given .faces) (q .width) (given .rows) (contents q w₀) i
 
-    too-wide : i < M .lines → limit < natAbs (product b p q w₀ i j) → ColumnExceeds M w₀ (product b p q w₀) j w
+    too-wide : i < M .lines → limit < natAbs (product (chainCells b) p q w₀ i j) → ColumnExceeds M w₀ (product (chainCells b) p q w₀) j w
     too-wide l h = record { same-length = inv .so-far .same-length; line = i; line-below = l; beyond = h; small = inv .so-far .small }
 
-    more : {place : ℕ} (v : ℤ) → Place M (length w₀) i j place → v ≡ product b p q w₀ i j → natAbs v ≤ limit
+    more : {place : ℕ} (v : ℤ) → Place M (length w₀) i j place → v ≡ product (chainCells b) p q w₀ i j → natAbs v ≤ limit
         → Invariant b p q M w₀ j (set w place v) (i + 1)
     more v e v-is l = record {
       below = omega (arith, e .line);
-      so-far = column-set (entry-set e w v (inv .so-far .same-length) (inv .so-far .small) l) (upTo (i + 1) (product b p q w₀) (contents M w₀))
-          (upTo-below (i + 1) (product b p q w₀) (contents M w₀) i j (omega arith) ∙ sym v-is)
+      so-far = column-set (entry-set e w v (inv .so-far .same-length) (inv .so-far .small) l) (upTo (i + 1) (product (chainCells b) p q w₀) (contents M w₀))
+          (upTo-below (i + 1) (product (chainCells b) p q w₀) (contents M w₀) i j (omega arith) ∙ sym v-is)
           (inv .so-far)
           (λ a k d. pick a d (decLt a i))
           (given .below);
     }
       where
         new : theory.Matrix
-        new = product b p q w₀
+        new = product (chainCells b) p q w₀
 
         old : theory.Matrix
         old = contents M w₀
@@ -99,10 +99,10 @@ module _ {b : List ℕ} {p : ℕ} {q M : Matrix} {w₀ : List ℤ} {j : ℕ} {pl
         pick a d (yes m) = upTo-below (i + 1) new old a j (omega arith) ∙ sym (upTo-below i new old a j m)
         pick a d (no m) = upTo-from (i + 1) new old a j (omega arith) ∙ sym (upTo-from i new old a j (omega arith))
 
-    ended : M .lines ≤ i → ColumnFilled M w₀ (product b p q w₀) j w
+    ended : M .lines ≤ i → ColumnFilled M w₀ (product (chainCells b) p q w₀) j w
     ended done = record {
       same-length = inv .so-far .same-length;
-      on = λ a l. inv .so-far .on a l ∙ upTo-below i (product b p q w₀) (contents M w₀) a j (omega arith);
+      on = λ a l. inv .so-far .on a l ∙ upTo-below i (product (chainCells b) p q w₀) (contents M w₀) a j (omega arith);
       beside = inv .so-far .beside;
       off = inv .so-far .off;
       small = inv .so-far .small;
@@ -115,10 +115,12 @@ abbrev μ-loop : tie.MeasureT-loop
 μ-loop s p q m w₀ j places lines width i₀ w i = m .lines - i
 
 face-places-requires : tie.Need-face-places-requires Inv-loop μ-loop
+unfolding chainCells
 face-places-requires c κs = let pre = c .before .pre in (pre .0 .0, (pre .0 .1, omega (arith, pre .1 .0 .1, pre .1 .0 .3)))
 
 given : (c : tie.After-face-places Inv-loop μ-loop) →
     let args = c .before .before .args in Given (args .s .now) (args .p) (args .q) (args .m) (args .w .now) (args .j) (c .face-places .result)
+unfolding chainCells
 given c =
     let pre = c .before .before .pre in
     record {
@@ -175,14 +177,14 @@ module _ (c : tie.After-line-product Inv-loop μ-loop) where
   read-v : read w64 v ≡ v
   read-v = toZ-ofZ v-fits
 
-  v-is : v ≡ product (start .args .s .now) (start .args .p) (start .args .q) (start .args .w .now) (turn .before .loop .i) (start .args .j)
+  v-is : v ≡ product (chainCells (start .args .s .now)) (start .args .p) (start .args .q) (start .args .w .now) (turn .before .loop .i) (start .args .j)
   v-is = entry-is (given facing) (turn .before .loop .inv) (c .before .line .result) (c .before .line .ensures) v (c .line-product .ensures)
 
   line-below : turn .before .loop .i < start .args .m .lines
   line-below = omega (arith, turn .loop-test .taken, given facing .lines)
 
   exceeds : limit < natAbs (read w64 v)
-      → ColumnExceeds (start .args .m) (start .args .w .now) (product (start .args .s .now) (start .args .p) (start .args .q) (start .args .w .now)) (start .args .j)
+      → ColumnExceeds (start .args .m) (start .args .w .now) (product (chainCells (start .args .s .now)) (start .args .p) (start .args .q) (start .args .w .now)) (start .args .j)
       (turn .before .loop .w)
   exceeds h = too-wide (given facing) (turn .before .loop .inv) line-below (subst (λ (z : ℤ). limit < natAbs z) (read-v ∙ v-is) h)
 

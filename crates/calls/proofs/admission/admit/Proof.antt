@@ -4,7 +4,7 @@ use Prim.Native.Nat.{ℕ}
 use borrow.Author.Needs.{needs}
 use denote.Ref.{now}
 use Rattle.complexes.specs.Complex.{Sections}
-use Rattle.sheet_format.specs.Check.{sectionsOf, refusal}
+use Rattle.sheet_format.specs.Check.{chainCells, refusal}
 use Rattle.sheet.specs.Number.{readingNumber}
 use Rattle.reports.specs.Call.{workSlots}
 use Rattle.reports.specs.RefusalLaws.{callChecks-zero}
@@ -56,7 +56,7 @@ module _ (c : tie.After-output-slots) where
   abbrev told : tie.After-enum-told
   told = c .before .before .before
 
-  output-is : c .output-slots .result ≡ slots (start told) (sectionsOf (now (start told .args .s))) (start told .args .dimension)
+  output-is : c .output-slots .result ≡ slots (start told) (chainCells (now (start told .args .s))) (start told .args .dimension)
   output-is = c .output-slots .ensures ∙ ap (slotsFor (start told .args .request)) (c .before .sizes-of .ensures .is)
 
 returns-3 : tie.Need-returns-3
@@ -70,7 +70,7 @@ module _ (c : tie.After-work-slots) where
   abbrev asked : tie.After-output-slots
   asked = c .before .before
 
-  work-is : c .work-slots .result ≡ workSlots (sectionsOf (now (start (told asked) .args .s))) (start (told asked) .args .dimension)
+  work-is : c .work-slots .result ≡ workSlots (chainCells (now (start (told asked) .args .s))) (start (told asked) .args .dimension)
   work-is = c .work-slots .ensures ∙ slots-of (asked .before .sizes-of .ensures)
 
 returns-4 : tie.Need-returns-4

@@ -8,15 +8,17 @@ use borrow.Author.Needs.{needs}
 use denote.Ref.{now}
 use lib.IntN.{pos, natAbs}
 use lib.ListN.{length, getD}
-use Rattle.complexes.specs.Complex.{Complex, count}
-use Rattle.sheet_format.specs.Layout.{top}
-use Rattle.sheet_format.specs.Check.{sectionsOf, first}
+use Rattle.complexes.specs.Complex.{count}
+use Rattle.complexes.specs.ChainComplex.{ChainComplex}
+use Rattle.sheet_format.specs.Check.{chainCells, first}
+use Rattle.reduction_steps.specs.Pivot.{pivotRule}
+use Rattle.reduction_steps.specs.PivotLaws.{pivotRule-is-rule}
 use Rattle.reports.specs.Call.{reductionsOf, coefficientExceeds, chainChecks}
 use Rattle.limits.specs.Limits.{libraryLimit, coefficientLimit}
 use Rattle.faces.specs.Face.{Accepted}
 use Rattle.calls.specs.Slices.{ReducedTwice}
 use Rattle.calls.specs.declared.admission.Request.the-variants.{Coordinates}
-use Rattle.calls.proofs.Sheet.{sheet-complex, accepted-library, cells-of}
+use Rattle.calls.proofs.Sheet.{sheet-chains, accepted-library, cells-of}
 use Rattle.calls.proofs.Outcomes.{twice-done, twice-refused}
 use Rattle.calls.proofs.Admitting.{admit-refused, Granted, admit-granted}
 use Rattle.calls.proofs.Refusals.{length-differs, coefficient-beyond, boundary-nonzero, chain-passed, coefficients-small}
@@ -56,8 +58,8 @@ module _ (c : tie.After-sizes) where
   library : Accepted (now (entered .args .s))
   library = accepted-library (entered .pre) (granted .passed .accepted)
 
-  complex : Complex top libraryLimit (sectionsOf (now (entered .args .s)))
-  complex = sheet-complex (record { small = λ i. c .before .before .before .shared-slice-known .given i .fits }) library
+  chains : ChainComplex libraryLimit (chainCells (now (entered .args .s)))
+  chains = sheet-chains (record { small = λ i. c .before .before .before .shared-slice-known .given i .fits }) library
 
 -- ---- the chain
 
@@ -72,7 +74,7 @@ module _ (c : tie.Else1) where
   abbrev admitted : tie.After-sizes
   admitted = c .before .before .before
 
-  size : let a = entered admitted .args in length (now (a .chain)) ≡ count (sectionsOf (now (a .s))) (a .dimension)
+  size : let a = entered admitted .args in length (now (a .chain)) ≡ count (chainCells (now (a .s))) (a .dimension)
   size = c .if1 .left ∙ cells-of (granted admitted .sizes)
 
 returns-3 : tie.Need-returns-3
@@ -138,7 +140,7 @@ returns-5 c =
     let a = entered (checked third) .args in
     coordinates-wide (a .sheet .limit) (now (a .s)) (a .dimension) (now (a .chain)) (now (a .coordinates)) (now (a .work))
     (granted (checked third) .passed) (chain third)
-    (twice-refused (now (a .s)) (a .dimension) (reductionsOf (now (a .s)) (a .dimension)) (called .reduce-twice .result) (c .enum-told .given .1)
+    (twice-refused (chainCells (now (a .s))) (a .dimension) (reductionsOf pivotRule (chainCells (now (a .s))) (a .dimension)) (called .reduce-twice .result) (c .enum-told .given .1)
     (called .reduce-twice .ensures))
 
 same-length : tie.Need-same-length
@@ -154,11 +156,11 @@ module _ (c : tie.After-known-told3) where
   third = called .before .before
 
   twice : let a = entered (checked third) .args in
-      ReducedTwice (now (a .s)) (a .dimension) (reductionsOf (now (a .s)) (a .dimension)) (length (now (a .work))) (c .before .reduced .given .0 .0)
+      ReducedTwice (chainCells (now (a .s))) (a .dimension) (reductionsOf pivotRule (chainCells (now (a .s))) (a .dimension)) (length (now (a .work))) (c .before .reduced .given .0 .0)
       (called .reduce-twice .last .1 .1 .1 .0)
   twice =
       let a = entered (checked third) .args in
-      twice-done (now (a .s)) (a .dimension) (reductionsOf (now (a .s)) (a .dimension)) (called .reduce-twice .result) (c .before .reduced .given .1)
+      twice-done (chainCells (now (a .s))) (a .dimension) (reductionsOf pivotRule (chainCells (now (a .s))) (a .dimension)) (called .reduce-twice .result) (c .before .reduced .given .1)
       (called .reduce-twice .ensures)
 
 write-coordinates-requires : tie.Need-write-coordinates-requires
@@ -166,7 +168,7 @@ write-coordinates-requires c κs =
     let told = c .before .before in
     let s = checked (third told) in
     let p = granted s .passed in
-    can-coordinate (complex s) (p .work-slots) (twice told) (p .output-slots) (size (sized (second (third told)))) (small (second (third told)))
+    can-coordinate pivotRule-is-rule (chains s) (p .work-slots) (twice told) (p .output-slots) (size (sized (second (third told)))) (small (second (third told)))
 
 returns-6 : tie.Need-returns-6
 returns-6 c =
@@ -175,7 +177,7 @@ returns-6 c =
     let s = checked (third told) in
     let a = entered s .args in
     coordinates-done (a .sheet .limit) (now (a .s)) (a .dimension) (now (a .chain)) (now (a .coordinates)) (now (a .work)) (granted s .passed)
-    (chain (third told)) (complex s) (twice told) (wrote .write-coordinates .ensures) (c .before .clear .ensures)
+    (chain (third told)) (chains s) (twice told) (wrote .write-coordinates .ensures) (c .before .clear .ensures)
 
 same-length-2 : tie.Need-same-length-2
 same-length-2 c = c .before .before .before .before .write-coordinates .kept .1 .1 .1 .0

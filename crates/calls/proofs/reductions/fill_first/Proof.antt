@@ -10,7 +10,7 @@ use lib.IntN.{pos}
 use lib.ListN.{length, replicate, length-replicate}
 use Rattle.complexes.specs.Complex.{count}
 use Rattle.complexes.specs.Boundary.{boundary}
-use Rattle.sheet_format.specs.Check.{sectionsOf}
+use Rattle.sheet_format.specs.Check.{chainCells}
 use Rattle.lines.specs.Matrices.{Holds}
 use Rattle.calls.proofs.Places.{held-matrix}
 use Rattle.calls.proofs.Sheet.{rows-none, rows-section}
@@ -21,7 +21,7 @@ use Rattle.calls.proofs.reductions.fill_first.Tie as tie
 fill-boundary-requires : tie.Need-fill-boundary-requires
 fill-boundary-requires c κs =
     let start = c .before .before .before .before .before .before in
-    let b = now (start .args .s) in
+    let K = chainCells (now (start .args .s)) in
     let p = start .args .p in
     let n = length (now (start .args .w)) in
     let W = start .args .layout in
@@ -30,11 +30,11 @@ fill-boundary-requires c κs =
       (start .pre .0 .0, omega (arith, start .pre .0 .1, c .before .if1 .taken)),
       (
         (
-          matrix-rows b p n (start .pre .1 .0) W is ∙ rows-section (sectionsOf b) p (c .before .if1 .taken),
-          matrix-columns b p n (start .pre .1 .0) W is ∙ ap (count (sectionsOf b)) (omega (arith, c .before .if1 .taken)),
+          matrix-rows K p n (start .pre .1 .0) W is ∙ rows-section K p (c .before .if1 .taken),
+          matrix-columns K p n (start .pre .1 .0) W is ∙ ap (count K) (omega (arith, c .before .if1 .taken)),
         ),
         (
-          rw (cleared, length-replicate) (held-matrix (laid b p n (start .pre .1 .0) W is)),
+          rw (cleared, length-replicate) (held-matrix (laid K p n (start .pre .1 .0) W is)),
           rw cleared (zeros-small n),
           rw cleared (zeros-null n (W .matrix)),
         ),
@@ -44,37 +44,37 @@ fill-boundary-requires c κs =
 -- the boundary matrix stands in a slice of zeros
 matrix-filled : (c : tie.Joined1) →
     let args = c .before .before .before .before .before .args in
-    Holds (args .layout .matrix) (replicate (length (now (args .w))) (pos 0)) (boundary (sectionsOf (now (args .s))) (args .p)) (c .if1 .w)
+    Holds (args .layout .matrix) (replicate (length (now (args .w))) (pos 0)) (boundary (chainCells (now (args .s))) (args .p)) (c .if1 .w)
 matrix-filled c =
     let start = c .before .before .before .before .before in
-    let b = now (start .args .s) in
+    let K = chainCells (now (start .args .s)) in
     let p = start .args .p in
     let n = length (now (start .args .w)) in
     let cleared = c .before .before .clear .ensures in
     ⊎-elim
     (λ f. let dimension : suc (p - 1) ≡ p = omega (arith, f .0 .taken) in rw (f .4) (rw (cleared, dimension) at (f .2 .ensures)))
-    (λ f. rw (f .1, cleared) (no-lines (boundary (sectionsOf b) p)
-    (matrix-rows b p n (start .pre .1 .0) (start .args .layout) (start .pre .1 .1) ∙ rows-none b p (omega (arith, f .0 .left))) (zeros-small n)))
+    (λ f. rw (f .1, cleared) (no-lines (boundary K p)
+    (matrix-rows K p n (start .pre .1 .0) (start .args .layout) (start .pre .1 .1) ∙ rows-none K p (omega (arith, f .0 .left))) (zeros-small n)))
     (c .if1 .came)
 
 fill-identity-requires : tie.Need-fill-identity-requires
 fill-identity-requires c κs =
     let start = c .before .before .before .before .before .before in
-    follower-fills (now (start .args .s)) (start .args .p) (length (now (start .args .w))) (start .pre .1 .0) (start .args .layout) (start .pre .1 .1)
+    follower-fills (chainCells (now (start .args .s))) (start .args .p) (length (now (start .args .w))) (start .pre .1 .0) (start .args .layout) (start .pre .1 .1)
     (matrix-filled (c .before))
 
 fill-identity-requires-2 : tie.Need-fill-identity-requires-2
 fill-identity-requires-2 c κs =
     let joined = c .before .before .before .before in
     let start = joined .before .before .before .before .before in
-    inverse-fills (now (start .args .s)) (start .args .p) (length (now (start .args .w))) (start .pre .1 .0) (start .args .layout) (start .pre .1 .1)
+    inverse-fills (chainCells (now (start .args .s))) (start .args .p) (length (now (start .args .w))) (start .pre .1 .0) (start .args .layout) (start .pre .1 .1)
     (matrix-filled joined) (c .before .before .fill-identity .ensures)
 
 returns : tie.Need-returns
 returns c =
     let joined = c .before .before .before .before .before .before in
     let start = joined .before .before .before .before .before in
-    filled (now (start .args .s)) (start .args .p) (length (now (start .args .w))) (start .pre .1 .0) (start .args .layout) (start .pre .1 .1)
+    filled (chainCells (now (start .args .s))) (start .args .p) (length (now (start .args .w))) (start .pre .1 .0) (start .args .layout) (start .pre .1 .1)
     (record {
       matrix = matrix-filled joined;
       follower = c .before .before .before .before .fill-identity .ensures;

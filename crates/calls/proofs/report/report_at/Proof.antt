@@ -4,15 +4,16 @@ use mathlib.Core.Path.{_∙_}
 use borrow.Author.Needs.{needs}
 use denote.Ref.{now}
 use lib.ListN.{length}
-use Rattle.complexes.specs.Complex.{Complex}
-use Rattle.sheet_format.specs.Layout.{top}
-use Rattle.sheet_format.specs.Check.{sectionsOf}
+use Rattle.complexes.specs.ChainComplex.{ChainComplex}
+use Rattle.sheet_format.specs.Check.{chainCells}
+use Rattle.reduction_steps.specs.Pivot.{pivotRule}
+use Rattle.reduction_steps.specs.PivotLaws.{pivotRule-is-rule}
 use Rattle.reports.specs.Call.{reductionsOf}
 use Rattle.limits.specs.Limits.{libraryLimit}
 use Rattle.faces.specs.Face.{Accepted}
 use Rattle.calls.specs.Slices.{ReducedTwice}
 use Rattle.calls.specs.declared.admission.Request.the-variants.{Report}
-use Rattle.calls.proofs.Sheet.{sheet-complex, accepted-library}
+use Rattle.calls.proofs.Sheet.{sheet-chains, accepted-library}
 use Rattle.calls.proofs.Outcomes.{twice-done, twice-refused}
 use Rattle.calls.proofs.Admitting.{admit-refused, Granted, admit-granted}
 use Rattle.calls.proofs.Writing.{can-report}
@@ -51,8 +52,8 @@ module _ (c : tie.After-sizes) where
   library : Accepted (now (entered .args .s))
   library = accepted-library (entered .pre) (granted .passed .accepted)
 
-  complex : Complex top libraryLimit (sectionsOf (now (entered .args .s)))
-  complex = sheet-complex (record { small = λ i. c .before .before .before .shared-slice-known .given i .fits }) library
+  chains : ChainComplex libraryLimit (chainCells (now (entered .args .s)))
+  chains = sheet-chains (record { small = λ i. c .before .before .before .shared-slice-known .given i .fits }) library
 
 -- ---- the reductions
 
@@ -75,7 +76,7 @@ returns-2 c =
     let called = c .before .before .before in
     let a = entered (admitted called) .args in
     report-wide (a .sheet .limit) (now (a .s)) (a .dimension) (now (a .report)) (now (a .work)) (granted (admitted called) .passed)
-    (twice-refused (now (a .s)) (a .dimension) (reductionsOf (now (a .s)) (a .dimension)) (called .reduce-twice .result) (c .enum-told .given .1)
+    (twice-refused (chainCells (now (a .s))) (a .dimension) (reductionsOf pivotRule (chainCells (now (a .s))) (a .dimension)) (called .reduce-twice .result) (c .enum-told .given .1)
     (called .reduce-twice .ensures))
 
 same-length : tie.Need-same-length
@@ -91,25 +92,25 @@ module _ (c : tie.After-known-told3) where
   sized = admitted called
 
   twice : let a = entered sized .args in
-      ReducedTwice (now (a .s)) (a .dimension) (reductionsOf (now (a .s)) (a .dimension)) (length (now (a .work))) (c .before .reduced .given .0 .0)
+      ReducedTwice (chainCells (now (a .s))) (a .dimension) (reductionsOf pivotRule (chainCells (now (a .s))) (a .dimension)) (length (now (a .work))) (c .before .reduced .given .0 .0)
       (called .reduce-twice .last .1 .1 .1 .0)
   twice =
       let a = entered sized .args in
-      twice-done (now (a .s)) (a .dimension) (reductionsOf (now (a .s)) (a .dimension)) (called .reduce-twice .result) (c .before .reduced .given .1)
+      twice-done (chainCells (now (a .s))) (a .dimension) (reductionsOf pivotRule (chainCells (now (a .s))) (a .dimension)) (called .reduce-twice .result) (c .before .reduced .given .1)
       (called .reduce-twice .ensures)
 
 write-report-requires : tie.Need-write-report-requires
 write-report-requires c κs =
     let told = c .before .before in
     let p = granted (sized told) .passed in
-    can-report (complex (sized told)) (p .work-slots) (twice told) (p .output-slots)
+    can-report pivotRule-is-rule (chains (sized told)) (p .work-slots) (twice told) (p .output-slots)
 
 returns-3 : tie.Need-returns-3
 returns-3 c =
     let wrote = c .before .before .before .before in
     let told = wrote .before .before .before in
     let a = entered (sized told) .args in
-    report-done (a .sheet .limit) (now (a .s)) (a .dimension) (now (a .report)) (now (a .work)) (granted (sized told) .passed) (complex (sized told))
+    report-done (a .sheet .limit) (now (a .s)) (a .dimension) (now (a .report)) (now (a .work)) (granted (sized told) .passed) (chains (sized told))
     (twice told) (wrote .write-report .ensures) (c .before .clear .ensures)
 
 same-length-2 : tie.Need-same-length-2

@@ -18,7 +18,7 @@ use Rattle.integers.specs.Order.{natAbs-add, natAbs-mul}
 use Rattle.complexes.specs.Complex.{count, cell, Complex}
 use Rattle.complexes.specs.Boundary.{sign}
 use Rattle.sheet_format.specs.Layout.{top}
-use Rattle.sheet_format.specs.Check.{sectionsOf}
+use Rattle.sheet_format.specs.Check.{sectionsOf, chainCells}
 use Rattle.limits.specs.Limits.{libraryLimit, coefficientLimit}
 use Rattle.lines.specs.Slice.{limit}
 use Rattle.lines.proofs.Words.{read, sfits-below, read-wide}
@@ -54,7 +54,7 @@ record Given (b : List ℕ) (p j : ℕ) (x : ℤ) (sums₀ : List ℤ) : Type 0 
   inside : p < top
   below : j < count (sectionsOf b) (suc p)
   factor : natAbs x ≤ coefficientLimit
-  sums : Sums b p sums₀
+  sums : Sums (chainCells b) p sums₀
 
 module _ {b : List ℕ} {p j : ℕ} {x : ℤ} {sums₀ : List ℤ} {t : ℕ} {sums : List ℤ} (given : Given b p j x sums₀) (inv : Invariant b p j x sums₀ t sums)
     (more : t < p + 2) (i : ℕ) (face : IsFace b p j t i) (r : ℤ) (r-is : r ≡ sign t) where
@@ -65,6 +65,7 @@ module _ {b : List ℕ} {p j : ℕ} {x : ℤ} {sums₀ : List ℤ} {t : ℕ} {su
   small-entry = omega (arith, natAbs-part (cell (sectionsOf b) (suc p) j) t (cell (sectionsOf b) p i), given .inside)
 
   old-small : natAbs old ≤ 2 ^ 33
+  unfolding chainCells
   old-small =
       rw (inv .so-far i (face .below))
       (omega (
@@ -118,7 +119,8 @@ module _ {b : List ℕ} {p j : ℕ} {x : ℤ} {sums₀ : List ℤ} {t : ℕ} {su
           ∙ ap (λ (z : ℤ). getD sums₀ k (pos 0) +ℤ x *ℤ z) (sym (part-other b (given .sheet) p j (given .below) t i face k l d))
 
 ended : {b : List ℕ} {p j : ℕ} {x : ℤ} {sums₀ : List ℤ} {t : ℕ} {sums : List ℤ} → Given b p j x sums₀ → Invariant b p j x sums₀ t sums → p + 2 ≤ t
-    → AddsFaces b p j x sums₀ sums
+    → AddsFaces (chainCells b) p j x sums₀ sums
+unfolding chainCells
 ended {b} {p} {j} {x} {sums₀} {t} {sums} given inv done = record {
   same-length = inv .same-length;
   adds = λ i l.
@@ -142,6 +144,7 @@ read-x c = read-wide (c .args .x) (omega (arith, c .pre .1 .1 .0))
 
 given : (c : tie.After-shared-slice-known Inv-loop μ-loop) →
     let args = c .before .args in Given (args .s .now) (args .p) (args .j) (args .x) (args .sums .now)
+unfolding chainCells
 given c =
     let pre = c .before .pre in
     record {
@@ -159,6 +162,7 @@ add-loop : tie.Need-add-loop Inv-loop μ-loop
 add-loop c = omega (arith, c .before .before .pre .1 .0 .0)
 
 face-place-requires : tie.Need-face-place-requires Inv-loop μ-loop
+unfolding chainCells
 face-place-requires c κs =
     let pre = c .before .before .before .pre in (pre .0, (pre .1 .0 .0, pre .1 .0 .1, omega (arith, c .loop-test .taken)))
 

@@ -21,111 +21,111 @@ use Rattle.integers.specs.Ring.{mul-comm, mul-zero, add-zero}
 use Rattle.integers.specs.Order.{natAbs-mul, natAbs-zero}
 use Rattle.matrices.specs.Sum.{sum}
 use Rattle.matrices.specs.Vector.{apply}
-use Rattle.complexes.specs.Complex.{count, Complex}
+use Rattle.complexes.specs.Complex.{Sections, count}
 use Rattle.complexes.specs.Boundary.{countBelow, boundary}
-use Rattle.complexes.specs.BoundaryLaws.{boundary-small}
+use Rattle.complexes.specs.ChainComplex.{ChainComplex}
 use Rattle.sheet_format.specs.Layout.{top}
-use Rattle.sheet_format.specs.Check.{sectionsOf, some}
+use Rattle.sheet_format.specs.Check.{chainCells, some}
 use Rattle.sheet_format.specs.CheckLaws.{some-at, some-false}
-use Rattle.sheet_format.specs.SheetLaws.{count-sectionsOf}
+use Rattle.sheet_format.specs.SheetLaws.{count-chainCells}
+use Rattle.sheet_format.specs.Accept.{accepted-chains}
 use Rattle.reports.specs.Call.{boundaryNotZero}
 use Rattle.limits.specs.Limits.{libraryLimit, coefficientLimit}
 use Rattle.lines.proofs.Words.{read, cast-fits, cast-is, zero-of-bits}
 use Rattle.chains.specs.Sums.{Sums, AddsFaces}
-use Rattle.faces.proofs.Sheet.{complex}
 use Rattle.matrices.specs.SumLaws.{natAbs-sum}
 use Rattle.chains.proofs.chain.boundary_not_zero.Statement.{statement}
 use Rattle.chains.proofs.chain.boundary_not_zero.Tie as tie
 
 -- what the function is given
-record Given (b : List ℕ) (p : ℕ) (chain : List ℤ) : Type 0 where
-  sheet : Complex top libraryLimit (sectionsOf b)
+record Given (K : Sections) (p : ℕ) (chain : List ℤ) : Type 0 where
+  sheet : ChainComplex libraryLimit K
   inside : suc p ≤ top
-  sized : length chain ≡ count (sectionsOf b) (suc p)
+  sized : length chain ≡ count K (suc p)
   small : (i : ℕ) → natAbs (getD chain i (pos 0)) ≤ coefficientLimit
 
 -- row i of the boundary of the first j coefficients
-abbrev partial : List ℕ → ℕ → List ℤ → ℕ → ℕ → ℤ
-partial b p chain j i = apply j (boundary (sectionsOf b) (suc p)) (λ k. getD chain k (pos 0)) i
+abbrev partial : Sections → ℕ → List ℤ → ℕ → ℕ → ℤ
+partial K p chain j i = apply j (boundary K (suc p)) (λ k. getD chain k (pos 0)) i
 
 -- the sums hold the boundary of the first j coefficients
-record Summed (b : List ℕ) (p : ℕ) (chain : List ℤ) (j : ℕ) (sums : List ℤ) : Type 0 where
+record Summed (K : Sections) (p : ℕ) (chain : List ℤ) (j : ℕ) (sums : List ℤ) : Type 0 where
   within : j ≤ length chain
   sized : length sums ≡ libraryLimit
-  so-far : (i : ℕ) → i < count (sectionsOf b) p → getD sums i (pos 0) ≡ partial b p chain j i
+  so-far : (i : ℕ) → i < count K p → getD sums i (pos 0) ≡ partial K p chain j i
 
-begun : (b : List ℕ) (p : ℕ) (chain : List ℤ) → count (sectionsOf b) p ≤ libraryLimit → Summed b p chain 0 (replicate libraryLimit (pos 0))
+begun : (K : Sections) (p : ℕ) (chain : List ℤ) → count K p ≤ libraryLimit → Summed K p chain 0 (replicate libraryLimit (pos 0))
 unfolding apply sum
-begun b p chain few = record { within = omega arith; sized = refl; so-far = λ i l. getD-replicate libraryLimit i (pos 0) (pos 0) (omega arith) }
+begun K p chain few = record { within = omega arith; sized = refl; so-far = λ i l. getD-replicate libraryLimit i (pos 0) (pos 0) (omega arith) }
 
-module _ {b : List ℕ} {p : ℕ} {chain : List ℤ} {j : ℕ} {sums : List ℤ} (given : Given b p chain) (inv : Summed b p chain j sums) where
-  partial-small : (i : ℕ) → natAbs (partial b p chain j i) ≤ j * coefficientLimit
+module _ {K : Sections} {p : ℕ} {chain : List ℤ} {j : ℕ} {sums : List ℤ} (given : Given K p chain) (inv : Summed K p chain j sums) where
+  partial-small : (i : ℕ) → natAbs (partial K p chain j i) ≤ j * coefficientLimit
   unfolding apply
-  partial-small i = natAbs-sum j (λ k. boundary (sectionsOf b) (suc p) i k *ℤ getD chain k (pos 0)) coefficientLimit one
+  partial-small i = natAbs-sum j (λ k. boundary K (suc p) i k *ℤ getD chain k (pos 0)) coefficientLimit one
     where
-      one : (k : ℕ) → k < j → natAbs (boundary (sectionsOf b) (suc p) i k *ℤ getD chain k (pos 0)) ≤ coefficientLimit
+      one : (k : ℕ) → k < j → natAbs (boundary K (suc p) i k *ℤ getD chain k (pos 0)) ≤ coefficientLimit
       one k l =
           omega (
             arith,
-            natAbs-mul (boundary (sectionsOf b) (suc p) i k) (getD chain k (pos 0)),
-            NatL.mul-le-mul (boundary-small (given .sheet) (suc p) i k) (given .small k),
+            natAbs-mul (boundary K (suc p) i k) (getD chain k (pos 0)),
+            NatL.mul-le-mul (given .sheet .small (suc p) i k) (given .small k),
           )
 
-  sums-small : Sums b p sums
+  sums-small : Sums K p sums
   sums-small = record {
     sized = inv .sized;
     bounded = λ i l. rw (inv .so-far i l) (omega (arith, partial-small i, inv .within, given .sized, given .sheet .within (suc p)));
   }
 
-  added : j < length chain → {sums′ : List ℤ} → AddsFaces b p j (getD chain j (pos 0)) sums sums′ → Summed b p chain (j + 1) sums′
+  added : j < length chain → {sums′ : List ℤ} → AddsFaces K p j (getD chain j (pos 0)) sums sums′ → Summed K p chain (j + 1) sums′
   unfolding apply sum
   added l h = record {
     within = omega arith;
     sized = h .same-length ∙ inv .sized;
     so-far = λ i k.
         h .adds i k
-        ∙ rw (inv .so-far i k, add-one j, mul-comm (getD chain j (pos 0)) (boundary (sectionsOf b) (suc p) i j));
+        ∙ rw (inv .so-far i k, add-one j, mul-comm (getD chain j (pos 0)) (boundary K (suc p) i j));
   }
 
-  skipped : j < length chain → getD chain j (pos 0) ≡ pos 0 → Summed b p chain (j + 1) sums
+  skipped : j < length chain → getD chain j (pos 0) ≡ pos 0 → Summed K p chain (j + 1) sums
   unfolding apply sum
   skipped l e = record {
     within = omega arith;
     sized = inv .sized;
     so-far = λ i k.
         inv .so-far i k
-        ∙ rw (add-one j, e, mul-zero (boundary (sectionsOf b) (suc p) i j)) (sym (add-zero (partial b p chain j i)));
+        ∙ rw (add-one j, e, mul-zero (boundary K (suc p) i j)) (sym (add-zero (partial K p chain j i)));
   }
 
 -- ---- the test of the sums
 
 -- check 12 at row i
-abbrev nonzero : List ℕ → ℕ → List ℤ → ℕ → Bool
-nonzero b p chain i = not (eqb (natAbs (partial b p chain (count (sectionsOf b) (suc p)) i)) 0)
+abbrev nonzero : Sections → ℕ → List ℤ → ℕ → Bool
+nonzero K p chain i = not (eqb (natAbs (partial K p chain (count K (suc p)) i)) 0)
 
-module _ {b : List ℕ} {p : ℕ} {chain : List ℤ} {j : ℕ} {sums : List ℤ} (given : Given b p chain) (inv : Summed b p chain j sums)
+module _ {K : Sections} {p : ℕ} {chain : List ℤ} {j : ℕ} {sums : List ℤ} (given : Given K p chain) (inv : Summed K p chain j sums)
     (done : length chain ≤ j) where
   -- row i of the boundary
   abbrev whole : ℕ → ℤ
-  whole i = partial b p chain (count (sectionsOf b) (suc p)) i
+  whole i = partial K p chain (count K (suc p)) i
 
-  sum-is : (i : ℕ) → i < count (sectionsOf b) p → getD sums i (pos 0) ≡ whole i
-  sum-is i l = inv .so-far i l ∙ ap (λ (n : ℕ). partial b p chain n i) (omega (arith, inv .within, given .sized))
+  sum-is : (i : ℕ) → i < count K p → getD sums i (pos 0) ≡ whole i
+  sum-is i l = inv .so-far i l ∙ ap (λ (n : ℕ). partial K p chain n i) (omega (arith, inv .within, given .sized))
 
-  found : (i : ℕ) → i < count (sectionsOf b) p → getD sums i (pos 0) ≢ pos 0 → true ≡ boundaryNotZero (sectionsOf b) (suc p) chain
+  found : (i : ℕ) → i < count K p → getD sums i (pos 0) ≢ pos 0 → true ≡ boundaryNotZero K (suc p) chain
   unfolding boundaryNotZero countBelow
   found i l d =
-      sym (some-at (count (sectionsOf b) p) (nonzero b p chain) i l
+      sym (some-at (count K p) (nonzero K p chain) i l
       (ap not (ne-eqb (natAbs (whole i)) 0 (λ e. d (sum-is i l ∙ natAbs-zero (whole i) e)))))
 
-  none : ((i : ℕ) → i < count (sectionsOf b) p → getD sums i (pos 0) ≡ pos 0) → false ≡ boundaryNotZero (sectionsOf b) (suc p) chain
+  none : ((i : ℕ) → i < count K p → getD sums i (pos 0) ≡ pos 0) → false ≡ boundaryNotZero K (suc p) chain
   unfolding boundaryNotZero countBelow
   none h =
-      sym (some-false (count (sectionsOf b) p) (nonzero b p chain) .1
+      sym (some-false (count K p) (nonzero K p chain) .1
       (λ i l. ap not (eq-eqb (natAbs (whole i)) 0 (ap natAbs (sym (sum-is i l) ∙ h i l)))))
 
 abbrev Inv-loop : tie.InvT-loop
-Inv-loop s p chain sums₀ j₀ sums j = Summed s (p - 1) chain j sums
+Inv-loop s p chain sums₀ j₀ sums j = Summed (chainCells s) (p - 1) chain j sums
 
 abbrev μ-loop : tie.MeasureT-loop
 μ-loop s p chain sums₀ j₀ sums j = length chain - j
@@ -140,24 +140,24 @@ returns : tie.Need-returns Inv-loop μ-loop Inv-loop2 μ-loop2
 unfolding boundaryNotZero countBelow some
 returns c =
     let args = c .before .before .args in
-    subst (λ (n : ℕ). false ≡ boundaryNotZero (sectionsOf (now (args .s))) n (now (args .chain))) (sym (c .if1 .taken)) refl
+    subst (λ (n : ℕ). false ≡ boundaryNotZero (chainCells (now (args .s))) n (now (args .chain))) (sym (c .if1 .taken)) refl
 
 -- the dimension is not 0
 positive : (c : tie.Else1 Inv-loop μ-loop Inv-loop2 μ-loop2) → suc (c .before .before .args .p - 1) ≡ c .before .before .args .p
 positive c = omega (arith, c .if1 .left)
 
-given : (c : tie.Else1 Inv-loop μ-loop Inv-loop2 μ-loop2) → let args = c .before .before .args in Given (args .s .now) (args .p - 1) (args .chain .now)
+given : (c : tie.Else1 Inv-loop μ-loop Inv-loop2 μ-loop2) → let args = c .before .before .args in Given (chainCells (args .s .now)) (args .p - 1) (args .chain .now)
 given c =
     let pre = c .before .before .pre in
     record {
-      sheet = complex (record { small = λ i. c .before .shared-slice-known .given i .fits }) (pre .0);
+      sheet = accepted-chains libraryLimit _ (record { small = λ i. c .before .shared-slice-known .given i .fits }) (pre .0 .none-applies);
       inside = omega (arith, positive c, pre .1 .0 .0);
       sized = rw (positive c) (pre .1 .0 .1);
       small = pre .1 .1;
     }
 
 loop-holds : tie.Need-loop-holds Inv-loop μ-loop Inv-loop2 μ-loop2
-loop-holds c = let args = c .before .before .args in begun (args .s .now) (args .p - 1) (args .chain .now) (given c .sheet .within (args .p - 1))
+loop-holds c = let args = c .before .before .args in begun (chainCells (args .s .now)) (args .p - 1) (args .chain .now) (given c .sheet .within (args .p - 1))
 
 shared-slice-copy-out-x : tie.Need-shared-slice-copy-out-x Inv-loop μ-loop Inv-loop2 μ-loop2
 shared-slice-copy-out-x c = c .loop-test .taken
@@ -205,11 +205,11 @@ loop-again c =
     let more = at .before .loop-test .taken in
     ⊎-elim
     (λ way.
-    subst (λ (sums : List ℤ). Summed (args .s .now) (args .p - 1) (args .chain .now) (j + 1) sums) (sym (way .3))
+    subst (λ (sums : List ℤ). Summed (chainCells (args .s .now)) (args .p - 1) (args .chain .now) (j + 1) sums) (sym (way .3))
     (added g inv more
-    (subst (λ (z : ℤ). AddsFaces (args .s .now) (args .p - 1) j z (head at .loop .sums) (way .2 .last .1 .1 .1 .1 .0)) (x-is at) (way .2 .ensures))))
+    (subst (λ (z : ℤ). AddsFaces (chainCells (args .s .now)) (args .p - 1) j z (head at .loop .sums) (way .2 .last .1 .1 .1 .1 .0)) (x-is at) (way .2 .ensures))))
     (λ way.
-    subst (λ (sums : List ℤ). Summed (args .s .now) (args .p - 1) (args .chain .now) (j + 1) sums) (sym (way .1))
+    subst (λ (sums : List ℤ). Summed (chainCells (args .s .now)) (args .p - 1) (args .chain .now) (j + 1) sums) (sym (way .1))
     (skipped g inv more (sym (toZ-ofZ (x-fits at)) ∙ zero-of-bits (cast-x at) (way .0 .left))))
     (c .if2 .came)
 
@@ -223,9 +223,9 @@ loop2-holds : tie.Need-loop2-holds Inv-loop μ-loop Inv-loop2 μ-loop2
 loop2-holds c = (omega arith, λ k l. absurd (omega arith))
 
 rows : (c : tie.After-count Inv-loop μ-loop Inv-loop2 μ-loop2) →
-    let args = c .before .before .before .before .before .args in c .count .result ≡ count (sectionsOf (args .s .now)) (args .p - 1)
+    let args = c .before .before .before .before .before .args in c .count .result ≡ count (chainCells (args .s .now)) (args .p - 1)
 rows c =
-    let args = c .before .before .before .before .before .args in c .count .ensures .is ∙ sym (count-sectionsOf (args .s .now) (args .p - 1))
+    let args = c .before .before .before .before .before .args in c .count .ensures .is ∙ sym (count-chainCells (args .s .now) (args .p - 1))
 
 row-below : (c : tie.In-loop2 Inv-loop μ-loop Inv-loop2 μ-loop2) → c .before .loop2 .row < libraryLimit
 row-below c =
@@ -242,7 +242,7 @@ returns-2 : tie.Need-returns-2 Inv-loop μ-loop Inv-loop2 μ-loop2
 returns-2 c =
     let turn = c .before .before in let counted = turn .before .before in let first = counted .before .before .before in
     let args = first .before .before .args in
-    subst (λ (n : ℕ). true ≡ boundaryNotZero (sectionsOf (now (args .s))) n (now (args .chain))) (positive first)
+    subst (λ (n : ℕ). true ≡ boundaryNotZero (chainCells (now (args .s))) n (now (args .chain))) (positive first)
     (found (given first) (counted .before .before .loop .inv) (counted .before .loop-test .left) (turn .before .loop2 .row)
     (omega (arith, turn .loop2-test .taken, rows counted))
     (λ e. c .if3 .taken (ap (ofZ w64) e)))
@@ -268,7 +268,7 @@ loop2-again c =
 returns-3 : tie.Need-returns-3 Inv-loop μ-loop Inv-loop2 μ-loop2
 returns-3 c =
     let counted = c .before .before in let first = counted .before .before .before in let args = first .before .before .args in
-    subst (λ (n : ℕ). false ≡ boundaryNotZero (sectionsOf (now (args .s))) n (now (args .chain))) (positive first)
+    subst (λ (n : ℕ). false ≡ boundaryNotZero (chainCells (now (args .s))) n (now (args .chain))) (positive first)
     (none (given first) (counted .before .before .loop .inv) (counted .before .loop-test .left)
     (λ i l. c .before .loop2 .inv .1 i (omega (arith, c .loop2-test .left, rows counted))))
 

@@ -3,15 +3,17 @@
 use mathlib.Core.Path.{_∙_}
 use native.Mathlib.Omega.{arith}
 use Prim.Native.Nat.{_+_}
+use Rattle.reduction_steps.specs.Pivot.{pivotRule}
+use Rattle.reduction_steps.specs.PivotLaws.{pivotRule-is-rule}
 use Rattle.reducer.proofs.Reductions.{Reducing, reducing-start, stagesLeft, reducing-next, next-less, reducing-again, again-less, reduced, reduction-refused}
 use Rattle.reducer.proofs.reduction.reduce_matrix.Statement.{statement}
 use Rattle.reducer.proofs.reduction.reduce_matrix.Tie as tie
 
 abbrev Inv-loop : tie.InvT-loop
-Inv-loop W w₀ k₀ w k = Reducing W w₀ k w
+Inv-loop W w₀ k₀ w k = Reducing pivotRule W w₀ k w
 
 abbrev μ-loop : tie.MeasureT-loop
-μ-loop W w₀ k₀ w k = stagesLeft W k w
+μ-loop W w₀ k₀ w k = stagesLeft pivotRule W k w
 
 loop-holds : tie.Need-loop-holds Inv-loop μ-loop
 loop-holds c = reducing-start (c .pre .0) (c .pre .1)
@@ -26,10 +28,10 @@ enum-told c = c .match .keys1
 next :
     (c : tie.After-enum-told Inv-loop μ-loop)
     → (let start = c .before .before .before .before .before .before in
-    Reducing (start .args .layout) (start .args .w .now) (c .before .before .before .before .before .loop .k + 1) (c .before .before .before .choose-pivot .last .1 .0))
+    Reducing pivotRule (start .args .layout) (start .args .w .now) (c .before .before .before .before .before .loop .k + 1) (c .before .before .before .choose-pivot .last .1 .0))
 next c =
     let called = c .before .before .before .choose-pivot in
-    reducing-next (c .before .before .before .before .before .loop .inv) _ (called .last .1 .0) (called .ensures) (c .enum-told .given .1)
+    reducing-next pivotRule-is-rule (c .before .before .before .before .before .loop .inv) _ (called .last .1 .0) (called .ensures) (c .enum-told .given .1)
 
 add-k : tie.Need-add-k Inv-loop μ-loop
 add-k c = omega (arith, next c .begun .row-bound, c .before .before .before .before .before .before)
@@ -37,7 +39,7 @@ add-k c = omega (arith, next c .begun .row-bound, c .before .before .before .bef
 loop-less : tie.Need-loop-less Inv-loop μ-loop
 loop-less c =
     let called = c .before .before .before .choose-pivot in
-    next-less (c .before .before .before .before .before .loop .inv) _ (called .last .1 .0) (called .ensures) (c .enum-told .given .1)
+    next-less pivotRule-is-rule (c .before .before .before .before .before .loop .inv) _ (called .last .1 .0) (called .ensures) (c .enum-told .given .1)
 
 loop-again : tie.Need-loop-again Inv-loop μ-loop
 loop-again c = next c
@@ -48,12 +50,12 @@ enum-told-2 c = c .match .keys2
 loop-less-2 : tie.Need-loop-less-2 Inv-loop μ-loop
 loop-less-2 c =
     let called = c .before .before .before .choose-pivot in
-    again-less (c .before .before .before .before .before .loop .inv) _ (called .last .1 .0) (called .ensures) (omega arith) (c .enum-told2 .given .1)
+    again-less pivotRule-is-rule (c .before .before .before .before .before .loop .inv) _ (called .last .1 .0) (called .ensures) (omega arith) (c .enum-told2 .given .1)
 
 loop-again-2 : tie.Need-loop-again-2 Inv-loop μ-loop
 loop-again-2 c =
     let called = c .before .before .before .choose-pivot in
-    reducing-again (c .before .before .before .before .before .loop .inv) _ (called .last .1 .0) (called .ensures) (c .enum-told2 .given .1)
+    reducing-again pivotRule-is-rule (c .before .before .before .before .before .loop .inv) _ (called .last .1 .0) (called .ensures) (c .enum-told2 .given .1)
 
 enum-told-3 : tie.Need-enum-told-3 Inv-loop μ-loop
 enum-told-3 c = c .match .keys3
@@ -64,7 +66,7 @@ same-length c = c .before .before .before .choose-pivot .kept .1 .0 ∙ c .befor
 returns : tie.Need-returns Inv-loop μ-loop
 returns c =
     let called = c .before .before .before .choose-pivot in
-    reduced (c .before .before .before .before .before .loop .inv) _ (called .last .1 .0) (called .ensures) (c .enum-told3 .given .1)
+    reduced pivotRule-is-rule (c .before .before .before .before .before .loop .inv) _ (called .last .1 .0) (called .ensures) (c .enum-told3 .given .1)
 
 enum-known-refusal : tie.Need-enum-known-refusal Inv-loop μ-loop
 enum-known-refusal c = c .match .keys4
@@ -75,7 +77,7 @@ same-length-2 c = c .before .before .before .before .choose-pivot .kept .1 .0 �
 returns-2 : tie.Need-returns-2 Inv-loop μ-loop
 returns-2 c =
     let called = c .before .before .before .before .choose-pivot in
-    reduction-refused (c .before .before .before .before .before .before .loop .inv) _ (called .last .1 .0) (called .ensures) (c .before .refusal .given .1)
+    reduction-refused pivotRule-is-rule (c .before .before .before .before .before .before .loop .inv) _ (called .last .1 .0) (called .ensures) (c .before .refusal .given .1)
 
 pub reduce-matrix-spec : {M : Type 1} → statement M
 reduce-matrix-spec =

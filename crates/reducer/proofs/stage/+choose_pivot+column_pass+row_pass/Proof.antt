@@ -9,7 +9,8 @@ use lib.IntN.{ℤ, pos}
 use lib.ListN.{length, replicate}
 use borrow.Fn.Kinds.{In}
 use borrow.Fn.PlainCycle.{Measures, is, falls, and}
-use Rattle.reduction_steps.specs.Pivot.{place, Least}
+use Rattle.reduction_steps.specs.Pivot.{place, pivotRule, Least}
+use Rattle.reduction_steps.specs.PivotLaws.{pivotRule-is-rule}
 use Rattle.reduction_steps.specs.Step.{Letter, at, row}
 use Rattle.refusal.specs.declared.Refusal.the-variants.{TooWide}
 use Rattle.operations.specs.Laid.{stateOf}
@@ -141,7 +142,7 @@ choose-pivot-same-length t c = refl
 choose-pivot-returns-2 : (t : ℕ) → choose-pivot-lts.Need-returns-2 (choose-pivot-calls t) (choose-pivot-at t) choose-pivot.Post
 choose-pivot-returns-2 t c =
     let start = c .before .before .before .before .before in
-    exhausted (start .args .layout) (start .args .k) (start .args .w .now) (start .pre .1) (sym (ap pivotChoice (c .enum-told .given .1)) ∙ c .before .before .find-pivot .ensures)
+    exhausted pivotRule-is-rule (start .args .layout) (start .args .k) (start .args .w .now) (start .pre .1) (sym (ap pivotChoice (c .enum-told .given .1)) ∙ c .before .before .find-pivot .ensures)
 
 -- the place that was found
 module _ (t : ℕ) (c : choose-pivot-lts.After-known-told (choose-pivot-calls t) (choose-pivot-at t) choose-pivot.Post) where
@@ -154,11 +155,11 @@ module _ (t : ℕ) (c : choose-pivot-lts.After-known-told (choose-pivot-calls t)
   abbrev pivot-column : ℕ
   pivot-column = c .before .i .given .0 .1 .0
 
-  found : Chosen (start .args .layout) (start .args .k) (start .args .w .now) (place pivot-row pivot-column)
+  found : Chosen pivotRule-is-rule (start .args .layout) (start .args .k) (start .args .w .now) (place pivot-row pivot-column)
   found = sym (ap pivotChoice (c .before .i .given .1)) ∙ c .before .before .before .find-pivot .ensures
 
   least : Least (start .args .layout .matrix .lines) (start .args .layout .matrix .width) (start .args .k) (matrixOf (start .args .layout) (start .args .w .now)) pivot-row pivot-column
-  least = chosen-least (start .args .layout) (start .args .k) (start .args .w .now) pivot-row pivot-column found
+  least = chosen-least pivotRule-is-rule (start .args .layout) (start .args .k) (start .args .w .now) pivot-row pivot-column found
 
 choose-pivot-bring-pivot-requires : (t : ℕ) → choose-pivot-lts.Need-bring-pivot-requires (choose-pivot-calls t) (choose-pivot-at t) choose-pivot.Post
 choose-pivot-bring-pivot-requires t c κs =
@@ -180,18 +181,18 @@ choose-pivot-returns-3 t c =
     let place = c .before .before .before .before .before in
     let begun = start t place in
     pass-stops (begun .args .layout) (at Letter.a (begun .args .k) (stateOf (begun .args .layout) (begun .args .w .now))) (c .before .before .before .bring-pivot .result) (c .before .before .before .bring-pivot .last .1 .0)
-    (bring-goes (begun .args .layout) (begun .args .k) (begun .args .w .now) (pivot-row t place) (pivot-column t place) (found t place))
+    (bring-goes pivotRule-is-rule (begun .args .layout) (begun .args .k) (begun .args .w .now) (pivot-row t place) (pivot-column t place) (found t place))
     (c .enum-told3 .given .1) (c .before .before .before .bring-pivot .ensures)
 
 -- after step b
 to-row-pass :
     (t : ℕ) (c : choose-pivot-lts.After-enum-told2 (choose-pivot-calls t) (choose-pivot-at t) choose-pivot.Post)
     → (let begun = start t (c .before .before .before .before .before) in
-    ToRows (begun .args .layout) (begun .args .k) (begun .args .w .now) (c .before .before .before .bring-pivot .last .1 .0))
+    ToRows pivotRule (begun .args .layout) (begun .args .k) (begun .args .w .now) (c .before .before .before .bring-pivot .last .1 .0))
 to-row-pass t c =
     let place = c .before .before .before .before .before in
     let begun = start t place in
-    to-rows (begun .args .layout) (begun .args .k) (begun .args .w .now) (pivot-row t place) (pivot-column t place) (found t place) (begun .pre .1)
+    to-rows pivotRule-is-rule (begun .args .layout) (begun .args .k) (begun .args .w .now) (pivot-row t place) (pivot-column t place) (found t place) (begun .pre .1)
     (passed-made (c .enum-told2 .given .1) (c .before .before .before .bring-pivot .ensures))
 
 choose-pivot-sub-row-pass : (t : ℕ) → choose-pivot-lts.Need-sub-row-pass (choose-pivot-calls t) (choose-pivot-at t) choose-pivot.Post
@@ -225,7 +226,7 @@ column-pass-returns : (t : ℕ) → column-pass-lts.Need-returns (column-pass-ca
 column-pass-returns t c =
     let begun = c .before .before .before .before .before in
     pass-stops (begun .args .layout) (at Letter.d (begun .args .k) (stateOf (begun .args .layout) (begun .args .w .now))) (c .before .before .before .clear-row .result) (c .before .before .before .clear-row .last .1 .0)
-    (columns-go (begun .pre .1)) (c .enum-told2 .given .1) (c .before .before .before .clear-row .ensures)
+    (columns-go pivotRule-is-rule (begun .pre .1)) (c .enum-told2 .given .1) (c .before .before .before .clear-row .ensures)
 
 -- after step d
 module _ (t : ℕ) (c : column-pass-lts.After-enum-told (column-pass-calls t) (column-pass-at t) column-pass.Post) where
@@ -252,16 +253,16 @@ column-pass-row-keeps-requires t c κs =
 column-to-choice :
     (t : ℕ) (c : column-pass-lts.Then1 (column-pass-calls t) (column-pass-at t) column-pass.Post)
     → (let begun = column-start t (c .before .before .before) in
-    ToChoice Letter.d (begun .args .layout) (begun .args .k) (begun .args .w .now) (c .before .before .before .before .before .before .clear-row .last .1 .0))
+    ToChoice pivotRule Letter.d (begun .args .layout) (begun .args .k) (begun .args .w .now) (c .before .before .before .before .before .before .clear-row .last .1 .0))
 column-to-choice t c =
-    columns-to-choice (column-start t (c .before .before .before) .pre .1) (columns-made t (c .before .before .before)) (sym (c .if1 .taken) ∙ c .before .row-keeps .ensures)
+    columns-to-choice pivotRule-is-rule (column-start t (c .before .before .before) .pre .1) (columns-made t (c .before .before .before)) (sym (c .if1 .taken) ∙ c .before .row-keeps .ensures)
 
 column-cleared :
     (t : ℕ) (c : column-pass-lts.Else1 (column-pass-calls t) (column-pass-at t) column-pass.Post)
     → (let begun = column-start t (c .before .before .before) in
-    RowClear (begun .args .layout) (begun .args .k) (begun .args .w .now) (c .before .before .before .before .before .before .clear-row .last .1 .0))
+    RowClear pivotRule (begun .args .layout) (begun .args .k) (begun .args .w .now) (c .before .before .before .before .before .before .clear-row .last .1 .0))
 column-cleared t c =
-    row-clear (column-start t (c .before .before .before) .pre .1) (columns-made t (c .before .before .before)) (sym (c .if1 .left) ∙ c .before .row-keeps .ensures)
+    row-clear pivotRule-is-rule (column-start t (c .before .before .before) .pre .1) (columns-made t (c .before .before .before)) (sym (c .if1 .left) ∙ c .before .row-keeps .ensures)
 
 column-pass-choose-pivot-requires : (t : ℕ) → column-pass-lts.Need-choose-pivot-requires (column-pass-calls t) (column-pass-at t) column-pass.Post
 column-pass-choose-pivot-requires t c κs =
@@ -341,7 +342,7 @@ module _ (t : ℕ) (c : column-pass-lts.After-enum-told5 (column-pass-calls t) (
 
   stopped :
       {w : List ℤ} → w ≡ replicate (length (c .before .before .before .on-rows .last .1 .0)) (pos 0)
-      → (let start = begun t adding .args in StageRefused (start .layout) (at Letter.d (start .k) (stateOf (start .layout) (start .w .now))) (length (start .w .now)) TooWide w)
+      → (let start = begun t adding .args in StageRefused pivotRule (start .layout) (at Letter.d (start .k) (stateOf (start .layout) (start .w .now))) (length (start .w .now)) TooWide w)
   stopped z =
       let called = c .before .before .before .on-rows in
       add-stops (column-cleared t (else t adding)) (lower t adding) (found-lower t adding) (called .last .1 .0) (operated-wide (called .ensures) (c .enum-told5 .given .1)) z
@@ -360,7 +361,7 @@ column-pass-returns-4 t c = stopped t (c .before .before .before) (c .before .cl
 column-again :
     (t : ℕ) (c : column-pass-lts.After-enum-told4 (column-pass-calls t) (column-pass-at t) column-pass.Post)
     → (let start = begun t (c .before .before .before .before .before) in
-    ColumnsAgain (start .args .layout) (start .args .k) (start .args .w .now) (c .before .before .before .on-rows .last .1 .0))
+    ColumnsAgain pivotRule (start .args .layout) (start .args .k) (start .args .w .now) (c .before .before .before .on-rows .last .1 .0))
 column-again t c =
     let row = c .before .before .before .before .before in
     let called = c .before .before .before .on-rows in
@@ -399,7 +400,7 @@ row-pass-returns : (t : ℕ) → row-pass-lts.Need-returns (row-pass-calls t) (r
 row-pass-returns t c =
     let begun = c .before .before .before .before .before in
     pass-stops (begun .args .layout) (at Letter.c (begun .args .k) (stateOf (begun .args .layout) (begun .args .w .now))) (c .before .before .before .clear-column .result) (c .before .before .before .clear-column .last .1 .0)
-    (rows-go (begun .pre .1)) (c .enum-told2 .given .1) (c .before .before .before .clear-column .ensures)
+    (rows-go pivotRule-is-rule (begun .pre .1)) (c .enum-told2 .given .1) (c .before .before .before .clear-column .ensures)
 
 -- after step c
 module _ (t : ℕ) (c : row-pass-lts.After-enum-told (row-pass-calls t) (row-pass-at t) row-pass.Post) where
@@ -421,16 +422,16 @@ row-pass-column-keeps-requires t c κs =
 row-to-choice :
     (t : ℕ) (c : row-pass-lts.Then1 (row-pass-calls t) (row-pass-at t) row-pass.Post)
     → (let begun = row-start t (c .before .before .before) in
-    ToChoice Letter.c (begun .args .layout) (begun .args .k) (begun .args .w .now) (c .before .before .before .before .before .before .clear-column .last .1 .0))
+    ToChoice pivotRule Letter.c (begun .args .layout) (begun .args .k) (begun .args .w .now) (c .before .before .before .before .before .before .clear-column .last .1 .0))
 row-to-choice t c =
-    rows-to-choice (row-start t (c .before .before .before) .pre .1) (rows-made t (c .before .before .before)) (sym (c .if1 .taken) ∙ c .before .column-keeps .ensures)
+    rows-to-choice pivotRule-is-rule (row-start t (c .before .before .before) .pre .1) (rows-made t (c .before .before .before)) (sym (c .if1 .taken) ∙ c .before .column-keeps .ensures)
 
 row-to-columns :
     (t : ℕ) (c : row-pass-lts.Else1 (row-pass-calls t) (row-pass-at t) row-pass.Post)
     → (let begun = row-start t (c .before .before .before) in
-    ToColumns Letter.c (begun .args .layout) (begun .args .k) (begun .args .w .now) (c .before .before .before .before .before .before .clear-column .last .1 .0))
+    ToColumns pivotRule Letter.c (begun .args .layout) (begun .args .k) (begun .args .w .now) (c .before .before .before .before .before .before .clear-column .last .1 .0))
 row-to-columns t c =
-    rows-to-columns (row-start t (c .before .before .before) .pre .1) (rows-made t (c .before .before .before)) (sym (c .if1 .left) ∙ c .before .column-keeps .ensures)
+    rows-to-columns pivotRule-is-rule (row-start t (c .before .before .before) .pre .1) (rows-made t (c .before .before .before)) (sym (c .if1 .left) ∙ c .before .column-keeps .ensures)
 
 row-pass-choose-pivot-requires : (t : ℕ) → row-pass-lts.Need-choose-pivot-requires (row-pass-calls t) (row-pass-at t) row-pass.Post
 row-pass-choose-pivot-requires t c κs =
