@@ -417,7 +417,7 @@ module _ (t : ℕ) (c : row-pass-lts.After-enum-told (row-pass-calls t) (row-pas
 row-pass-column-keeps-requires : (t : ℕ) → row-pass-lts.Need-column-keeps-requires (row-pass-calls t) (row-pass-at t) row-pass.Post
 row-pass-column-keeps-requires t c κs =
     let h = row-start t (c .before) .pre .1 in
-    (held-matrix (laid-kept (c .before .before .before .before .clear-column .last .1 .0) (h .laid) (c .before .before .before .before .clear-column .kept .1 .0)), (h .ready .row, h .ready .column, column-reduced h (rows-made t (c .before))))
+    (held-matrix (laid-kept (c .before .before .before .before .clear-column .last .1 .0) (h .laid) (c .before .before .before .before .clear-column .kept .1 .0)), (h .ready .row, h .ready .column, column-reduced pivotRule-is-rule h (rows-made t (c .before))))
 
 row-to-choice :
     (t : ℕ) (c : row-pass-lts.Then1 (row-pass-calls t) (row-pass-at t) row-pass.Post)
