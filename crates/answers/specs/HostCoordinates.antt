@@ -17,7 +17,6 @@ use Rattle.sheet_format.specs.Check.{sectionsOf, first}
 use Rattle.sheet_format.specs.Sheet.{Bytes}
 use Rattle.reduction_steps.specs.State.{State, within}
 use Rattle.reduction_steps.specs.Pivot.{release1}
-use Rattle.reports.specs.Reductions.{reduced}
 use Rattle.reports.specs.Report.{freeRank, torsionCount, coordinateList}
 use Rattle.reports.specs.ReportLaws.{coordinates-fit}
 use Rattle.reports.specs.Call.{callChecks, chainChecks, coordinateSlots, workSlots, reductionsOf}
@@ -27,13 +26,12 @@ use Rattle.reports.specs.Host.{coefficientIn, otherLength, chainFrom, slotsIn, 
 use Rattle.answers.specs.Right.{slot}
 use Rattle.answers.specs.Wide.{GoesWide}
 use Rattle.answers.specs.Called.{Answers, KeptPast}
-use Rattle.answers.specs.TwoReductions.{Right}
 use Rattle.answers.specs.ChainChecks.{ChainPasses, chain-passes}
 use Rattle.answers.specs.Numbers.{coordinates-length}
 use Rattle.answers.specs.CoordinatesRight.{ReadsCoordinates}
-use Rattle.answers.specs.Calls.{told, told-answers, ToldDone, told-done, passed-complex, reductionsOf-wide, reductionsOf-right, reductionsOf-within}
+use Rattle.answers.specs.Calls.{passed-complex}
 use Rattle.answers.specs.Fits.{coordinates-word}
-use Rattle.answers.specs.HostCalls.{host-number, host-left, host-reads, host-kept}
+use Rattle.answers.specs.HostCalls.{host-left, host-reads, host-kept, HostDone, host-answers, host-done}
 
 -- a chain of n coefficients has those that its bytes give
 pub given-coefficient : (n : ℕ) (chain : List ℕ) → length (chainFrom n chain) ≡ n → (i : ℕ) → i < n → slot (chainFrom n chain) i ≡ coefficientIn chain i
@@ -73,68 +71,46 @@ module _ (b : List ℕ) (bytes : Bytes b) (p : ℕ) (chain output : List ℕ) wh
   complex : hostCoordinatesBefore ≡ 0 → Complex top hostLimit (sectionsOf b)
   complex e = passed-complex hostLimit b p coordinateSlots (slotsIn output) (workSlots (sectionsOf b) p) bytes (passed .0 e .0)
 
-  number : hostCoordinates b p chain output .number ≡ told hostCoordinatesBefore (reductionsOf b p)
-  unfolding hostCoordinates
-  number = host-number numbers output hostCoordinatesBefore (reductionsOf b p)
-
   pub host-coordinates-answer : Answers hostCoordinatesBefore (GoesWide entryLimit release1 (sectionsOf b) p) (hostCoordinates b p chain output .number)
+  unfolding hostCoordinates
   host-coordinates-answer =
-      rw number
-      (told-answers hostCoordinatesBefore (reductionsOf b p)
+      host-answers b p hostCoordinatesBefore complex numbers output
       (call-chain-narrow hostLimit b p coordinateSlots (slotsIn output) (workSlots (sectionsOf b) p) given)
-      (λ e. reductionsOf-wide b p (complex e)))
 
   pub host-coordinates-left : hostCoordinates b p chain output .number ≢ 0 → hostCoordinates b p chain output .output ≡ output
   unfolding hostCoordinates
-  host-coordinates-left d = host-left numbers output hostCoordinatesBefore (reductionsOf b p) (rw number at d)
+  host-coordinates-left = host-left numbers output hostCoordinatesBefore (reductionsOf b p)
 
   -- the chain is a cycle, and the two reductions behind its coordinates are right
   pub record HostCoordinated : Type 0 where
-    pub rows : ℕ
-    pub rank : ℕ
-    pub state : State
-    pub right : Right (sectionsOf b) p rows rank state
-    pub reductions : reductionsOf b p ≡ reduced rows rank state
+    pub behind : HostDone b p hostCoordinatesBefore
     pub chain-passed : ChainPasses b p given
-    pub reads : ReadsCoordinates (sectionsOf b) p rows rank state given (numberAt (hostCoordinates b p chain output .output))
-    pub kept : KeptPast 0 (8 * (torsionCount rank state + freeRank rows rank)) output (hostCoordinates b p chain output .output)
+    pub reads : ReadsCoordinates (sectionsOf b) p (behind .rows) (behind .rank) (behind .state) given (numberAt (hostCoordinates b p chain output .output))
+    pub kept : KeptPast 0 (8 * (torsionCount (behind .rank) (behind .state) + freeRank (behind .rows) (behind .rank))) output
+        (hostCoordinates b p chain output .output)
 
   pub host-coordinated : hostCoordinates b p chain output .number ≡ 0 → HostCoordinated
   unfolding hostCoordinates
   host-coordinated e = record {
-    rows = d .rows;
-    rank = d .rank;
-    state = d .state;
-    right = right;
-    reductions = d .reductions;
+    behind = h;
     chain-passed = cycle;
     reads = record {
-      places = λ j l.
-          host-reads numbers output hostCoordinatesBefore (reductionsOf b p) d j (omega (arith, coordinates-length right given))
-          (coordinates-word right small few given (cycle .small) j);
+      places = λ j l. host-reads numbers output h j (omega (arith, coordinates-length (h .right) given))
+          (coordinates-word (h .right) (h .small) (h .few) given (cycle .small) j);
     };
-    kept = rw (coordinates-length right given) at (host-kept numbers output hostCoordinatesBefore (reductionsOf b p) d fits);
+    kept = rw (coordinates-length (h .right) given) at (host-kept numbers output h fits);
   }
     where
-      d : ToldDone hostCoordinatesBefore (reductionsOf b p)
-      d = told-done hostCoordinatesBefore (reductionsOf b p) (sym number ∙ e)
+      h : HostDone b p hostCoordinatesBefore
+      h = host-done b p hostCoordinatesBefore complex numbers output e
 
       cycle : ChainPasses b p given
-      cycle = chain-passes b p given (passed .0 (d .passes) .1)
+      cycle = chain-passes b p given (passed .0 (h .passes) .1)
 
-      right : Right (sectionsOf b) p (d .rows) (d .rank) (d .state)
-      right = reductionsOf-right b p (complex (d .passes)) (d .rows) (d .rank) (d .state) (d .reductions)
-
-      small : within entryLimit (d .state) ≡ true
-      small = reductionsOf-within b p (complex (d .passes)) (d .rows) (d .rank) (d .state) (d .reductions)
-
-      few : count (sectionsOf b) p ≤ libraryLimit
-      few = omega (arith, complex (d .passes) .within p)
-
-      fits : 8 * length (numbers (d .rows) (d .rank) (d .state)) ≤ length output
+      fits : 8 * length (numbers (h .rows) (h .rank) (h .state)) ≤ length output
       fits =
           omega (
             arith,
-            coordinates-fit (count (sectionsOf b) p) (d .rows) (d .state) given (right .rows-bound),
-            callChecks-zero hostLimit b p coordinateSlots (slotsIn output) (workSlots (sectionsOf b) p) .0 (passed .0 (d .passes) .0) .output-slots,
+            coordinates-fit (count (sectionsOf b) p) (h .rows) (h .state) given (h .right .rows-bound),
+            callChecks-zero hostLimit b p coordinateSlots (slotsIn output) (workSlots (sectionsOf b) p) .0 (passed .0 (h .passes) .0) .output-slots,
           )

@@ -14,7 +14,6 @@ use Rattle.sheet_format.specs.Check.{sectionsOf, first}
 use Rattle.sheet_format.specs.Sheet.{Bytes}
 use Rattle.reduction_steps.specs.State.{State, within}
 use Rattle.reduction_steps.specs.Pivot.{release1}
-use Rattle.reports.specs.Reductions.{reduced}
 use Rattle.reports.specs.Report.{freeRank, torsionCount, reportList}
 use Rattle.reports.specs.ReportLaws.{report-fits}
 use Rattle.reports.specs.Call.{callChecks, reportSlots, workSlots, reductionsOf}
@@ -24,12 +23,11 @@ use Rattle.reports.specs.Host.{slotsIn, hostReport, numberAt}
 use Rattle.answers.specs.Right.{reportLength}
 use Rattle.answers.specs.Wide.{GoesWide}
 use Rattle.answers.specs.Called.{Answers, KeptPast}
-use Rattle.answers.specs.TwoReductions.{Right}
 use Rattle.answers.specs.Numbers.{report-length}
 use Rattle.answers.specs.ReportRight.{Reads}
-use Rattle.answers.specs.Calls.{told, told-answers, ToldDone, told-done, passed-complex, reductionsOf-wide, reductionsOf-right, reductionsOf-within}
+use Rattle.answers.specs.Calls.{passed-complex}
 use Rattle.answers.specs.Fits.{report-word}
-use Rattle.answers.specs.HostCalls.{host-number, host-left, host-reads, host-kept}
+use Rattle.answers.specs.HostCalls.{host-left, host-reads, host-kept, HostDone, host-answers, host-done}
 
 module _ (b : List ℕ) (bytes : Bytes b) (p : ℕ) (output : List ℕ) where
   -- the refusals 1 to 9 of fildwuk_report, which has work slots enough
@@ -42,61 +40,40 @@ module _ (b : List ℕ) (bytes : Bytes b) (p : ℕ) (output : List ℕ) where
   complex : hostReportBefore ≡ 0 → Complex top hostLimit (sectionsOf b)
   complex = passed-complex hostLimit b p reportSlots (slotsIn output) (workSlots (sectionsOf b) p) bytes
 
-  number : hostReport b p output .number ≡ told hostReportBefore (reductionsOf b p)
-  unfolding hostReport
-  number = host-number numbers output hostReportBefore (reductionsOf b p)
-
   pub host-report-answers : Answers hostReportBefore (GoesWide entryLimit release1 (sectionsOf b) p) (hostReport b p output .number)
+  unfolding hostReport
   host-report-answers =
-      rw number
-      (told-answers hostReportBefore (reductionsOf b p)
-      (callChecks-narrow hostLimit b p reportSlots (slotsIn output) (workSlots (sectionsOf b) p))
-      (λ e. reductionsOf-wide b p (complex e)))
+      host-answers b p hostReportBefore complex numbers output (callChecks-narrow hostLimit b p reportSlots (slotsIn output) (workSlots (sectionsOf b) p))
 
   pub host-report-left : hostReport b p output .number ≢ 0 → hostReport b p output .output ≡ output
   unfolding hostReport
-  host-report-left d = host-left numbers output hostReportBefore (reductionsOf b p) (rw number at d)
+  host-report-left = host-left numbers output hostReportBefore (reductionsOf b p)
 
   -- the two reductions behind a report that is done are right
   pub record HostReported : Type 0 where
-    pub rows : ℕ
-    pub rank : ℕ
-    pub state : State
-    pub right : Right (sectionsOf b) p rows rank state
-    pub reductions : reductionsOf b p ≡ reduced rows rank state
-    pub reads : Reads (sectionsOf b) p rows rank state (numberAt (hostReport b p output .output))
-    pub kept : KeptPast 0 (8 * reportLength (sectionsOf b) p (freeRank rows rank) (torsionCount rank state)) output (hostReport b p output .output)
+    pub behind : HostDone b p hostReportBefore
+    pub reads : Reads (sectionsOf b) p (behind .rows) (behind .rank) (behind .state) (numberAt (hostReport b p output .output))
+    pub kept : KeptPast 0 (8 * reportLength (sectionsOf b) p (freeRank (behind .rows) (behind .rank)) (torsionCount (behind .rank) (behind .state))) output
+        (hostReport b p output .output)
 
   pub host-reported : hostReport b p output .number ≡ 0 → HostReported
   unfolding hostReport
   host-reported e = record {
-    rows = d .rows;
-    rank = d .rank;
-    state = d .state;
-    right = right;
-    reductions = d .reductions;
+    behind = h;
     reads = record {
-      slots = λ i l. host-reads numbers output hostReportBefore (reductionsOf b p) d i (omega (arith, report-length right)) (report-word right small few i);
+      slots = λ i l. host-reads numbers output h i (omega (arith, report-length (h .right)))
+          (report-word (h .right) (h .small) (h .few) i);
     };
-    kept = rw (report-length right) at (host-kept numbers output hostReportBefore (reductionsOf b p) d fits);
+    kept = rw (report-length (h .right)) at (host-kept numbers output h fits);
   }
     where
-      d : ToldDone hostReportBefore (reductionsOf b p)
-      d = told-done hostReportBefore (reductionsOf b p) (sym number ∙ e)
+      h : HostDone b p hostReportBefore
+      h = host-done b p hostReportBefore complex numbers output e
 
-      right : Right (sectionsOf b) p (d .rows) (d .rank) (d .state)
-      right = reductionsOf-right b p (complex (d .passes)) (d .rows) (d .rank) (d .state) (d .reductions)
-
-      small : within entryLimit (d .state) ≡ true
-      small = reductionsOf-within b p (complex (d .passes)) (d .rows) (d .rank) (d .state) (d .reductions)
-
-      few : count (sectionsOf b) p ≤ libraryLimit
-      few = omega (arith, complex (d .passes) .within p)
-
-      fits : 8 * length (numbers (d .rows) (d .rank) (d .state)) ≤ length output
+      fits : 8 * length (numbers (h .rows) (h .rank) (h .state)) ≤ length output
       fits =
           omega (
             arith,
-            report-fits (count (sectionsOf b) p) (d .rows) (d .rank) (d .state) (right .rank-bound) (right .rows-bound),
-            callChecks-zero hostLimit b p reportSlots (slotsIn output) (workSlots (sectionsOf b) p) .0 (d .passes) .output-slots,
+            report-fits (count (sectionsOf b) p) (h .rows) (h .rank) (h .state) (h .right .rank-bound) (h .right .rows-bound),
+            callChecks-zero hostLimit b p reportSlots (slotsIn output) (workSlots (sectionsOf b) p) .0 (h .passes) .output-slots,
           )
