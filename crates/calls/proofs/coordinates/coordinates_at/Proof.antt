@@ -8,15 +8,13 @@ use borrow.Author.Needs.{needs}
 use denote.Ref.{now}
 use lib.IntN.{pos, natAbs}
 use lib.ListN.{length, getD}
-use Rattle.complexes.specs.Complex.{Complex, count}
-use Rattle.sheet_format.specs.Layout.{top}
+use Rattle.complexes.specs.Complex.{count}
 use Rattle.sheet_format.specs.Check.{sectionsOf, first}
 use Rattle.reports.specs.Call.{reductionsOf, coefficientExceeds, chainChecks}
-use Rattle.limits.specs.Limits.{libraryLimit, coefficientLimit}
-use Rattle.faces.specs.Face.{Accepted}
+use Rattle.limits.specs.Limits.{coefficientLimit}
 use Rattle.calls.specs.Slices.{ReducedTwice}
 use Rattle.calls.specs.declared.admission.Request.the-variants.{Coordinates}
-use Rattle.calls.proofs.Sheet.{sheet-complex, accepted-library, cells-of}
+use Rattle.calls.proofs.Sheet.{cells-of}
 use Rattle.calls.proofs.Outcomes.{twice-done, twice-refused}
 use Rattle.calls.proofs.Admitting.{admit-refused, Granted, admit-granted}
 use Rattle.calls.proofs.Refusals.{length-differs, coefficient-beyond, boundary-nonzero, chain-passed, coefficients-small}
@@ -51,13 +49,7 @@ module _ (c : tie.After-sizes) where
       let called = c .before .before in
       let a = entered .args in
       admit-granted (a .sheet .limit) (now (a .s)) (a .dimension) Coordinates (length (now (a .coordinates))) (length (now (a .work)))
-      (called .admit .result) (called .admit .ensures) (c .sizes .given .1)
-
-  library : Accepted (now (entered .args .s))
-  library = accepted-library (entered .pre) (granted .passed .accepted)
-
-  complex : Complex top libraryLimit (sectionsOf (now (entered .args .s)))
-  complex = sheet-complex (record { small = λ i. c .before .before .before .shared-slice-known .given i .fits }) library
+      (called .admit .result) (called .admit .ensures) (entered .pre) (record { small = λ i. c .before .before .before .shared-slice-known .given i .fits }) (c .sizes .given .1)
 
 -- ---- the chain
 
@@ -94,7 +86,7 @@ module _ (c : tie.Else2) where
 
 boundary-not-zero-requires : tie.Need-boundary-not-zero-requires
 boundary-not-zero-requires c κs =
-    let s = admitted (sized c) in (library s, ((granted s .passed .dimension, size (sized c)), small c))
+    let s = admitted (sized c) in (granted s .library, ((granted s .passed .dimension, size (sized c)), small c))
 
 returns-4 : tie.Need-returns-4
 returns-4 c =
@@ -123,7 +115,7 @@ module _ (c : tie.Else3) where
 reduce-twice-requires : tie.Need-reduce-twice-requires
 reduce-twice-requires c κs =
     let s = checked (c .before) in
-    let g = granted s in ((library s, g .passed .dimension), (g .passed .work-slots, g .sizes))
+    let g = granted s in ((g .library, g .passed .dimension), (g .passed .work-slots, g .sizes))
 
 enum-known-reduced : tie.Need-enum-known-reduced
 enum-known-reduced c = c .match2 .keys1
@@ -166,7 +158,7 @@ write-coordinates-requires c κs =
     let told = c .before .before in
     let s = checked (third told) in
     let p = granted s .passed in
-    can-coordinate (complex s) (p .work-slots) (twice told) (p .output-slots) (size (sized (second (third told)))) (small (second (third told)))
+    can-coordinate (granted s .complex) (p .work-slots) (twice told) (p .output-slots) (size (sized (second (third told)))) (small (second (third told)))
 
 returns-6 : tie.Need-returns-6
 returns-6 c =
@@ -175,7 +167,7 @@ returns-6 c =
     let s = checked (third told) in
     let a = entered s .args in
     coordinates-done (a .sheet .limit) (now (a .s)) (a .dimension) (now (a .chain)) (now (a .coordinates)) (now (a .work)) (granted s .passed)
-    (chain (third told)) (complex s) (twice told) (wrote .write-coordinates .ensures) (c .before .clear .ensures)
+    (chain (third told)) (granted s .complex) (twice told) (wrote .write-coordinates .ensures) (c .before .clear .ensures)
 
 same-length-2 : tie.Need-same-length-2
 same-length-2 c = c .before .before .before .before .write-coordinates .kept .1 .1 .1 .0

@@ -4,15 +4,9 @@ use mathlib.Core.Path.{_∙_}
 use borrow.Author.Needs.{needs}
 use denote.Ref.{now}
 use lib.ListN.{length}
-use Rattle.complexes.specs.Complex.{Complex}
-use Rattle.sheet_format.specs.Layout.{top}
-use Rattle.sheet_format.specs.Check.{sectionsOf}
 use Rattle.reports.specs.Call.{reductionsOf}
-use Rattle.limits.specs.Limits.{libraryLimit}
-use Rattle.faces.specs.Face.{Accepted}
 use Rattle.calls.specs.Slices.{ReducedTwice}
 use Rattle.calls.specs.declared.admission.Request.the-variants.{Report}
-use Rattle.calls.proofs.Sheet.{sheet-complex, accepted-library}
 use Rattle.calls.proofs.Outcomes.{twice-done, twice-refused}
 use Rattle.calls.proofs.Admitting.{admit-refused, Granted, admit-granted}
 use Rattle.calls.proofs.Writing.{can-report}
@@ -46,20 +40,14 @@ module _ (c : tie.After-sizes) where
       let called = c .before .before in
       let a = entered .args in
       admit-granted (a .sheet .limit) (now (a .s)) (a .dimension) Report (length (now (a .report))) (length (now (a .work))) (called .admit .result)
-      (called .admit .ensures) (c .sizes .given .1)
-
-  library : Accepted (now (entered .args .s))
-  library = accepted-library (entered .pre) (granted .passed .accepted)
-
-  complex : Complex top libraryLimit (sectionsOf (now (entered .args .s)))
-  complex = sheet-complex (record { small = λ i. c .before .before .before .shared-slice-known .given i .fits }) library
+      (called .admit .ensures) (entered .pre) (record { small = λ i. c .before .before .before .shared-slice-known .given i .fits }) (c .sizes .given .1)
 
 -- ---- the reductions
 
 reduce-twice-requires : tie.Need-reduce-twice-requires
 reduce-twice-requires c κs =
     let s = c .before .before in
-    let g = granted s in ((library s, g .passed .dimension), (g .passed .work-slots, g .sizes))
+    let g = granted s in ((g .library, g .passed .dimension), (g .passed .work-slots, g .sizes))
 
 enum-known-reduced : tie.Need-enum-known-reduced
 enum-known-reduced c = c .match2 .keys1
@@ -102,14 +90,14 @@ write-report-requires : tie.Need-write-report-requires
 write-report-requires c κs =
     let told = c .before .before in
     let p = granted (sized told) .passed in
-    can-report (complex (sized told)) (p .work-slots) (twice told) (p .output-slots)
+    can-report (granted (sized told) .complex) (p .work-slots) (twice told) (p .output-slots)
 
 returns-3 : tie.Need-returns-3
 returns-3 c =
     let wrote = c .before .before .before .before in
     let told = wrote .before .before .before in
     let a = entered (sized told) .args in
-    report-done (a .sheet .limit) (now (a .s)) (a .dimension) (now (a .report)) (now (a .work)) (granted (sized told) .passed) (complex (sized told))
+    report-done (a .sheet .limit) (now (a .s)) (a .dimension) (now (a .report)) (now (a .work)) (granted (sized told) .passed) (granted (sized told) .complex)
     (twice told) (wrote .write-report .ensures) (c .before .clear .ensures)
 
 same-length-2 : tie.Need-same-length-2
