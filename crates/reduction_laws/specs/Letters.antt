@@ -90,6 +90,15 @@ module _ (limit : ℕ) (z : Sizes) (k : ℕ) where
         size = b .size;
       }
 
+  -- moves that leave the pivot
+  ready-led : {s t : State} {B : Matrix} → ReadyC z k s → Led limit z k s t B → entry (t .matrix) k k ≡ entry (s .matrix) k k → ReadyC z k t
+  ready-led h l pivot = record {
+    shaped = led-shaped limit z k (h .shaped) l;
+    row = h .row;
+    column = h .column;
+    positive = subst (λ (x : ℤ). pos 0 <ℤ x) (sym pivot) (h .positive);
+  }
+
   -- a nonzero remainder by the pivot is smaller than it
   remainder-smaller :
       (s t : State) → ReadyC z k s → (i j : ℕ) → k ≤ i → i < z .rows → k ≤ j → j < z .columns → entry (t .matrix) i j ≢ pos 0
@@ -118,7 +127,7 @@ module _ (limit : ℕ) (z : Sizes) (k : ℕ) where
   pub after-c : (s t : State) → ReadyC z k s → rowPass limit z k (z .rows - suc k) (suc k) s ≡ made t → AfterC s t
   after-c s t h e = record {
     moves = l .moves;
-    ready = record { shaped = led-shaped limit z k (h .shaped) l; row = h .row; column = h .column; positive = subst (λ (x : ℤ). pos 0 <ℤ x) (sym pivot) (h .positive) };
+    ready = ready-led h l pivot;
     pivot = pivot;
     remainder = λ i a b. at i k ∙ pass-remainder k (z .rows - suc k) (suc k) A i (omega arith) a (omega (arith, h .row));
   }
@@ -163,7 +172,7 @@ module _ (limit : ℕ) (z : Sizes) (k : ℕ) where
   after-d s t h e = record {
     moves = l .moves;
     ready = record {
-      ready = record { shaped = led-shaped limit z k (c .shaped) l; row = c .row; column = c .column; positive = subst (λ (x : ℤ). pos 0 <ℤ x) (sym (stays k)) (c .positive) };
+      ready = ready-led c l (stays k);
       below = λ i a b. stays i ∙ h .below i a b;
     };
     pivot = stays k;
@@ -213,7 +222,7 @@ module _ (limit : ℕ) (z : Sizes) (k : ℕ) where
   after-e i s t h e m = record {
     moves = l .moves;
     ready = record {
-      ready = record { shaped = led-shaped limit z k (c .shaped) l; row = c .row; column = c .column; positive = subst (λ (x : ℤ). pos 0 <ℤ x) (sym pivot) (c .positive) };
+      ready = ready-led c l pivot;
       below = λ a p q. at a k ∙ onRows-subtract-other k i (negsuc 0) A a k (omega arith) ∙ h .ready .below a p q;
     };
     pivot = pivot;

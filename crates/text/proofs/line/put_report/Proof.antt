@@ -31,10 +31,7 @@ left c =
     omega (arith, c .before .before .before .before .before .pre, within-next (h .ensures), h .kept .1 .1 .1 .0)
 
 loop-holds : tie.Need-loop-holds Inv-loop μ-loop
-loop-holds c =
-    let a = c .before .before .before .before .before .args in
-    let h = c .before .before .put-heading in
-    generators-none (a .cells) (a .torsion) (a .generators) (a .report .now) (h .last .1 .1 .1 .0) (h .result)
+loop-holds c = generators-none
 
 -- the coefficients of the line that a turn writes stand within the report
 inside : (c : tie.In-loop Inv-loop μ-loop)
@@ -45,22 +42,13 @@ inside : (c : tie.In-loop Inv-loop μ-loop)
 inside c =
     let s = c .before .before .before .before .before .before .before in
     let a = s .args in
-    let h = c .before .before .before .before .put-heading in
-    generators-inside (a .cells) (a .torsion) (a .generators) (a .report .now) (h .last .1 .1 .1 .0) (h .result) (c .before .loop .i)
-    (omega arith)
-    (omega (arith, s .pre))
+    generators-inside (a .cells) (a .torsion) (a .generators) (c .before .loop .i) (a .report .now) (omega arith) (omega (arith, s .pre))
 
 -- and the line fits
 room : (c : tie.In-loop Inv-loop μ-loop) → c .before .loop .next + generatorRoom ≤ length (c .before .loop .out)
 room c =
     let s = c .before .before .before .before .before .before .before in
-    let a = s .args in
-    let h = c .before .before .before .before .put-heading in
-    let l = c .before .loop in
-    generators-room (a .cells) (a .torsion) (a .generators) (a .report .now) (h .last .1 .1 .1 .0) (h .result) (l .next) (l .i) (l .out) (l .inv)
-    (omega arith)
-    (omega (arith, s .pre))
-    (left (c .before .before))
+    generators-room (c .before .loop .inv) (omega arith) (omega (arith, s .pre)) (left (c .before .before))
 
 mul-from : tie.Need-mul-from Inv-loop μ-loop
 mul-from c = omega (arith, inside c, c .before .before .before .before .before .before .before .good)
@@ -86,18 +74,9 @@ loop-less c = omega (arith, c .before .before .before .before .loop-test)
 loop-again : tie.Need-loop-again Inv-loop μ-loop
 loop-again c =
     let t = c .before .before .before .before in
-    let l = t .before .loop in
     let s = t .before .before .before .before .before .before .before in
-    let a = s .args in
-    let h = t .before .before .before .before .put-heading in
     let q = c .before .before .put-line in
-    generators-more (a .cells) (a .torsion) (a .generators) (a .report .now) (h .last .1 .1 .1 .0) (h .result) (l .next) (l .i) (l .out) (l .inv)
-    (omega (arith, t .loop-test))
-    (omega (arith, s .pre))
-    (omega (arith, left (t .before .before)))
-    (q .result)
-    (q .last .1 .1 .1 .1 .0)
-    (q .ensures)
+    generators-more (t .before .loop .inv) (omega (arith, t .loop-test)) (omega (arith, s .pre)) (omega (arith, left (t .before .before))) (q .ensures)
     (q .kept .1 .1 .1 .1 .0)
 
 same-length : tie.Need-same-length Inv-loop μ-loop
@@ -106,17 +85,7 @@ same-length c = c .before .loop .inv .kept ∙ c .before .before .before .before
 returns : tie.Need-returns Inv-loop μ-loop
 returns c =
     let s = c .before .before .before .before .before .before .before in
-    let a = s .args in
-    let h = c .before .before .before .before .put-heading in
-    let l = c .before .loop in
-    report-put (a .cells) (a .torsion) (a .generators) (a .report .now) (h .last .1 .1 .1 .0) (h .result) (a .p) (l .next) (l .i) (a .at)
-    (a .out .now)
-    (l .out)
-    (omega (arith, s .pre))
-    (h .ensures)
-    (l .inv)
-    (omega arith)
-    (omega (arith, s .pre))
+    report-put (s .args .p) (omega (arith, s .pre)) (c .before .before .before .before .put-heading .ensures) (c .before .loop .inv) (omega arith) (omega (arith, s .pre))
 
 pub put-report-spec : {M : Type 1} → statement M
 put-report-spec =
