@@ -3,16 +3,17 @@
 use mathlib.Core.Path.{_∙_}
 use borrow.Author.Needs.{needs}
 use denote.Ref.{now}
-use lib.ListN.{length}
-use Rattle.reports.specs.Call.{reductionsOf}
-use Rattle.calls.specs.Slices.{ReducedTwice}
 use Rattle.calls.specs.declared.admission.Request.the-variants.{Report}
-use Rattle.calls.proofs.Outcomes.{twice-done, twice-refused}
-use Rattle.calls.proofs.Admitting.{admit-refused, Granted, admit-granted}
+use Rattle.calls.proofs.Admitting.{Lent, admit-refused, Granted, admit-granted, Reduces, twice-done, twice-refused}
 use Rattle.calls.proofs.Writing.{can-report}
 use Rattle.calls.proofs.ReportAnswers.{report-refuses, report-wide, report-done}
 use Rattle.calls.proofs.report.report_at.Statement.{statement}
 use Rattle.calls.proofs.report.report_at.Tie as tie
+
+abbrev lent : tie.Start → Lent
+lent s =
+    let a = s .args in
+    record { limit = a .sheet .limit; sheet = now (a .s); dimension = a .dimension; output = now (a .report); work = now (a .work) }
 
 -- ---- the checks 1 to 9
 
@@ -22,25 +23,21 @@ enum-known-refusal c = c .match .keys1
 returns : tie.Need-returns
 returns c =
     let called = c .before .before .before in
-    let a = called .before .before .args in
-    report-refuses (a .sheet .limit) (now (a .s)) (a .dimension) (now (a .report)) (now (a .work))
-    (admit-refused (a .sheet .limit) (now (a .s)) (a .dimension) Report (length (now (a .report))) (length (now (a .work))) (called .admit .result)
-    (called .admit .ensures) (c .before .refusal .given .1))
+    let l = lent (called .before .before) in
+    report-refuses l (admit-refused l Report (called .admit .result) (called .admit .ensures) (c .before .refusal .given .1))
 
 enum-known-sizes : tie.Need-enum-known-sizes
 enum-known-sizes c = c .match .keys2
 
 module _ (c : tie.After-sizes) where
-  abbrev entered : tie.Start
-  entered = c .before .before .before .before
+  abbrev given : Lent
+  given = lent (c .before .before .before .before)
 
-  granted : let a = entered .args in
-      Granted (a .sheet .limit) (now (a .s)) (a .dimension) Report (length (now (a .report))) (length (now (a .work))) (c .sizes .given .0 .0)
+  granted : Granted given Report (c .sizes .given .0 .0)
   granted =
       let called = c .before .before in
-      let a = entered .args in
-      admit-granted (a .sheet .limit) (now (a .s)) (a .dimension) Report (length (now (a .report))) (length (now (a .work))) (called .admit .result)
-      (called .admit .ensures) (entered .pre) (record { small = λ i. c .before .before .before .shared-slice-known .given i .fits }) (c .sizes .given .1)
+      admit-granted given Report (called .admit .result) (called .admit .ensures) (called .before .before .pre)
+      (record { small = λ i. called .before .shared-slice-known .given i .fits }) (c .sizes .given .1)
 
 -- ---- the reductions
 
@@ -61,10 +58,8 @@ admitted c = c .before .before .before
 returns-2 : tie.Need-returns-2
 returns-2 c =
     let called = c .before .before .before in
-    let a = entered (admitted called) .args in
-    report-wide (a .sheet .limit) (now (a .s)) (a .dimension) (now (a .report)) (now (a .work)) (granted (admitted called) .passed)
-    (twice-refused (now (a .s)) (a .dimension) (reductionsOf (now (a .s)) (a .dimension)) (called .reduce-twice .result) (c .enum-told .given .1)
-    (called .reduce-twice .ensures))
+    let l = given (admitted called) in
+    report-wide l (granted (admitted called)) (twice-refused l (called .reduce-twice .result) (c .enum-told .given .1) (called .reduce-twice .ensures))
 
 same-length : tie.Need-same-length
 same-length c = c .before .before .before .reduce-twice .kept .1 .1 .1 .0
@@ -78,27 +73,20 @@ module _ (c : tie.After-known-told3) where
   abbrev sized : tie.After-sizes
   sized = admitted called
 
-  twice : let a = entered sized .args in
-      ReducedTwice (now (a .s)) (a .dimension) (reductionsOf (now (a .s)) (a .dimension)) (length (now (a .work))) (c .before .reduced .given .0 .0)
-      (called .reduce-twice .last .1 .1 .1 .0)
-  twice =
-      let a = entered sized .args in
-      twice-done (now (a .s)) (a .dimension) (reductionsOf (now (a .s)) (a .dimension)) (called .reduce-twice .result) (c .before .reduced .given .1)
-      (called .reduce-twice .ensures)
+  reduced : Reduces (given sized) (c .before .reduced .given .0 .0) (called .reduce-twice .last .1 .1 .1 .0)
+  reduced = twice-done (given sized) (called .reduce-twice .result) (c .before .reduced .given .1) (called .reduce-twice .ensures)
 
 write-report-requires : tie.Need-write-report-requires
 write-report-requires c κs =
     let told = c .before .before in
-    let p = granted (sized told) .passed in
-    can-report (granted (sized told) .complex) (p .work-slots) (twice told) (p .output-slots)
+    let g = granted (sized told) in
+    can-report (g .complex) (g .passed .work-slots) (reduced told) (g .passed .output-slots)
 
 returns-3 : tie.Need-returns-3
 returns-3 c =
     let wrote = c .before .before .before .before in
     let told = wrote .before .before .before in
-    let a = entered (sized told) .args in
-    report-done (a .sheet .limit) (now (a .s)) (a .dimension) (now (a .report)) (now (a .work)) (granted (sized told) .passed) (granted (sized told) .complex)
-    (twice told) (wrote .write-report .ensures) (c .before .clear .ensures)
+    report-done (given (sized told)) (granted (sized told)) (reduced told) (wrote .write-report .ensures) (c .before .clear .ensures)
 
 same-length-2 : tie.Need-same-length-2
 same-length-2 c = c .before .before .before .before .write-report .kept .1 .1 .0
