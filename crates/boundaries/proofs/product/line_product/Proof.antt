@@ -73,12 +73,6 @@ loop-holds : tie.Need-loop-holds Inv-loop μ-loop
 unfolding sum
 loop-holds c = record { within = omega arith; is = refl }
 
-mul-place : tie.Need-mul-place Inv-loop μ-loop
-mul-place c = omega (arith, c .loop-test .taken, c .before .before .pre .0 .2)
-
-array-read-place : tie.Need-array-read-place Inv-loop μ-loop
-array-read-place c = omega (arith, c .loop-test .taken, c .before .before .pre .0 .2)
-
 -- the place of a face is one of the line
 inside : (c : tie.In-loop Inv-loop μ-loop) → getD (c .before .before .args .t4) (c .before .loop .t) 0 < c .before .before .args .width
 inside c = c .before .before .pre .1 (c .before .loop .t) (c .loop-test .taken)
@@ -110,12 +104,6 @@ add-total-2 c =
     let start = c .before .before .before .before in
     sum-word (c .before .before .before .loop .inv) (start .pre .0 .1) (c .before .before .loop-test .taken) (start .pre .0 .2) (c .sign .result) (c .sign .ensures)
 
-add-t : tie.Need-add-t Inv-loop μ-loop
-add-t c = omega (arith, c .before .before .loop-test .taken, c .before .before .before .before .pre .0 .2)
-
-loop-less : tie.Need-loop-less Inv-loop μ-loop
-loop-less c = omega (arith, c .before .before .loop-test .taken)
-
 loop-again : tie.Need-loop-again Inv-loop μ-loop
 loop-again c =
     let start = c .before .before .before .before in
@@ -130,20 +118,5 @@ returns c =
 pub line-product-spec : {M : Type 1} → statement M
 line-product-spec =
     tie.close
-    (tie.spec
-    Inv-loop
-    μ-loop
-    loop-holds
-    mul-place
-    array-read-place
-    add-total
-    mul-total
-    shared-slice-copy-out-total
-    cast-total
-    sign-requires
-    mul-total-2
-    add-total-2
-    add-t
-    loop-less
-    loop-again
-    returns)
+    (tie.spec Inv-loop μ-loop loop-holds (λ c. omega arith) (λ c. omega arith) add-total mul-total shared-slice-copy-out-total cast-total
+    sign-requires mul-total-2 add-total-2 (λ c. omega arith) (λ c. omega arith) loop-again returns)
