@@ -17,12 +17,6 @@ Inv-loop p cells torsion generators report out₀ at first next₀ i₀ out next
 abbrev μ-loop : tie.MeasureT-loop
 μ-loop p cells torsion generators report out₀ at first next₀ i₀ out next i = generators - i
 
-add-first : tie.Need-add-first Inv-loop μ-loop
-add-first c = omega (arith, c .before .pre)
-
-put-heading-requires : tie.Need-put-heading-requires Inv-loop μ-loop
-put-heading-requires c κs = omega (arith, c .before .before .pre)
-
 -- the room that is left where the loop begins
 left : (c : tie.After-slice-known2 Inv-loop μ-loop)
     → c .before .before .put-heading .result + generatorRoom * hostLimit ≤ length (c .before .before .put-heading .last .1 .1 .1 .0)
@@ -63,14 +57,6 @@ put-line-requires : tie.Need-put-line-requires Inv-loop μ-loop
 put-line-requires c κs =
     omega (arith, inside (c .before), room (c .before), c .before .before .before .before .before .before .before .before .pre)
 
-add-i : tie.Need-add-i Inv-loop μ-loop
-add-i c =
-    let t = c .before .before .before .before in
-    omega (arith, t .loop-test, t .before .before .before .before .before .before .before .pre)
-
-loop-less : tie.Need-loop-less Inv-loop μ-loop
-loop-less c = omega (arith, c .before .before .before .before .loop-test)
-
 loop-again : tie.Need-loop-again Inv-loop μ-loop
 loop-again c =
     let t = c .before .before .before .before in
@@ -90,18 +76,5 @@ returns c =
 pub put-report-spec : {M : Type 1} → statement M
 put-report-spec =
     tie.close
-    (tie.spec
-    Inv-loop
-    μ-loop
-    add-first
-    put-heading-requires
-    loop-holds
-    mul-from
-    add-from
-    add-put-line
-    put-line-requires
-    add-i
-    loop-less
-    loop-again
-    same-length
-    returns)
+    (tie.spec Inv-loop μ-loop (λ c. omega arith) (λ c κs. omega arith) loop-holds mul-from add-from add-put-line put-line-requires (λ c. omega arith)
+    (λ c. omega arith) loop-again same-length returns)
