@@ -15,7 +15,7 @@ use Rattle.sheet_format.specs.Sheet.{Bytes}
 use Rattle.reduction_steps.specs.State.{State}
 use Rattle.reduction_steps.specs.Pivot.{pivotRule}
 use Rattle.reduction_steps.specs.PivotLaws.{pivotRule-is-rule}
-use Rattle.reports.specs.Report.{coordinateList}
+use Rattle.reports.specs.Report.{Counts, coordinateList}
 use Rattle.reports.specs.ReportLaws.{coordinates-fit}
 use Rattle.reports.specs.Call.{Called, done, written, callChecks, chainChecks, coordinateSlots, reductionsOf, coordinateCall}
 use Rattle.limits.specs.Limits.{entryLimit}
@@ -77,15 +77,15 @@ module _ (limit : ℕ) (b : List ℕ) (p : ℕ) (z coordinates work : List ℤ) 
   unfolding coordinateCall
   coordinates-work = rw coordinates-number (work-left coordinatesNumbers coordinates work coordinatesBefore (reductionsOf pivotRule (chainCells b) p) coordinates-narrow)
 
-  module _ (bytes : Bytes b) {f t : ℕ} (e : coordinatesCalled .answer ≡ done f t) where
-    pub coordinates-answered : Answered pivotRule (chainCells b) p coordinatesBefore f t
+  module _ (bytes : Bytes b) {counts : Counts} (e : coordinatesCalled .answer ≡ done counts) where
+    pub coordinates-answered : Answered pivotRule (chainCells b) p coordinatesBefore counts
     unfolding coordinateCall
-    coordinates-answered = answered pivotRule-is-rule (chainCells b) p coordinatesBefore (coordinates-chains bytes) coordinatesNumbers coordinates work f t e
+    coordinates-answered = answered pivotRule-is-rule (chainCells b) p coordinatesBefore (coordinates-chains bytes) coordinatesNumbers coordinates work counts e
 
-    abbrev c : ReducedWith (reductionsOf pivotRule (chainCells b) p) f t
+    abbrev c : ReducedWith (reductionsOf pivotRule (chainCells b) p) counts
     c = coordinates-answered .counted
 
-    size : length (coordinatesNumbers (c .rows) (c .rank) (c .state)) ≡ t + f
+    size : length (coordinatesNumbers (c .rows) (c .rank) (c .state)) ≡ counts .torsion + counts .free
     size = cc (coordinates-length (coordinates-answered .right) z, c .torsion, c .free)
 
     output-is : coordinatesCalled .output ≡ written (coordinatesNumbers (c .rows) (c .rank) (c .state)) coordinates
@@ -99,12 +99,12 @@ module _ (limit : ℕ) (b : List ℕ) (p : ℕ) (z coordinates work : List ℤ) 
           ∙ getD-written (coordinatesNumbers (c .rows) (c .rank) (c .state)) coordinates (pos 0) j (omega (arith, coordinates-length (coordinates-answered .right) z));
     }
 
-    pub coordinates-kept : KeptPast (pos 0) (t + f) coordinates (coordinatesCalled .output)
+    pub coordinates-kept : KeptPast (pos 0) (counts .torsion + counts .free) coordinates (coordinatesCalled .output)
     unfolding coordinateCall
     coordinates-kept =
-        output-kept coordinatesNumbers coordinates work coordinatesBefore (reductionsOf pivotRule (chainCells b) p) (coordinates-answered .passes) c (t + f) size (le-trans fits slots)
+        output-kept coordinatesNumbers coordinates work coordinatesBefore (reductionsOf pivotRule (chainCells b) p) (coordinates-answered .passes) c (counts .torsion + counts .free) size (le-trans fits slots)
       where
-        fits : t + f ≤ coordinateSlots (chainCells b) p
+        fits : counts .torsion + counts .free ≤ coordinateSlots (chainCells b) p
         fits = rw size at (coordinates-fit (count (chainCells b) p) (c .rows) (c .state) z (coordinates-answered .right .rows-bound))
 
         slots : coordinateSlots (chainCells b) p ≤ length coordinates

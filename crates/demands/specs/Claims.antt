@@ -17,6 +17,7 @@ use Rattle.sheet_format.specs.Check.{first, refusal, sectionsOf}
 use Rattle.sheet_format.specs.Sheet.{Bytes, IsSheet}
 use Rattle.homology_groups.specs.Chain.{Chain, combination}
 use Rattle.reduction_steps.specs.Pivot.{pivotRule}
+use Rattle.reports.specs.Report.{Counts}
 use Rattle.reports.specs.Call.{done, callChecks, chainChecks, reportSlots, coordinateSlots, workSlots, reportCall, coordinateCall}
 use Rattle.limits.specs.Limits.{libraryLimit, hostLimit, entryLimit}
 use Rattle.reports.specs.Host.{chainFrom, coefficientIn, slotsIn, hostReport, hostCoordinates, numberAt}
@@ -78,14 +79,14 @@ SheetCells = (limit : ℕ) → limit ≤ libraryLimit → (b : List ℕ) (sheet 
 -- "the free rank, the torsion orders and the generators reported for each dimension are those of simplicial homology over the whole numbers"
 abbrev pub Reports : Type 0
 Reports =
-    (limit : ℕ) (b : List ℕ) (p : ℕ) (report work : List ℤ) → Bytes b → (f t : ℕ) →
-    reportCall limit b p report work .answer ≡ done f t → IsRight (sectionsOf b) p f t (slot (reportCall limit b p report work .output))
+    (limit : ℕ) (b : List ℕ) (p : ℕ) (report work : List ℤ) → Bytes b → (counts : Counts) → reportCall limit b p report work .answer ≡ done counts →
+    IsRight (sectionsOf b) p (counts .free) (counts .torsion) (slot (reportCall limit b p report work .output))
 
 -- 01, "done, with the report's counts": those that the coordinate call answers are the group's too
 abbrev pub CoordinateCounts : Type 0
 CoordinateCounts =
-    (limit : ℕ) (b : List ℕ) (p : ℕ) (z coordinates work : List ℤ) → Bytes b → (f t : ℕ) →
-    coordinateCall limit b p z coordinates work .answer ≡ done f t → HasCounts (sectionsOf b) p f t
+    (limit : ℕ) (b : List ℕ) (p : ℕ) (z coordinates work : List ℤ) → Bytes b → (counts : Counts) →
+    coordinateCall limit b p z coordinates work .answer ≡ done counts → HasCounts (sectionsOf b) p (counts .free) (counts .torsion)
 
 -- the counts are the group's, so all answers and reports on one sheet and dimension have the same
 abbrev pub SameCounts : Type 0
@@ -98,7 +99,7 @@ SameCounts = (b : List ℕ) (p f t f′ t′ : ℕ) → HasCounts (sectionsOf b)
 -- library at some count limit or from the host
 pub data CoordinatesOf (b : List ℕ) (p : ℕ) : Chain → (ℕ → ℤ) → Type 0 where
   by-library :
-      (limit : ℕ) (z coordinates work : List ℤ) (f t : ℕ) → coordinateCall limit b p z coordinates work .answer ≡ done f t →
+      (limit : ℕ) (z coordinates work : List ℤ) (counts : Counts) → coordinateCall limit b p z coordinates work .answer ≡ done counts →
       CoordinatesOf b p (slot z) (slot (coordinateCall limit b p z coordinates work .output))
   by-host :
       (chain coordinates : List ℕ) → hostCoordinates b p chain coordinates .number ≡ 0 →
@@ -107,7 +108,7 @@ pub data CoordinatesOf (b : List ℕ) (p : ℕ) : Chain → (ℕ → ℤ) → Ty
 -- "Whenever the report on that sheet and dimension is done as well ..": its numbers, as a caller reads them
 pub data ReportOf (b : List ℕ) (p : ℕ) : (ℕ → ℤ) → Type 0 where
   by-library :
-      (limit : ℕ) (report work : List ℤ) (f t : ℕ) → reportCall limit b p report work .answer ≡ done f t →
+      (limit : ℕ) (report work : List ℤ) (counts : Counts) → reportCall limit b p report work .answer ≡ done counts →
       ReportOf b p (slot (reportCall limit b p report work .output))
   by-host : (report : List ℕ) → hostReport b p report .number ≡ 0 → ReportOf b p (numberAt (hostReport b p report .output))
 

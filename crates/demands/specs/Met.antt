@@ -37,7 +37,7 @@ use Rattle.answers.specs.Wide.{GoesWide}
 use Rattle.answers.specs.Called.{answerNumber, NoCycle}
 use Rattle.answers.specs.WideLaws.{wide-iff}
 use Rattle.projective_plane.specs.Plane.{cells, sheet, loop, twice, backwards}
-use Rattle.projective_plane.specs.Examples.{nines, plane-calls, plane-too-wide}
+use Rattle.projective_plane.specs.Examples.{nines, counts, plane-calls, plane-too-wide}
 use Rattle.demands.specs.Claims.{TooWide, CoordinatesOf, ReportOf}
 use Rattle.demands.specs.Claims as claims
 use Rattle.demands.specs.Proofs.{reportNumbers, notACycle, coordinateCounts, coordinatesDecide, hostReportNumbers, hostCoordinateNumbers}
@@ -57,25 +57,25 @@ plane-bytes = record { small = bytes-of sheet tt }
 -- ---- a report and coordinates that are done
 
 pub plane-report : ReportOf sheet 1 (slot (reportCall 256 sheet 1 (nines 242) (nines 600) .output))
-plane-report = claims.ReportOf.by-library 256 (nines 242) (nines 600) 0 1 (ap (λ (c : Called). c .answer) (plane-calls .report-call))
+plane-report = claims.ReportOf.by-library 256 (nines 242) (nines 600) counts (ap (λ (c : Called). c .answer) (plane-calls .report-call))
 
 -- the coordinates that a call leaves of a chain of the plane
 abbrev read : List ℤ → ℕ → ℤ
 read z = slot (coordinateCall 256 sheet 1 z (nines 15) (nines 600) .output)
 
 pub loop-coordinates : CoordinatesOf sheet 1 (slot loop) (read loop)
-loop-coordinates = claims.CoordinatesOf.by-library 256 loop (nines 15) (nines 600) 0 1 (ap (λ (c : Called). c .answer) (plane-calls .coordinate-loop))
+loop-coordinates = claims.CoordinatesOf.by-library 256 loop (nines 15) (nines 600) counts (ap (λ (c : Called). c .answer) (plane-calls .coordinate-loop))
 
 pub backwards-coordinates : CoordinatesOf sheet 1 (slot backwards) (read backwards)
 backwards-coordinates =
-    claims.CoordinatesOf.by-library 256 backwards (nines 15) (nines 600) 0 1 (ap (λ (c : Called). c .answer) (plane-calls .coordinate-backwards))
+    claims.CoordinatesOf.by-library 256 backwards (nines 15) (nines 600) counts (ap (λ (c : Called). c .answer) (plane-calls .coordinate-backwards))
 
 pub twice-coordinates : CoordinatesOf sheet 1 (slot twice) (read twice)
-twice-coordinates = claims.CoordinatesOf.by-library 256 twice (nines 15) (nines 600) 0 1 (ap (λ (c : Called). c .answer) (plane-calls .coordinate-twice))
+twice-coordinates = claims.CoordinatesOf.by-library 256 twice (nines 15) (nines 600) counts (ap (λ (c : Called). c .answer) (plane-calls .coordinate-twice))
 
 pub plane-counts : HasCounts (sectionsOf sheet) 1 0 1
 plane-counts =
-    coordinateCounts 256 sheet 1 loop (nines 15) (nines 600) plane-bytes 0 1 (ap (λ (c : Called). c .answer) (plane-calls .coordinate-loop))
+    coordinateCounts 256 sheet 1 loop (nines 15) (nines 600) plane-bytes counts (ap (λ (c : Called). c .answer) (plane-calls .coordinate-loop))
 
 -- ---- what demand 3 says of them
 

@@ -20,7 +20,7 @@ use Rattle.reports.specs.HostCallLaws.{HostRefused, HostDone, reportRoom, coord
 use Rattle.answers.specs.HostSizes.{ReportSized, CoordinatesSized, report-sized, coordinates-sized}
 use Rattle.writers.specs.declared.reduced.Counts.{Counts}
 use Rattle.calls.specs.declared.answer.Answer.the-variants.{Done, Refused}
-use Rattle.calls.specs.Answer.{CallAnswers}
+use Rattle.calls.specs.Answer.{countsIn, CallAnswers}
 use Rattle.fildwuk.specs.Answer.{HostAnswers}
 
 -- ---- either call
@@ -47,8 +47,8 @@ module _ (limit : ℕ) (host : limit ≡ hostLimit) (b : List ℕ) (p : ℕ) (ou
   report-refuses x after work′ n a e = refuses (report-refused b p output slots work size space (numberOf x) (rw host at (sym (a .answer)))) e
 
   module _ (bytes : Bytes b) (x : Counts) (after work′ : List ℤ) (a : CallAnswers (reportCall limit b p slots work) (Done x) after work′) where
-    pub report-sizes : ReportSized b p slots (x .free) (x .torsion)
-    report-sizes = report-sized b bytes p slots work (x .free) (x .torsion) (rw host at (sym (a .answer)))
+    pub report-sizes : ReportSized b p slots (countsIn x)
+    report-sizes = report-sized b bytes p slots work (countsIn x) (rw host at (sym (a .answer)))
 
     module _ (cells many : ℕ) (is : cells ≡ countField b p) (all : many ≡ 2 + x .torsion + (x .torsion + x .free) * cells) where
       cells-is : many ≡ 2 + x .torsion + (x .torsion + x .free) * count (chainCells b) p
@@ -78,8 +78,8 @@ module _ (limit : ℕ) (host : limit ≡ hostLimit) (b : List ℕ) (p : ℕ) (ou
         refuses (coordinates-refused b p chain output z slots work size space read (numberOf x) (rw host at (sym (a .answer)))) e
 
   module _ (bytes : Bytes b) (x : Counts) (after work′ : List ℤ) (a : CallAnswers (coordinateCall limit b p z slots work) (Done x) after work′) where
-    pub coordinates-sizes : CoordinatesSized b p slots (x .free) (x .torsion)
-    coordinates-sizes = coordinates-sized b bytes p z slots work (x .free) (x .torsion) (rw host at (sym (a .answer)))
+    pub coordinates-sizes : CoordinatesSized b p slots (countsIn x)
+    coordinates-sizes = coordinates-sized b bytes p z slots work (countsIn x) (rw host at (sym (a .answer)))
 
     module _ (chain : List ℕ) (read : count (chainCells b) p ≤ hostLimit → z ≡ chainFrom (count (chainCells b) p) chain) where
       pub coordinates-write : (rest : List ℤ) (output′ : List ℕ) → length after ≡ length slots

@@ -15,7 +15,7 @@ use Rattle.sheet_format.specs.Check.{chainCells, some, first, sheetChecks}
 use Rattle.reduction_steps.specs.State.{State}
 use Rattle.reduction_steps.specs.Pivot.{Rule, pivotRule}
 use Rattle.reports.specs.Reductions.{Reductions, tooWide, reduced, reductions}
-use Rattle.reports.specs.Report.{freeRank, torsionCount, reportList, coordinateList}
+use Rattle.reports.specs.Report.{Counts, countsOf, reportList, coordinateList}
 
 -- ---- the slots that check 9 asks for
 
@@ -61,9 +61,9 @@ chainChecks b p z =
 
 -- ---- what a call answers and leaves
 
--- done, with the report's counts b and t, or refused with a number
+-- done, with the report's counts, or refused with a number
 pub data Answer : Type 0 where
-  done : ℕ → ℕ → Answer
+  done : Counts → Answer
   refused : ℕ → Answer
 
 -- the answer, and the output slice and the work slice as the call leaves them
@@ -89,7 +89,7 @@ orRefused (suc n) output work later = record { answer = refused (suc n); output 
 unfoldable pub finished : Reductions → (ℕ → ℕ → State → List ℤ) → List ℤ → List ℤ → Called
 finished tooWide numbers output work = record { answer = refused 13; output = output; work = cleared work }
 finished (reduced s r x) numbers output work =
-    record { answer = done (freeRank s r) (torsionCount r x); output = written (numbers s r x) output; work = cleared work }
+    record { answer = done (countsOf s r x); output = written (numbers s r x) output; work = cleared work }
 
 -- the two reductions of dimension p of the cells K, by a pivot rule
 unfoldable pub reductionsOf : Rule → Sections → ℕ → Reductions

@@ -18,7 +18,7 @@ use Rattle.answers.specs.HostSizes.{CoordinatesSized}
 use Rattle.writers.specs.declared.reduced.Counts.{Counts}
 use Rattle.calls.specs.declared.answer.Answer.{Answer}
 use Rattle.calls.specs.declared.answer.Answer.the-variants.{Done, Refused}
-use Rattle.calls.specs.Answer.{CallAnswers}
+use Rattle.calls.specs.Answer.{countsIn, CallAnswers}
 use Rattle.fildwuk.proofs.Through.{coordinates-refuse, coordinates-sizes, coordinates-write}
 use Rattle.fildwuk.proofs.coordinates_through.Statement.{statement}
 use Rattle.fildwuk.proofs.coordinates_through.Tie as tie
@@ -81,7 +81,7 @@ module _ (c : tie.After-counts) where
   done : CallAnswers (coordinateCall (limit called) (sheet called) (start called .args .dimension) (chain called) (slots called) (work called)) (Done counts) (after called) (work′ called)
   done = answers called (Done counts) (c .counts .given .1)
 
-  sizes : CoordinatesSized (sheet called) (start called .args .dimension) (slots called) (counts .free) (counts .torsion)
+  sizes : CoordinatesSized (sheet called) (start called .args .dimension) (slots called) (countsIn counts)
   sizes =
       coordinates-sizes (limit called) (host called) (sheet called) (start called .args .dimension) (output called) (chain called) (slots called) (work called)
       (size called) (start called .pre .1) (bytes called) counts (after called) (work′ called) done

@@ -17,7 +17,7 @@ use Rattle.answers.specs.HostSizes.{ReportSized}
 use Rattle.writers.specs.declared.reduced.Counts.{Counts}
 use Rattle.calls.specs.declared.answer.Answer.{Answer}
 use Rattle.calls.specs.declared.answer.Answer.the-variants.{Done, Refused}
-use Rattle.calls.specs.Answer.{CallAnswers}
+use Rattle.calls.specs.Answer.{countsIn, CallAnswers}
 use Rattle.fildwuk.proofs.Through.{report-refuses, report-sizes, report-room, report-writes}
 use Rattle.fildwuk.proofs.report_through.Statement.{statement}
 use Rattle.fildwuk.proofs.report_through.Tie as tie
@@ -76,7 +76,7 @@ module _ (c : tie.After-counts) where
   done : CallAnswers (reportCall (limit called) (sheet called) (start called .args .dimension) (slots called) (work called)) (Done counts) (after called) (work′ called)
   done = answers called (Done counts) (c .counts .given .1)
 
-  sizes : ReportSized (sheet called) (start called .args .dimension) (slots called) (counts .free) (counts .torsion)
+  sizes : ReportSized (sheet called) (start called .args .dimension) (slots called) (countsIn counts)
   sizes =
       report-sizes (limit called) (host called) (sheet called) (start called .args .dimension) (output called) (slots called) (work called)
       (size called) (start called .pre .1) (bytes called) counts (after called) (work′ called) done
