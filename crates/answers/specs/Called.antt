@@ -8,7 +8,6 @@ use lib.IntN.{ℤ, pos, natAbs}
 use Rattle.complexes.specs.Complex.{Sections, count}
 use Rattle.reports.specs.Report.{Counts}
 use Rattle.reports.specs.Call.{Answer, done, refused, Called, cleared}
-use Rattle.limits.specs.Limits.{coefficientLimit}
 use Rattle.answers.specs.Homology.{IsCycle}
 use Rattle.answers.specs.Right.{slot}
 
@@ -28,10 +27,10 @@ pub record Answers (before : ℕ) (TooWide : Type 0) (n : ℕ) : Type 0 where
   pub too-wide : (n ≡ 13) ↔ ((before ≡ 0) × TooWide)
   pub is-done : (n ≡ 0) ↔ ((before ≡ 0) × (TooWide → ⊥))
 
--- the chain z has n_p coefficients within their limit and is no cycle
-pub record NoCycle (K : Sections) (p : ℕ) (z : List ℤ) : Type 0 where
+-- the chain z has n_p coefficients within a limit and is no cycle
+pub record NoCycle (limit : ℕ) (K : Sections) (p : ℕ) (z : List ℤ) : Type 0 where
   pub size : length z ≡ count K p
-  pub small : (i : ℕ) → natAbs (slot z i) ≤ coefficientLimit
+  pub small : (i : ℕ) → natAbs (slot z i) ≤ limit
   pub no-cycle : IsCycle K p (slot z) → ⊥
 
 -- the slice keeps its length and all that is past its first `many` elements

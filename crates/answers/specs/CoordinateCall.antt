@@ -18,7 +18,7 @@ use Rattle.reduction_steps.specs.PivotLaws.{pivotRule-is-rule}
 use Rattle.reports.specs.Report.{Counts, coordinateList}
 use Rattle.reports.specs.ReportLaws.{coordinates-fit}
 use Rattle.reports.specs.Call.{Called, done, written, callChecks, chainChecks, coordinateSlots, reductionsOf, coordinateCall}
-use Rattle.limits.specs.Limits.{entryLimit}
+use Rattle.limits.specs.Limits.{entryLimit, coefficientLimit}
 use Rattle.reports.specs.RefusalLaws.{callChecks-zero, call-chain-zero, call-chain-narrow}
 use Rattle.reports.specs.WrittenLaws.{getD-written}
 use Rattle.reports.specs.CallLaws.{ReducedWith, call-output}
@@ -37,7 +37,7 @@ module _ (limit : ℕ) (b : List ℕ) (p : ℕ) (z coordinates work : List ℤ) 
   sheetBefore = first (callChecks limit b p coordinateSlots (length coordinates) (length work))
 
   abbrev pub coordinatesBefore : ℕ
-  coordinatesBefore = first (callChecks limit b p coordinateSlots (length coordinates) (length work) ++ chainChecks b p z)
+  coordinatesBefore = first (callChecks limit b p coordinateSlots (length coordinates) (length work) ++ chainChecks coefficientLimit b p z)
 
   abbrev pub coordinatesNumbers : ℕ → ℕ → State → List ℤ
   coordinatesNumbers s r x = coordinateList (count (chainCells b) p) s x z
@@ -46,16 +46,16 @@ module _ (limit : ℕ) (b : List ℕ) (p : ℕ) (z coordinates work : List ℤ) 
   coordinatesCalled = coordinateCall limit b p z coordinates work
 
   coordinates-narrow : coordinatesBefore ≢ 13
-  coordinates-narrow = call-chain-narrow limit b p coordinateSlots (length coordinates) (length work) z
+  coordinates-narrow = call-chain-narrow limit b p coordinateSlots (length coordinates) (length work) coefficientLimit z
 
-  pub coordinates-passed : (coordinatesBefore ≡ 0) ↔ ((sheetBefore ≡ 0) × (first (chainChecks b p z) ≡ 0))
-  coordinates-passed = call-chain-zero limit b p coordinateSlots (length coordinates) (length work) z
+  pub coordinates-passed : (coordinatesBefore ≡ 0) ↔ ((sheetBefore ≡ 0) × (first (chainChecks coefficientLimit b p z) ≡ 0))
+  coordinates-passed = call-chain-zero limit b p coordinateSlots (length coordinates) (length work) coefficientLimit z
 
   coordinates-chains : Bytes b → coordinatesBefore ≡ 0 → ChainComplex limit (chainCells b)
   coordinates-chains bytes e = passed-chains limit b p coordinateSlots (length coordinates) (length work) bytes (coordinates-passed .0 e .0)
 
   pub chain-cycle : coordinatesBefore ≡ 0 → IsCycle (chainCells b) p (slot z)
-  chain-cycle e = chain-passes b p z (coordinates-passed .0 e .1) .cycle
+  chain-cycle e = chain-passes coefficientLimit b p z (coordinates-passed .0 e .1) .cycle
 
   pub coordinates-number : answerNumber (coordinatesCalled .answer) ≡ told coordinatesBefore (reductionsOf pivotRule (chainCells b) p)
   unfolding coordinateCall

@@ -22,7 +22,7 @@ use Rattle.reports.specs.Reductions.{reduced}
 use Rattle.reports.specs.Report.{freeRank, torsionCount, coordinateList}
 use Rattle.reports.specs.ReportLaws.{coordinates-fit}
 use Rattle.reports.specs.Call.{callChecks, chainChecks, coordinateSlots, workSlots, reductionsOf}
-use Rattle.limits.specs.Limits.{libraryLimit, hostLimit, entryLimit}
+use Rattle.limits.specs.Limits.{libraryLimit, hostLimit, entryLimit, coefficientLimit}
 use Rattle.reports.specs.RefusalLaws.{callChecks-zero, call-chain-zero, call-chain-narrow}
 use Rattle.reports.specs.Host.{coefficientIn, otherLength, chainFrom, slotsIn, hostCoordinates, numberAt}
 use Rattle.answers.specs.Right.{slot}
@@ -63,13 +63,13 @@ module _ (b : List ℕ) (bytes : Bytes b) (p : ℕ) (chain output : List ℕ) wh
 
   abbrev pub hostCoordinatesBefore : ℕ
   hostCoordinatesBefore =
-      first (callChecks hostLimit b p coordinateSlots (slotsIn output) (workSlots (chainCells b) p) ++ chainChecks b p given)
+      first (callChecks hostLimit b p coordinateSlots (slotsIn output) (workSlots (chainCells b) p) ++ chainChecks coefficientLimit b p given)
 
   abbrev numbers : ℕ → ℕ → State → List ℤ
   numbers s r x = coordinateList (count (chainCells b) p) s x given
 
-  passed : (hostCoordinatesBefore ≡ 0) ↔ ((hostSheetBefore ≡ 0) × (first (chainChecks b p given) ≡ 0))
-  passed = call-chain-zero hostLimit b p coordinateSlots (slotsIn output) (workSlots (chainCells b) p) given
+  passed : (hostCoordinatesBefore ≡ 0) ↔ ((hostSheetBefore ≡ 0) × (first (chainChecks coefficientLimit b p given) ≡ 0))
+  passed = call-chain-zero hostLimit b p coordinateSlots (slotsIn output) (workSlots (chainCells b) p) coefficientLimit given
 
   chains : hostCoordinatesBefore ≡ 0 → ChainComplex hostLimit (chainCells b)
   chains e = passed-chains hostLimit b p coordinateSlots (slotsIn output) (workSlots (chainCells b) p) bytes (passed .0 e .0)
@@ -82,7 +82,7 @@ module _ (b : List ℕ) (bytes : Bytes b) (p : ℕ) (chain output : List ℕ) wh
   host-coordinates-answer =
       rw number
       (told-answers hostCoordinatesBefore (reductionsOf pivotRule (chainCells b) p)
-      (call-chain-narrow hostLimit b p coordinateSlots (slotsIn output) (workSlots (chainCells b) p) given)
+      (call-chain-narrow hostLimit b p coordinateSlots (slotsIn output) (workSlots (chainCells b) p) coefficientLimit given)
       (λ e. reductionsOf-wide pivotRule-is-rule (chainCells b) p (chains e)))
 
   pub host-coordinates-left : hostCoordinates b p chain output .number ≢ 0 → hostCoordinates b p chain output .output ≡ output
@@ -96,7 +96,7 @@ module _ (b : List ℕ) (bytes : Bytes b) (p : ℕ) (chain output : List ℕ) wh
     pub state : State
     pub right : Right (chainCells b) p rows rank state
     pub reductions : reductionsOf pivotRule (chainCells b) p ≡ reduced rows rank state
-    pub chain-passed : ChainPasses b p given
+    pub chain-passed : ChainPasses coefficientLimit b p given
     pub reads : ReadsCoordinates (chainCells b) p rows rank state given (numberAt (hostCoordinates b p chain output .output))
     pub kept : KeptPast 0 (8 * (torsionCount rank state + freeRank rows rank)) output (hostCoordinates b p chain output .output)
 
@@ -120,8 +120,8 @@ module _ (b : List ℕ) (bytes : Bytes b) (p : ℕ) (chain output : List ℕ) wh
       d : ToldDone hostCoordinatesBefore (reductionsOf pivotRule (chainCells b) p)
       d = told-done hostCoordinatesBefore (reductionsOf pivotRule (chainCells b) p) (sym number ∙ e)
 
-      cycle : ChainPasses b p given
-      cycle = chain-passes b p given (passed .0 (d .passes) .1)
+      cycle : ChainPasses coefficientLimit b p given
+      cycle = chain-passes coefficientLimit b p given (passed .0 (d .passes) .1)
 
       right : Right (chainCells b) p (d .rows) (d .rank) (d .state)
       right = reductionsOf-right pivotRule-is-rule (chainCells b) p (chains (d .passes)) (d .rows) (d .rank) (d .state) (d .reductions)

@@ -13,7 +13,7 @@ use Rattle.reduction_steps.specs.Pivot.{pivotRule}
 use Rattle.reduction_steps.specs.PivotLaws.{pivotRule-is-rule}
 use Rattle.reports.specs.Report.{coordinateList}
 use Rattle.reports.specs.Call.{coordinateSlots, callChecks, chainChecks, reductionsOf, coordinateCall, written}
-use Rattle.limits.specs.Limits.{libraryLimit}
+use Rattle.limits.specs.Limits.{libraryLimit, coefficientLimit}
 use Rattle.reports.specs.RefusalLaws.{Passed, callChecks-zero, call-told, call-passed}
 use Rattle.refusal.specs.Number.{numberOf}
 use Rattle.refusal.specs.NumberLaws.{number-positive}
@@ -36,7 +36,7 @@ module _ (limit : ℕ) (b : List ℕ) (p : ℕ) (z coordinates work : List ℤ) 
   before-chain = first (callChecks limit b p coordinateSlots (length coordinates) (length work))
 
   abbrev before-reductions : ℕ
-  before-reductions = first (callChecks limit b p coordinateSlots (length coordinates) (length work) ++ chainChecks b p z)
+  before-reductions = first (callChecks limit b p coordinateSlots (length coordinates) (length work) ++ chainChecks coefficientLimit b p z)
 
   -- the coordinates
   abbrev numbers : ℕ → ℕ → State → List ℤ
@@ -45,19 +45,19 @@ module _ (limit : ℕ) (b : List ℕ) (p : ℕ) (z coordinates work : List ℤ) 
   pub coordinates-refuse : {x : Refusal} → before-chain ≡ numberOf x → CallAnswers (coordinateCall limit b p z coordinates work) (Refused x) coordinates work
   unfolding coordinateCall
   coordinates-refuse {x} e =
-      refuses before-reductions (reductionsOf pivotRule (chainCells b) p) numbers coordinates work (call-told limit b p coordinateSlots (length coordinates) (length work) z (λ q. absurd (omega (arith, number-positive x))) ∙ e)
+      refuses before-reductions (reductionsOf pivotRule (chainCells b) p) numbers coordinates work (call-told limit b p coordinateSlots (length coordinates) (length work) coefficientLimit z (λ q. absurd (omega (arith, number-positive x))) ∙ e)
 
   module _ (passed : Passed limit b p coordinateSlots (length coordinates) (length work)) where
-    chain-next : before-reductions ≡ first (chainChecks b p z)
+    chain-next : before-reductions ≡ first (chainChecks coefficientLimit b p z)
     chain-next =
-        call-passed limit b p coordinateSlots (length coordinates) (length work) z
+        call-passed limit b p coordinateSlots (length coordinates) (length work) coefficientLimit z
         (callChecks-zero limit b p coordinateSlots (length coordinates) (length work) .1 passed)
 
-    pub chain-refuses : {x : Refusal} → first (chainChecks b p z) ≡ numberOf x → CallAnswers (coordinateCall limit b p z coordinates work) (Refused x) coordinates work
+    pub chain-refuses : {x : Refusal} → first (chainChecks coefficientLimit b p z) ≡ numberOf x → CallAnswers (coordinateCall limit b p z coordinates work) (Refused x) coordinates work
     unfolding coordinateCall
     chain-refuses e = refuses before-reductions (reductionsOf pivotRule (chainCells b) p) numbers coordinates work (chain-next ∙ e)
 
-    module _ (chain : first (chainChecks b p z) ≡ 0) where
+    module _ (chain : first (chainChecks coefficientLimit b p z) ≡ 0) where
       pub coordinates-wide : {x : Refusal} {work′ : List ℤ} → TwiceReduced (chainCells b) p (reductionsOf pivotRule (chainCells b) p) (length work) (reductions.Refused x) work′
           → CallAnswers (coordinateCall limit b p z coordinates work) (Refused refusal.TooWide) coordinates work′
       unfolding coordinateCall

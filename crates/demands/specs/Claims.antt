@@ -19,7 +19,7 @@ use Rattle.homology_groups.specs.Chain.{Chain, combination}
 use Rattle.reduction_steps.specs.Pivot.{pivotRule}
 use Rattle.reports.specs.Report.{Counts}
 use Rattle.reports.specs.Call.{done, callChecks, chainChecks, reportSlots, coordinateSlots, workSlots, reportCall, coordinateCall}
-use Rattle.limits.specs.Limits.{libraryLimit, hostLimit, entryLimit}
+use Rattle.limits.specs.Limits.{libraryLimit, hostLimit, entryLimit, coefficientLimit}
 use Rattle.reports.specs.Host.{chainFrom, coefficientIn, slotsIn, hostReport, hostCoordinates, numberAt}
 use Rattle.reports.specs.Text.{refusalLine, programText}
 use Rattle.answers.specs.Homology.{IsBoundary}
@@ -46,12 +46,13 @@ ReportNumbers =
 abbrev pub CoordinateNumbers : Type 0
 CoordinateNumbers =
     (limit : ℕ) (b : List ℕ) (p : ℕ) (z coordinates work : List ℤ) → Bytes b →
-    Answers (first (callChecks limit b p coordinateSlots (length coordinates) (length work) ++ chainChecks b p z)) (TooWide b p)
+    Answers (first (callChecks limit b p coordinateSlots (length coordinates) (length work) ++ chainChecks coefficientLimit b p z)) (TooWide b p)
     (answerNumber (coordinateCall limit b p z coordinates work .answer))
 
--- 01, "12. The chain has a nonzero boundary": among 10 to 12 it is told exactly when 10 and 11 do not apply and the chain is no cycle
+-- 01, "12. The chain has a nonzero boundary": among 10 to 12 it is told exactly when 10 and 11 do not apply and the chain is no cycle,
+-- whatever the coefficient limit
 abbrev pub NotACycle : Type 0
-NotACycle = (b : List ℕ) (p : ℕ) (z : List ℤ) → (first (chainChecks b p z) ≡ 12) ↔ NoCycle (sectionsOf b) p z
+NotACycle = (limit : ℕ) (b : List ℕ) (p : ℕ) (z : List ℤ) → (first (chainChecks limit b p z) ≡ 12) ↔ NoCycle limit (sectionsOf b) p z
 
 -- "a refusal leaves report and coordinate slices untouched"; 01, "untouched past what the call writes", and the work slice "reads 0 throughout
 -- after a finished call, after refusal 13 ..; the other refusals leave it alone". The report call:
@@ -146,7 +147,7 @@ HostCoordinateNumbers =
     (b : List ℕ) (p : ℕ) (chain coordinates : List ℕ) → Bytes b →
     Answers
     (first (callChecks hostLimit b p coordinateSlots (slotsIn coordinates) (workSlots (sectionsOf b) p)
-    ++ chainChecks b p (chainFrom (count (sectionsOf b) p) chain)))
+    ++ chainChecks coefficientLimit b p (chainFrom (count (sectionsOf b) p) chain)))
     (TooWide b p) (hostCoordinates b p chain coordinates .number)
 
 -- demand 1, "a refusal leaves report and coordinate slices untouched"

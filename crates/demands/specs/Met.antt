@@ -27,7 +27,7 @@ use Rattle.sheet_format.specs.Starred.{hollowTriangle}
 use Rattle.sheet_format.specs.Accept.{accepted-complex}
 use Rattle.reduction_steps.specs.Pivot.{release1}
 use Rattle.reduction_steps.specs.PivotLaws.{release1-is-rule}
-use Rattle.limits.specs.Limits.{hostLimit}
+use Rattle.limits.specs.Limits.{hostLimit, coefficientLimit}
 use Rattle.reports.specs.Call.{Called, callChecks, chainChecks, coefficientExceeds, boundaryNotZero, reportSlots, coordinateSlots, workSlots, reportCall, coordinateCall}
 use Rattle.reports.specs.Host.{coefficientAt, coefficientIn, chainFrom, slotsIn, numberAt, hostReport, hostCoordinates}
 use Rattle.reports.specs.RefusalLaws.{callChecks-zero}
@@ -141,7 +141,7 @@ plane-host-report = claims.ReportOf.by-host (replicate 1936 9) (hostReportNumber
 coordinates-admitted :
     first
     (callChecks hostLimit sheet 1 coordinateSlots (slotsIn (replicate 120 9)) (workSlots (sectionsOf sheet) 1)
-    ++ chainChecks sheet 1 (chainFrom (count (sectionsOf sheet) 1) (replicate 60 0)))
+    ++ chainChecks coefficientLimit sheet 1 (chainFrom (count (sectionsOf sheet) 1) (replicate 60 0)))
     ≡ 0
 unfolding callChecks chainChecks refusal countField offsetField cellOf cellsOf sectionsOf chainCells some verticesDoNotRise cellsDoNotRise faceMissing without same rises precedes listed start countBelow tabulate
     chainFrom coefficientAt coefficientExceeds boundaryNotZero boundary coefficient sign apply sum
@@ -157,9 +157,9 @@ plane-accepted = callChecks-zero hostLimit sheet 1 reportSlots (slotsIn (replica
 
 -- ---- no cycle
 
-pub triangle-no-cycle : NoCycle (sectionsOf hollowTriangle) 1 (pos 1 ∷ pos 0 ∷ pos 0 ∷ [])
+pub triangle-no-cycle : NoCycle coefficientLimit (sectionsOf hollowTriangle) 1 (pos 1 ∷ pos 0 ∷ pos 0 ∷ [])
 unfolding chainChecks countField cellOf cellsOf sectionsOf chainCells some without same start countBelow tabulate coefficientExceeds boundaryNotZero boundary coefficient sign apply sum
-triangle-no-cycle = notACycle hollowTriangle 1 (pos 1 ∷ pos 0 ∷ pos 0 ∷ []) .0 told
+triangle-no-cycle = notACycle coefficientLimit hollowTriangle 1 (pos 1 ∷ pos 0 ∷ pos 0 ∷ []) .0 told
   where
-    told : first (chainChecks hollowTriangle 1 (pos 1 ∷ pos 0 ∷ pos 0 ∷ [])) ≡ 12
+    told : first (chainChecks coefficientLimit hollowTriangle 1 (pos 1 ∷ pos 0 ∷ pos 0 ∷ [])) ≡ 12
     told = refl

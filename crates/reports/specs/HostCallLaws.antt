@@ -24,7 +24,7 @@ use Rattle.reduction_steps.specs.Pivot.{pivotRule}
 use Rattle.reports.specs.Reductions.{Reductions}
 use Rattle.reports.specs.Report.{Counts, reportList, coordinateList}
 use Rattle.reports.specs.Call.{done, refused, callChecks, chainChecks, reportSlots, coordinateSlots, workSlots, reductionsOf, reportCall, coordinateCall}
-use Rattle.limits.specs.Limits.{hostLimit}
+use Rattle.limits.specs.Limits.{hostLimit, coefficientLimit}
 use Rattle.reports.specs.RefusalLaws.{sheet-told, sheet-passed}
 use Rattle.reports.specs.CallLaws.{call, ReducedWith, CallRefused, earlier, wide, call-done, call-refused, call-output}
 use Rattle.reports.specs.Host.{HostCalled, numbersBytes, chainFrom, slotsIn, orRefusedWith, finishedWith, hostReport, hostCoordinates}
@@ -174,15 +174,15 @@ module _ (b : List ℕ) (p : ℕ) (chain output : List ℕ) (z slots work : List
   sheetChecked = callChecks hostLimit b p coordinateSlots (length slots) (length work)
 
   coordinateBefore : List ℤ → ℕ
-  coordinateBefore y = first (sheetChecked ++ chainChecks b p y)
+  coordinateBefore y = first (sheetChecked ++ chainChecks coefficientLimit b p y)
 
   answered : List ℤ → HostCalled
   answered y = hostCall (coordinateBefore y) (reductionsOf pivotRule (chainCells b) p) (coordinateNumbers y) output
 
   -- the checks 1 to 9 of the library's call decide, or those of the chain
-  before-is : (y : List ℤ) → coordinateBefore y ≡ orElse (first sheetChecked) (first (chainChecks b p y))
+  before-is : (y : List ℤ) → coordinateBefore y ≡ orElse (first sheetChecked) (first (chainChecks coefficientLimit b p y))
   unfolding coordinateBefore sheetChecked callChecks
-  before-is y = first-append sheetChecked (chainChecks b p y) refl
+  before-is y = first-append sheetChecked (chainChecks coefficientLimit b p y) refl
 
   -- only a sheet that is accepted has its chain read
   same-chain : (k : ℕ) → refusal hostLimit b ≡ k → answered (chainFrom (count (chainCells b) p) chain) ≡ answered z
@@ -196,8 +196,8 @@ module _ (b : List ℕ) (p : ℕ) (chain output : List ℕ) (z slots work : List
   unfolding hostCoordinates answered sheetChecked coordinateNumbers callChecks
   coordinates-same =
       ap (λ (n : ℕ). hostCall n (reductionsOf pivotRule (chainCells b) p) (coordinateNumbers y) output)
-      (first-append (callChecks hostLimit b p coordinateSlots (slotsIn output) (workSlots (chainCells b) p)) (chainChecks b p y) refl
-      ∙ ap (λ (n : ℕ). orElse n (first (chainChecks b p y)))
+      (first-append (callChecks hostLimit b p coordinateSlots (slotsIn output) (workSlots (chainCells b) p)) (chainChecks coefficientLimit b p y) refl
+      ∙ ap (λ (n : ℕ). orElse n (first (chainChecks coefficientLimit b p y)))
       (sym (same-refusal b p coordinateSlots coordinateRoom (slotsIn output) (length slots) (length work) size space (λ e. counts-within b e p)))
       ∙ sym (before-is y))
       ∙ same-chain (refusal hostLimit b) refl

@@ -68,7 +68,7 @@ returns-2 c =
     let sized = c .before .before .before in
     let a = entered sized .args in
     chain-refuses (a .sheet .limit) (now (a .s)) (a .dimension) (now (a .chain)) (now (a .coordinates)) (now (a .work)) (granted sized .passed)
-    (length-differs (now (a .s)) (a .dimension) (now (a .chain)) (λ e. c .if1 .taken (e ∙ sym (cells-of (granted sized .sizes)))))
+    (length-differs coefficientLimit (now (a .s)) (a .dimension) (now (a .chain)) (λ e. c .if1 .taken (e ∙ sym (cells-of (granted sized .sizes)))))
 
 module _ (c : tie.Else1) where
   abbrev admitted : tie.After-sizes
@@ -82,17 +82,17 @@ returns-3 c =
     let sized = c .before .before in
     let a = entered (admitted sized) .args in
     chain-refuses (a .sheet .limit) (now (a .s)) (a .dimension) (now (a .chain)) (now (a .coordinates)) (now (a .work)) (granted (admitted sized) .passed)
-    (coefficient-beyond (now (a .s)) (a .dimension) (now (a .chain)) (size sized) (sym (c .before .coefficient-exceeds .ensures) ∙ c .if2 .taken))
+    (coefficient-beyond coefficientLimit (now (a .s)) (a .dimension) (now (a .chain)) (size sized) (sym (c .before .coefficient-exceeds .ensures) ∙ c .if2 .taken))
 
 module _ (c : tie.Else2) where
   abbrev sized : tie.Else1
   sized = c .before .before
 
-  narrow : coefficientExceeds (now (entered (admitted sized) .args .chain)) ≡ false
+  narrow : coefficientExceeds coefficientLimit (now (entered (admitted sized) .args .chain)) ≡ false
   narrow = sym (c .before .coefficient-exceeds .ensures) ∙ c .if2 .left
 
   small : (j : ℕ) → natAbs (getD (now (entered (admitted sized) .args .chain)) j (pos 0)) ≤ coefficientLimit
-  small = let a = entered (admitted sized) .args in coefficients-small (now (a .s)) (a .dimension) (now (a .chain)) (size sized) narrow
+  small = let a = entered (admitted sized) .args in coefficients-small coefficientLimit (now (a .s)) (a .dimension) (now (a .chain)) (size sized) narrow
 
 boundary-not-zero-requires : tie.Need-boundary-not-zero-requires
 boundary-not-zero-requires c κs =
@@ -104,7 +104,7 @@ returns-4 c =
     let s = admitted (sized second) in
     let a = entered s .args in
     chain-refuses (a .sheet .limit) (now (a .s)) (a .dimension) (now (a .chain)) (now (a .coordinates)) (now (a .work)) (granted s .passed)
-    (boundary-nonzero (now (a .s)) (a .dimension) (now (a .chain)) (size (sized second)) (narrow second)
+    (boundary-nonzero coefficientLimit (now (a .s)) (a .dimension) (now (a .chain)) (size (sized second)) (narrow second)
     (sym (c .before .boundary-not-zero .ensures) ∙ c .if3 .taken))
 
 module _ (c : tie.Else3) where
@@ -114,10 +114,10 @@ module _ (c : tie.Else3) where
   abbrev checked : tie.After-sizes
   checked = admitted (sized second)
 
-  chain : let a = entered checked .args in first (chainChecks (now (a .s)) (a .dimension) (now (a .chain))) ≡ 0
+  chain : let a = entered checked .args in first (chainChecks coefficientLimit (now (a .s)) (a .dimension) (now (a .chain))) ≡ 0
   chain =
       let a = entered checked .args in
-      chain-passed (now (a .s)) (a .dimension) (now (a .chain)) (size (sized second)) (narrow second)
+      chain-passed coefficientLimit (now (a .s)) (a .dimension) (now (a .chain)) (size (sized second)) (narrow second)
       (sym (c .before .boundary-not-zero .ensures) ∙ c .if3 .left)
 
 -- ---- the reductions
