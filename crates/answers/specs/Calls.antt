@@ -17,7 +17,7 @@ use Rattle.sheet_format.specs.Accept.{accepted-chains}
 use Rattle.reduction_steps.specs.State.{State, within}
 use Rattle.reduction_steps.specs.Pivot.{Rule, IsRule}
 use Rattle.reports.specs.Reductions.{Reductions, tooWide, reduced}
-use Rattle.reports.specs.Report.{freeRank, torsionCount}
+use Rattle.reports.specs.Report.{Counts, countsOf}
 use Rattle.reports.specs.ReductionsLaws.{tooWide≢reduced}
 use Rattle.reports.specs.Call.{done, written, finished, callChecks, reductionsOf}
 use Rattle.limits.specs.Limits.{entryLimit}
@@ -78,7 +78,7 @@ module _ (numbers : ℕ → ℕ → State → List ℤ) (output work : List ℤ)
   call-counted : (before : ℕ) (R : Reductions) → answerNumber (call before R numbers output work .answer) ≡ 0 → IsDone (call before R numbers output work .answer)
   unfolding finished
   call-counted zero tooWide e = absurd (omega arith)
-  call-counted zero (reduced s r x) e = record { free = freeRank s r; torsion = torsionCount r x; is = refl }
+  call-counted zero (reduced s r x) e = record { counts = countsOf s r x; is = refl }
   call-counted (suc k) R e = absurd (omega arith)
 
   output-left : (before : ℕ) (R : Reductions) → told before R ≢ 0 → call before R numbers output work .output ≡ output
@@ -93,9 +93,10 @@ module _ (numbers : ℕ → ℕ → State → List ℤ) (output work : List ℤ)
   work-left zero (reduced s r x) h = record { after-done = λ e. refl; after-wide = λ e. absurd (omega arith); otherwise = λ d e. absurd (d refl) }
   work-left (suc k) R h = record { after-done = λ e. absurd (omega arith); after-wide = λ e. absurd (h e); otherwise = λ d e. refl }
 
-  -- where done with f and t leaves what is past its first `many f t` numbers
+  -- where done with counts leaves what is past its first `many f t` numbers, of f free generators and t orders
   pub call-leaves : (before : ℕ) (R : Reductions) (many : ℕ → ℕ → ℕ) → before ≢ 13
-      → ((f t : ℕ) → call before R numbers output work .answer ≡ done f t → KeptPast (pos 0) (many f t) output (call before R numbers output work .output))
+      → ((counts : Counts) → call before R numbers output work .answer ≡ done counts
+      → KeptPast (pos 0) (many (counts .free) (counts .torsion)) output (call before R numbers output work .output))
       → Leaves many output work (call before R numbers output work)
   call-leaves before R many narrow past = record {
     counted = call-counted before R;
@@ -104,7 +105,7 @@ module _ (numbers : ℕ → ℕ → State → List ℤ) (output work : List ℤ)
     work-left = rw (call-number before R) (work-left before R narrow);
   }
 
-  pub output-kept : (before : ℕ) (R : Reductions) → before ≡ 0 → {f t : ℕ} (c : ReducedWith R f t) (many : ℕ)
+  pub output-kept : (before : ℕ) (R : Reductions) → before ≡ 0 → {counts : Counts} (c : ReducedWith R counts) (many : ℕ)
       → length (numbers (c .rows) (c .rank) (c .state)) ≡ many → many ≤ length output → KeptPast (pos 0) many output (call before R numbers output work .output)
   output-kept before R z c many e h = record {
     size = ap length is ∙ length-written list output (omega arith);
@@ -144,15 +145,15 @@ call-answers {rule} is K p before narrow chains numbers output work =
     rw (call-number numbers output work before (reductionsOf rule K p))
     (told-answers before (reductionsOf rule K p) narrow (λ e. reductionsOf-wide is K p (chains e)))
 
--- a call that is done with f and t: two reductions that are right
-pub record Answered (rule : Rule) (K : Sections) (p before f t : ℕ) : Type 0 where
+-- a call that is done with these counts: two reductions that are right
+pub record Answered (rule : Rule) (K : Sections) (p before : ℕ) (counts : Counts) : Type 0 where
   pub passes : before ≡ 0
-  pub counted : ReducedWith (reductionsOf rule K p) f t
+  pub counted : ReducedWith (reductionsOf rule K p) counts
   pub right : Right K p (counted .rows) (counted .rank) (counted .state)
 
 pub answered : {rule : Rule} → IsRule rule → {limit : ℕ} (K : Sections) (p before : ℕ) → (before ≡ 0 → ChainComplex limit K) → (numbers : ℕ → ℕ → State → List ℤ)
-    (output work : List ℤ) (f t : ℕ) → call before (reductionsOf rule K p) numbers output work .answer ≡ done f t → Answered rule K p before f t
-answered {rule} is K p before chains numbers output work f t e =
-    let d = call-done before (reductionsOf rule K p) numbers output work f t e in
+    (output work : List ℤ) (counts : Counts) → call before (reductionsOf rule K p) numbers output work .answer ≡ done counts → Answered rule K p before counts
+answered {rule} is K p before chains numbers output work counts e =
+    let d = call-done before (reductionsOf rule K p) numbers output work counts e in
     let c = d .counted in
     record { passes = d .passes; counted = c; right = reductionsOf-right is K p (chains (d .passes)) (c .rows) (c .rank) (c .state) (c .reductions) }

@@ -19,29 +19,28 @@ use Rattle.sheet_format.specs.FirstLaws.{first-zero, first-append-absent}
 use Rattle.sheet_format.specs.CheckLaws.{some-false}
 use Rattle.complexes.specs.Complex.{count}
 use Rattle.reports.specs.Call.{chainChecks, chainLengthDiffers, coefficientExceeds, boundaryNotZero}
-use Rattle.limits.specs.Limits.{coefficientLimit}
 use Rattle.answers.specs.Homology.{IsCycle}
 use Rattle.answers.specs.Right.{slot}
 use Rattle.answers.specs.Called.{NoCycle}
 
 -- ---- 11
 
-coefficients-iff : (z : List ℤ) → (coefficientExceeds z ≡ false) ↔ ((i : ℕ) → natAbs (slot z i) ≤ coefficientLimit)
+coefficients-iff : (limit : ℕ) (z : List ℤ) → (coefficientExceeds limit z ≡ false) ↔ ((i : ℕ) → natAbs (slot z i) ≤ limit)
 unfolding coefficientExceeds
-coefficients-iff z = (forward, backward)
+coefficients-iff limit z = (forward, backward)
   where
     exceeds : ℕ → Bool
-    exceeds i = ltb coefficientLimit (natAbs (slot z i))
+    exceeds i = ltb limit (natAbs (slot z i))
 
-    at : ((i : ℕ) → i < length z → exceeds i ≡ false) → (i : ℕ) → Dec (i < length z) → natAbs (slot z i) ≤ coefficientLimit
-    at h i (yes l) = ltb-false coefficientLimit (natAbs (slot z i)) (h i l)
+    at : ((i : ℕ) → i < length z → exceeds i ≡ false) → (i : ℕ) → Dec (i < length z) → natAbs (slot z i) ≤ limit
+    at h i (yes l) = ltb-false limit (natAbs (slot z i)) (h i l)
     at h i (no l) = rw (List·getD-eq-default z (pos 0) {n = i} (omega arith)) zero-le
 
-    forward : some (length z) exceeds ≡ false → (i : ℕ) → natAbs (slot z i) ≤ coefficientLimit
+    forward : some (length z) exceeds ≡ false → (i : ℕ) → natAbs (slot z i) ≤ limit
     forward e i = at (some-false (length z) exceeds .0 e) i (decLt i (length z))
 
-    backward : ((i : ℕ) → natAbs (slot z i) ≤ coefficientLimit) → some (length z) exceeds ≡ false
-    backward h = some-false (length z) exceeds .1 (λ i l. le-ltb coefficientLimit (natAbs (slot z i)) (h i))
+    backward : ((i : ℕ) → natAbs (slot z i) ≤ limit) → some (length z) exceeds ≡ false
+    backward h = some-false (length z) exceeds .1 (λ i l. le-ltb limit (natAbs (slot z i)) (h i))
 
 -- ---- 12
 
@@ -68,9 +67,9 @@ cycle-iff b p z = (forward, backward)
 
 -- ---- the three
 
-pub record ChainPasses (b : List ℕ) (p : ℕ) (z : List ℤ) : Type 0 where
+pub record ChainPasses (limit : ℕ) (b : List ℕ) (p : ℕ) (z : List ℤ) : Type 0 where
   pub size : length z ≡ count (chainCells b) p
-  pub small : (i : ℕ) → natAbs (slot z i) ≤ coefficientLimit
+  pub small : (i : ℕ) → natAbs (slot z i) ≤ limit
   pub cycle : IsCycle (chainCells b) p (slot z)
 
 size-iff : (b : List ℕ) (p : ℕ) (z : List ℤ) → (chainLengthDiffers (chainCells b) p z ≡ false) ↔ (length z ≡ count (chainCells b) p)
@@ -79,44 +78,44 @@ size-iff b p z = (
   λ e. ap not (eq-eqb (length z) (count (chainCells b) p) e),
 )
 
-pub chain-passes : (b : List ℕ) (p : ℕ) (z : List ℤ) → first (chainChecks b p z) ≡ 0 → ChainPasses b p z
+pub chain-passes : (limit : ℕ) (b : List ℕ) (p : ℕ) (z : List ℤ) → first (chainChecks limit b p z) ≡ 0 → ChainPasses limit b p z
 unfolding chainChecks
-chain-passes b p z e =
-    let (size, (small, (cycle, _))) = first-zero (chainChecks b p z) refl .0 e in
-    record { size = size-iff b p z .0 size; small = coefficients-iff z .0 small; cycle = cycle-iff b p z .0 cycle }
+chain-passes limit b p z e =
+    let (size, (small, (cycle, _))) = first-zero (chainChecks limit b p z) refl .0 e in
+    record { size = size-iff b p z .0 size; small = coefficients-iff limit z .0 small; cycle = cycle-iff b p z .0 cycle }
 
-pub not-a-cycle-iff : (b : List ℕ) (p : ℕ) (z : List ℤ) → (first (chainChecks b p z) ≡ 12) ↔ NoCycle (chainCells b) p z
+pub not-a-cycle-iff : (limit : ℕ) (b : List ℕ) (p : ℕ) (z : List ℤ) → (first (chainChecks limit b p z) ≡ 12) ↔ NoCycle limit (chainCells b) p z
 unfolding chainChecks
-not-a-cycle-iff b p z = (forward, backward)
+not-a-cycle-iff limit b p z = (forward, backward)
   where
     -- the checks before 12
     earlier : List (ℕ × Bool)
-    earlier = (10, chainLengthDiffers (chainCells b) p z) ∷ (11, coefficientExceeds z) ∷ []
+    earlier = (10, chainLengthDiffers (chainCells b) p z) ∷ (11, coefficientExceeds limit z) ∷ []
 
     last : Bool → List (ℕ × Bool)
     last t = (12, t) ∷ []
 
-    forward : first (chainChecks b p z) ≡ 12 → NoCycle (chainCells b) p z
+    forward : first (chainChecks limit b p z) ≡ 12 → NoCycle limit (chainCells b) p z
     forward e =
         let k = first-append-absent earlier (last (boundaryNotZero (chainCells b) p z)) refl 12 refl e in
         let (size, (small, _)) = first-zero earlier refl .0 (k .0) in
         record {
           size = size-iff b p z .0 size;
-          small = coefficients-iff z .0 small;
+          small = coefficients-iff limit z .0 small;
           no-cycle = λ c. zero≢twelve (sym (ap (λ (t : Bool). first (last t)) (cycle-iff b p z .1 c)) ∙ k .1);
         }
       where
         zero≢twelve : _≡_ {A = ℕ} 0 12 → ⊥
         zero≢twelve h = omega arith
 
-    told : NoCycle (chainCells b) p z → (t : Bool) → boundaryNotZero (chainCells b) p z ≡ t → t ≡ true
+    told : NoCycle limit (chainCells b) p z → (t : Bool) → boundaryNotZero (chainCells b) p z ≡ t → t ≡ true
     told h true e = refl
     told h false e = absurd (h .no-cycle (cycle-iff b p z .0 e))
 
-    backward : NoCycle (chainCells b) p z → first (chainChecks b p z) ≡ 12
+    backward : NoCycle limit (chainCells b) p z → first (chainChecks limit b p z) ≡ 12
     backward h =
         rw (
           size-iff b p z .1 (h .size),
-          coefficients-iff z .1 (h .small),
+          coefficients-iff limit z .1 (h .small),
           told h (boundaryNotZero (chainCells b) p z) refl,
         )

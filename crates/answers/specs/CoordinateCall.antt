@@ -15,10 +15,10 @@ use Rattle.sheet_format.specs.Sheet.{Bytes}
 use Rattle.reduction_steps.specs.State.{State}
 use Rattle.reduction_steps.specs.Pivot.{pivotRule}
 use Rattle.reduction_steps.specs.PivotLaws.{pivotRule-is-rule}
-use Rattle.reports.specs.Report.{coordinateList}
+use Rattle.reports.specs.Report.{Counts, coordinateList}
 use Rattle.reports.specs.ReportLaws.{coordinates-fit}
 use Rattle.reports.specs.Call.{Called, done, written, callChecks, chainChecks, coordinateSlots, reductionsOf, coordinateCall}
-use Rattle.limits.specs.Limits.{entryLimit}
+use Rattle.limits.specs.Limits.{entryLimit, coefficientLimit}
 use Rattle.reports.specs.RefusalLaws.{callChecks-zero, call-chain-zero, call-chain-narrow}
 use Rattle.reports.specs.WrittenLaws.{getD-written}
 use Rattle.reports.specs.CallLaws.{ReducedWith, call-output}
@@ -37,7 +37,7 @@ module _ (limit : ℕ) (b : List ℕ) (p : ℕ) (z coordinates work : List ℤ) 
   sheetBefore = first (callChecks limit b p coordinateSlots (length coordinates) (length work))
 
   abbrev pub coordinatesBefore : ℕ
-  coordinatesBefore = first (callChecks limit b p coordinateSlots (length coordinates) (length work) ++ chainChecks b p z)
+  coordinatesBefore = first (callChecks limit b p coordinateSlots (length coordinates) (length work) ++ chainChecks coefficientLimit b p z)
 
   abbrev pub coordinatesNumbers : ℕ → ℕ → State → List ℤ
   coordinatesNumbers s r x = coordinateList (count (chainCells b) p) s x z
@@ -46,30 +46,30 @@ module _ (limit : ℕ) (b : List ℕ) (p : ℕ) (z coordinates work : List ℤ) 
   coordinatesCalled = coordinateCall limit b p z coordinates work
 
   coordinates-narrow : coordinatesBefore ≢ 13
-  coordinates-narrow = call-chain-narrow limit b p coordinateSlots (length coordinates) (length work) z
+  coordinates-narrow = call-chain-narrow limit b p coordinateSlots (length coordinates) (length work) coefficientLimit z
 
-  pub coordinates-passed : (coordinatesBefore ≡ 0) ↔ ((sheetBefore ≡ 0) × (first (chainChecks b p z) ≡ 0))
-  coordinates-passed = call-chain-zero limit b p coordinateSlots (length coordinates) (length work) z
+  pub coordinates-passed : (coordinatesBefore ≡ 0) ↔ ((sheetBefore ≡ 0) × (first (chainChecks coefficientLimit b p z) ≡ 0))
+  coordinates-passed = call-chain-zero limit b p coordinateSlots (length coordinates) (length work) coefficientLimit z
 
   coordinates-chains : Bytes b → coordinatesBefore ≡ 0 → ChainComplex limit (chainCells b)
   coordinates-chains bytes e = passed-chains limit b p coordinateSlots (length coordinates) (length work) bytes (coordinates-passed .0 e .0)
 
   pub chain-cycle : coordinatesBefore ≡ 0 → IsCycle (chainCells b) p (slot z)
-  chain-cycle e = chain-passes b p z (coordinates-passed .0 e .1) .cycle
+  chain-cycle e = chain-passes coefficientLimit b p z (coordinates-passed .0 e .1) .cycle
 
   pub coordinates-answer : Bytes b → Answers coordinatesBefore (GoesWide entryLimit pivotRule (chainCells b) p) (answerNumber (coordinatesCalled .answer))
   unfolding coordinateCall
   coordinates-answer bytes = call-answers pivotRule-is-rule (chainCells b) p coordinatesBefore coordinates-narrow (coordinates-chains bytes) coordinatesNumbers coordinates work
 
-  module _ (bytes : Bytes b) {f t : ℕ} (e : coordinatesCalled .answer ≡ done f t) where
-    pub coordinates-answered : Answered pivotRule (chainCells b) p coordinatesBefore f t
+  module _ (bytes : Bytes b) {counts : Counts} (e : coordinatesCalled .answer ≡ done counts) where
+    pub coordinates-answered : Answered pivotRule (chainCells b) p coordinatesBefore counts
     unfolding coordinateCall
-    coordinates-answered = answered pivotRule-is-rule (chainCells b) p coordinatesBefore (coordinates-chains bytes) coordinatesNumbers coordinates work f t e
+    coordinates-answered = answered pivotRule-is-rule (chainCells b) p coordinatesBefore (coordinates-chains bytes) coordinatesNumbers coordinates work counts e
 
-    abbrev c : ReducedWith (reductionsOf pivotRule (chainCells b) p) f t
+    abbrev c : ReducedWith (reductionsOf pivotRule (chainCells b) p) counts
     c = coordinates-answered .counted
 
-    size : length (coordinatesNumbers (c .rows) (c .rank) (c .state)) ≡ t + f
+    size : length (coordinatesNumbers (c .rows) (c .rank) (c .state)) ≡ counts .torsion + counts .free
     size = cc (coordinates-length (coordinates-answered .right) z, c .torsion, c .free)
 
     output-is : coordinatesCalled .output ≡ written (coordinatesNumbers (c .rows) (c .rank) (c .state)) coordinates
@@ -83,12 +83,12 @@ module _ (limit : ℕ) (b : List ℕ) (p : ℕ) (z coordinates work : List ℤ) 
           ∙ getD-written (coordinatesNumbers (c .rows) (c .rank) (c .state)) coordinates (pos 0) j (omega (arith, coordinates-length (coordinates-answered .right) z));
     }
 
-    coordinates-kept : KeptPast (pos 0) (t + f) coordinates (coordinatesCalled .output)
+    coordinates-kept : KeptPast (pos 0) (counts .torsion + counts .free) coordinates (coordinatesCalled .output)
     unfolding coordinateCall
     coordinates-kept =
-        output-kept coordinatesNumbers coordinates work coordinatesBefore (reductionsOf pivotRule (chainCells b) p) (coordinates-answered .passes) c (t + f) size (le-trans fits slots)
+        output-kept coordinatesNumbers coordinates work coordinatesBefore (reductionsOf pivotRule (chainCells b) p) (coordinates-answered .passes) c (counts .torsion + counts .free) size (le-trans fits slots)
       where
-        fits : t + f ≤ coordinateSlots (chainCells b) p
+        fits : counts .torsion + counts .free ≤ coordinateSlots (chainCells b) p
         fits = rw size at (coordinates-fit (count (chainCells b) p) (c .rows) (c .state) z (coordinates-answered .right .rows-bound))
 
         slots : coordinateSlots (chainCells b) p ≤ length coordinates
@@ -97,4 +97,4 @@ module _ (limit : ℕ) (b : List ℕ) (p : ℕ) (z coordinates work : List ℤ) 
   pub coordinates-leave : Bytes b → Leaves (λ f t. t + f) coordinates work coordinatesCalled
   unfolding coordinateCall
   coordinates-leave bytes =
-      call-leaves coordinatesNumbers coordinates work coordinatesBefore (reductionsOf pivotRule (chainCells b) p) (λ f t. t + f) coordinates-narrow (λ f t e. coordinates-kept bytes e)
+      call-leaves coordinatesNumbers coordinates work coordinatesBefore (reductionsOf pivotRule (chainCells b) p) (λ f t. t + f) coordinates-narrow (λ counts e. coordinates-kept bytes e)

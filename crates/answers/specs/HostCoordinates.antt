@@ -21,7 +21,7 @@ use Rattle.reduction_steps.specs.PivotLaws.{pivotRule-is-rule}
 use Rattle.reports.specs.Report.{freeRank, torsionCount, coordinateList}
 use Rattle.reports.specs.ReportLaws.{coordinates-fit}
 use Rattle.reports.specs.Call.{callChecks, chainChecks, coordinateSlots, workSlots, reductionsOf}
-use Rattle.limits.specs.Limits.{libraryLimit, hostLimit, entryLimit}
+use Rattle.limits.specs.Limits.{libraryLimit, hostLimit, entryLimit, coefficientLimit}
 use Rattle.reports.specs.RefusalLaws.{callChecks-zero, call-chain-zero, call-chain-narrow}
 use Rattle.reports.specs.Host.{coefficientIn, otherLength, chainFrom, slotsIn, hostCoordinates, numberAt}
 use Rattle.answers.specs.Right.{slot}
@@ -61,13 +61,13 @@ module _ (b : List ℕ) (bytes : Bytes b) (p : ℕ) (chain output : List ℕ) wh
 
   abbrev pub hostCoordinatesBefore : ℕ
   hostCoordinatesBefore =
-      first (callChecks hostLimit b p coordinateSlots (slotsIn output) (workSlots (chainCells b) p) ++ chainChecks b p given)
+      first (callChecks hostLimit b p coordinateSlots (slotsIn output) (workSlots (chainCells b) p) ++ chainChecks coefficientLimit b p given)
 
   abbrev numbers : ℕ → ℕ → State → List ℤ
   numbers s r x = coordinateList (count (chainCells b) p) s x given
 
-  passed : (hostCoordinatesBefore ≡ 0) ↔ ((hostSheetBefore ≡ 0) × (first (chainChecks b p given) ≡ 0))
-  passed = call-chain-zero hostLimit b p coordinateSlots (slotsIn output) (workSlots (chainCells b) p) given
+  passed : (hostCoordinatesBefore ≡ 0) ↔ ((hostSheetBefore ≡ 0) × (first (chainChecks coefficientLimit b p given) ≡ 0))
+  passed = call-chain-zero hostLimit b p coordinateSlots (slotsIn output) (workSlots (chainCells b) p) coefficientLimit given
 
   chains : hostCoordinatesBefore ≡ 0 → ChainComplex hostLimit (chainCells b)
   chains e = passed-chains hostLimit b p coordinateSlots (slotsIn output) (workSlots (chainCells b) p) bytes (passed .0 e .0)
@@ -76,7 +76,7 @@ module _ (b : List ℕ) (bytes : Bytes b) (p : ℕ) (chain output : List ℕ) wh
   unfolding hostCoordinates
   host-coordinates-answer =
       host-answers pivotRule-is-rule (chainCells b) p hostCoordinatesBefore chains numbers output
-      (call-chain-narrow hostLimit b p coordinateSlots (slotsIn output) (workSlots (chainCells b) p) given)
+      (call-chain-narrow hostLimit b p coordinateSlots (slotsIn output) (workSlots (chainCells b) p) coefficientLimit given)
 
   pub host-coordinates-left : hostCoordinates b p chain output .number ≢ 0 → hostCoordinates b p chain output .output ≡ output
   unfolding hostCoordinates
@@ -85,7 +85,7 @@ module _ (b : List ℕ) (bytes : Bytes b) (p : ℕ) (chain output : List ℕ) wh
   -- the chain is a cycle, and the two reductions behind its coordinates are right
   pub record HostCoordinated : Type 0 where
     pub behind : HostDone pivotRule (chainCells b) p hostCoordinatesBefore
-    pub chain-passed : ChainPasses b p given
+    pub chain-passed : ChainPasses coefficientLimit b p given
     pub reads : ReadsCoordinates (chainCells b) p (behind .rows) (behind .rank) (behind .state) given (numberAt (hostCoordinates b p chain output .output))
     pub kept : KeptPast 0 (8 * (torsionCount (behind .rank) (behind .state) + freeRank (behind .rows) (behind .rank))) output
         (hostCoordinates b p chain output .output)
@@ -105,8 +105,8 @@ module _ (b : List ℕ) (bytes : Bytes b) (p : ℕ) (chain output : List ℕ) wh
       h : HostDone pivotRule (chainCells b) p hostCoordinatesBefore
       h = host-done pivotRule-is-rule (chainCells b) p hostCoordinatesBefore chains numbers output e
 
-      cycle : ChainPasses b p given
-      cycle = chain-passes b p given (passed .0 (h .passes) .1)
+      cycle : ChainPasses coefficientLimit b p given
+      cycle = chain-passes coefficientLimit b p given (passed .0 (h .passes) .1)
 
       fits : 8 * length (numbers (h .rows) (h .rank) (h .state)) ≤ length output
       fits =

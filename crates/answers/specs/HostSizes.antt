@@ -13,7 +13,7 @@ use Rattle.sheet_format.specs.Layout.{top}
 use Rattle.sheet_format.specs.Check.{chainCells, first, refusal}
 use Rattle.sheet_format.specs.Sheet.{Bytes}
 use Rattle.reduction_steps.specs.Pivot.{pivotRule}
-use Rattle.reports.specs.Report.{kind, torsionCount, reportList, coordinateList}
+use Rattle.reports.specs.Report.{Counts, kind, torsionCount, reportList, coordinateList}
 use Rattle.reports.specs.ReportLaws.{length-reported-le}
 use Rattle.reports.specs.Reductions.{tooWide}
 use Rattle.reports.specs.Call.{done, refused, reportSlots, coordinateSlots, workSlots, callChecks, reductionsOf, reportCall, coordinateCall}
@@ -26,21 +26,21 @@ use Rattle.answers.specs.Calls.{Answered}
 use Rattle.answers.specs.ReportCall.{reportBefore, reportNumbers, report-answered}
 use Rattle.answers.specs.CoordinateCall.{sheetBefore, coordinatesBefore, coordinates-passed, coordinates-answered}
 
--- the numbers of a report, with f free generators and t orders
-abbrev pub reportNumbersOf : List ℕ → ℕ → ℕ → ℕ → ℕ
-reportNumbersOf b p f t = 2 + t + (t + f) * count (chainCells b) p
+-- the numbers of a report
+abbrev pub reportNumbersOf : List ℕ → ℕ → Counts → ℕ
+reportNumbersOf b p counts = 2 + counts .torsion + (counts .torsion + counts .free) * count (chainCells b) p
 
--- dimension p of the sheet b, which is accepted, gives f free generators and t orders
-pub record Sized (b : List ℕ) (p f t : ℕ) : Type 0 where
-  pub counted : ReducedWith (reductionsOf pivotRule (chainCells b) p) f t
+-- dimension p of the sheet b, which is accepted, has these counts
+pub record Sized (b : List ℕ) (p : ℕ) (counts : Counts) : Type 0 where
+  pub counted : ReducedWith (reductionsOf pivotRule (chainCells b) p) counts
   pub cells-within : count (chainCells b) p ≤ hostLimit
-  pub total-within : t + f ≤ count (chainCells b) p
-  pub report-size : length (reportList (count (chainCells b) p) (counted .rows) (counted .rank) (counted .state)) ≡ reportNumbersOf b p f t
-  pub coordinates-size : (z : List ℤ) → length (coordinateList (count (chainCells b) p) (counted .rows) (counted .state) z) ≡ t + f
+  pub total-within : counts .torsion + counts .free ≤ count (chainCells b) p
+  pub report-size : length (reportList (count (chainCells b) p) (counted .rows) (counted .rank) (counted .state)) ≡ reportNumbersOf b p counts
+  pub coordinates-size : (z : List ℤ) → length (coordinateList (count (chainCells b) p) (counted .rows) (counted .state) z) ≡ counts .torsion + counts .free
 
-sized : (b : List ℕ) (p before f t : ℕ) → refusal hostLimit b ≡ 0 → Answered pivotRule (chainCells b) p before f t → Sized b p f t
+sized : (b : List ℕ) (p before : ℕ) (counts : Counts) → refusal hostLimit b ≡ 0 → Answered pivotRule (chainCells b) p before counts → Sized b p counts
 unfolding torsionCount
-sized b p before f t accepted d =
+sized b p before counts accepted d =
     let c = d .counted in record {
       counted = c;
       cells-within = counts-within b accepted p;
@@ -50,43 +50,43 @@ sized b p before f t accepted d =
     }
 
 -- the report's numbers fit where all that check 9 asks for do
-pub numbers-fit : {b : List ℕ} {p f t : ℕ} → Sized b p f t → reportNumbersOf b p f t ≤ reportSlots (chainCells b) p
+pub numbers-fit : {b : List ℕ} {p : ℕ} {counts : Counts} → Sized b p counts → reportNumbersOf b p counts ≤ reportSlots (chainCells b) p
 numbers-fit {b} {p} s = omega (arith, s .total-within, mul-le-mul-right (count (chainCells b) p) (s .total-within))
 
 -- a report call that is done, with this report slice
-pub record ReportSized (b : List ℕ) (p : ℕ) (report : List ℤ) (f t : ℕ) : Type 0 where
-  pub is-sized : Sized b p f t
-  pub fits : reportNumbersOf b p f t ≤ length report
+pub record ReportSized (b : List ℕ) (p : ℕ) (report : List ℤ) (counts : Counts) : Type 0 where
+  pub is-sized : Sized b p counts
+  pub fits : reportNumbersOf b p counts ≤ length report
 
 -- a coordinate call that is done, with this coordinate slice
-pub record CoordinatesSized (b : List ℕ) (p : ℕ) (coordinates : List ℤ) (f t : ℕ) : Type 0 where
-  pub is-sized : Sized b p f t
-  pub fits : t + f ≤ length coordinates
+pub record CoordinatesSized (b : List ℕ) (p : ℕ) (coordinates : List ℤ) (counts : Counts) : Type 0 where
+  pub is-sized : Sized b p counts
+  pub fits : counts .torsion + counts .free ≤ length coordinates
 
 module _ (b : List ℕ) (bytes : Bytes b) (p : ℕ) where
-  pub report-sized : (report work : List ℤ) (f t : ℕ) → reportCall hostLimit b p report work .answer ≡ done f t → ReportSized b p report f t
-  report-sized report work f t e = record { is-sized = s; fits = omega (arith, numbers-fit s, h .output-slots) }
+  pub report-sized : (report work : List ℤ) (counts : Counts) → reportCall hostLimit b p report work .answer ≡ done counts → ReportSized b p report counts
+  report-sized report work counts e = record { is-sized = s; fits = omega (arith, numbers-fit s, h .output-slots) }
     where
-      d : Answered pivotRule (chainCells b) p (reportBefore hostLimit b p report work) f t
+      d : Answered pivotRule (chainCells b) p (reportBefore hostLimit b p report work) counts
       d = report-answered hostLimit b p report work bytes e
 
       h : Passed hostLimit b p reportSlots (length report) (length work)
       h = callChecks-zero hostLimit b p reportSlots (length report) (length work) .0 (d .passes)
 
-      s : Sized b p f t
-      s = sized b p (reportBefore hostLimit b p report work) f t (h .accepted) d
+      s : Sized b p counts
+      s = sized b p (reportBefore hostLimit b p report work) counts (h .accepted) d
 
-  pub coordinates-sized : (z coordinates work : List ℤ) (f t : ℕ) → coordinateCall hostLimit b p z coordinates work .answer ≡ done f t → CoordinatesSized b p coordinates f t
-  coordinates-sized z coordinates work f t e = record { is-sized = s; fits = omega (arith, s .total-within, h .output-slots) }
+  pub coordinates-sized : (z coordinates work : List ℤ) (counts : Counts) → coordinateCall hostLimit b p z coordinates work .answer ≡ done counts → CoordinatesSized b p coordinates counts
+  coordinates-sized z coordinates work counts e = record { is-sized = s; fits = omega (arith, s .total-within, h .output-slots) }
     where
-      d : Answered pivotRule (chainCells b) p (coordinatesBefore hostLimit b p z coordinates work) f t
+      d : Answered pivotRule (chainCells b) p (coordinatesBefore hostLimit b p z coordinates work) counts
       d = coordinates-answered hostLimit b p z coordinates work bytes e
 
       h : Passed hostLimit b p coordinateSlots (length coordinates) (length work)
       h = callChecks-zero hostLimit b p coordinateSlots (length coordinates) (length work) .0 (coordinates-passed hostLimit b p z coordinates work .0 (d .passes) .0)
 
-      s : Sized b p f t
-      s = sized b p (coordinatesBefore hostLimit b p z coordinates work) f t (h .accepted) d
+      s : Sized b p counts
+      s = sized b p (coordinatesBefore hostLimit b p z coordinates work) counts (h .accepted) d
 
 -- ---- an accepted sheet, where a host call has its room
 

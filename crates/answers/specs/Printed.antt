@@ -8,6 +8,7 @@ use Rattle.sheet_format.specs.Layout.{top}
 use Rattle.sheet_format.specs.Check.{sectionsOf}
 use Rattle.reduction_steps.specs.Pivot.{pivotRule}
 use Rattle.limits.specs.Limits.{hostLimit, entryLimit}
+use Rattle.reports.specs.Report.{Counts}
 use Rattle.reports.specs.Call.{done, reportCall}
 use Rattle.reports.specs.Text.{refusalLine, reportText, programText}
 use Rattle.answers.specs.Wide.{GoesWide}
@@ -16,8 +17,9 @@ use Rattle.answers.specs.Wide.{GoesWide}
 pub data DimensionPrinted (b : List ℕ) (p : ℕ) (text : List ℕ) : Type 0 where
   too-wide : GoesWide entryLimit pivotRule (sectionsOf b) p → text ≡ refusalLine 13 → DimensionPrinted b p text
   reports :
-      (report work : List ℤ) (f t : ℕ) → reportCall hostLimit b p report work .answer ≡ done f t →
-      text ≡ reportText p (count (sectionsOf b) p) t (t + f) (reportCall hostLimit b p report work .output) → DimensionPrinted b p text
+      (report work : List ℤ) (counts : Counts) → reportCall hostLimit b p report work .answer ≡ done counts →
+      text ≡ reportText p (count (sectionsOf b) p) (counts .torsion) (counts .torsion + counts .free) (reportCall hostLimit b p report work .output) →
+      DimensionPrinted b p text
 
 -- the first n texts, one after another
 unfoldable pub inTurn : ℕ → (ℕ → List ℕ) → List ℕ

@@ -18,7 +18,7 @@ use Rattle.reduction_steps.specs.State.{State}
 use Rattle.reduction_steps.specs.Pivot.{pivotRule}
 use Rattle.reduction_steps.specs.PivotLaws.{pivotRule-is-rule}
 use Rattle.reports.specs.Reductions.{Reductions, tooWide, reduced}
-use Rattle.reports.specs.Report.{kind, reported, freeRank, torsionCount, reportList, coordinateList}
+use Rattle.reports.specs.Report.{kind, reported, freeRank, torsionCount, countsOf, reportList, coordinateList}
 use Rattle.reports.specs.ReportLaws.{length-coordinateList}
 use Rattle.reports.specs.RefusalLaws.{callChecks-zero}
 use Rattle.reports.specs.CallLaws.{call-answer, call-output}
@@ -81,7 +81,7 @@ module _ (b : List ℕ) (bytes : Bytes b) (accepted : refusal hostLimit b ≡ 0)
       abbrev numbers : ℕ → ℕ → State → List ℤ
       numbers s r x = reportList n s r x
 
-      report-done : reportCall hostLimit b p report work .answer ≡ done (freeRank s r) (torsionCount r x)
+      report-done : reportCall hostLimit b p report work .answer ≡ done (countsOf s r x)
       unfolding reportCall
       report-done = call-answer (first (callChecks hostLimit b p reportSlots (length report) (length work))) (reductionsOf pivotRule (chainCells b) p) numbers report work (passes h) s r x e
 
@@ -103,7 +103,7 @@ module _ (b : List ℕ) (bytes : Bytes b) (accepted : refusal hostLimit b ≡ 0)
     printed : p ≤ top → (R : Reductions) → reductionsOf pivotRule (chainCells b) p ≡ R → DimensionPrinted b p (dimensionText p n R)
     unfolding dimensionText chainCells
     printed h tooWide e = too-wide (reductionsOf-wide pivotRule-is-rule (chainCells b) p chains .0 e) refl
-    printed h (reduced s r x) e = reports report work (freeRank s r) (torsionCount r x) (report-done h s r x e) (report-text h s r x e)
+    printed h (reduced s r x) e = reports report work (countsOf s r x) (report-done h s r x e) (report-text h s r x e)
 
   -- ---- all dimensions
 

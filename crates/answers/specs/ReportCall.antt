@@ -15,7 +15,7 @@ use Rattle.sheet_format.specs.Sheet.{Bytes}
 use Rattle.reduction_steps.specs.State.{State}
 use Rattle.reduction_steps.specs.Pivot.{pivotRule}
 use Rattle.reduction_steps.specs.PivotLaws.{pivotRule-is-rule}
-use Rattle.reports.specs.Report.{reportList}
+use Rattle.reports.specs.Report.{Counts, reportList}
 use Rattle.reports.specs.ReportLaws.{report-fits}
 use Rattle.reports.specs.Call.{Called, done, written, callChecks, reportSlots, reductionsOf, reportCall}
 use Rattle.limits.specs.Limits.{entryLimit}
@@ -50,19 +50,19 @@ module _ (limit : ℕ) (b : List ℕ) (p : ℕ) (report work : List ℤ) where
   unfolding reportCall
   report-answers bytes = call-answers pivotRule-is-rule (chainCells b) p reportBefore report-narrow (report-chains bytes) reportNumbers report work
 
-  pub report-output : reportBefore ≡ 0 → {f t : ℕ} (c : ReducedWith (reductionsOf pivotRule (chainCells b) p) f t) → reportCalled .output ≡ written (reportList (count (chainCells b) p) (c .rows) (c .rank) (c .state)) report
+  pub report-output : reportBefore ≡ 0 → {counts : Counts} (c : ReducedWith (reductionsOf pivotRule (chainCells b) p) counts) → reportCalled .output ≡ written (reportList (count (chainCells b) p) (c .rows) (c .rank) (c .state)) report
   unfolding reportCall
   report-output e c = call-output reportBefore (reductionsOf pivotRule (chainCells b) p) reportNumbers report work e (c .rows) (c .rank) (c .state) (c .reductions)
 
-  module _ (bytes : Bytes b) {f t : ℕ} (e : reportCalled .answer ≡ done f t) where
-    pub report-answered : Answered pivotRule (chainCells b) p reportBefore f t
+  module _ (bytes : Bytes b) {counts : Counts} (e : reportCalled .answer ≡ done counts) where
+    pub report-answered : Answered pivotRule (chainCells b) p reportBefore counts
     unfolding reportCall
-    report-answered = answered pivotRule-is-rule (chainCells b) p reportBefore (report-chains bytes) reportNumbers report work f t e
+    report-answered = answered pivotRule-is-rule (chainCells b) p reportBefore (report-chains bytes) reportNumbers report work counts e
 
-    abbrev c : ReducedWith (reductionsOf pivotRule (chainCells b) p) f t
+    abbrev c : ReducedWith (reductionsOf pivotRule (chainCells b) p) counts
     c = report-answered .counted
 
-    size : length (reportNumbers (c .rows) (c .rank) (c .state)) ≡ reportLength (chainCells b) p f t
+    size : length (reportNumbers (c .rows) (c .rank) (c .state)) ≡ reportLength (chainCells b) p (counts .free) (counts .torsion)
     size = cc (report-length (report-answered .right), c .torsion, c .free)
 
     pub report-reads : Reads (chainCells b) p (c .rows) (c .rank) (c .state) (slot (reportCalled .output))
@@ -72,12 +72,12 @@ module _ (limit : ℕ) (b : List ℕ) (p : ℕ) (report work : List ℤ) where
           ∙ getD-written (reportNumbers (c .rows) (c .rank) (c .state)) report (pos 0) i (omega (arith, report-length (report-answered .right)));
     }
 
-    report-kept : KeptPast (pos 0) (reportLength (chainCells b) p f t) report (reportCalled .output)
+    report-kept : KeptPast (pos 0) (reportLength (chainCells b) p (counts .free) (counts .torsion)) report (reportCalled .output)
     unfolding reportCall
     report-kept =
-        output-kept reportNumbers report work reportBefore (reductionsOf pivotRule (chainCells b) p) (report-answered .passes) c (reportLength (chainCells b) p f t) size (le-trans fits slots)
+        output-kept reportNumbers report work reportBefore (reductionsOf pivotRule (chainCells b) p) (report-answered .passes) c (reportLength (chainCells b) p (counts .free) (counts .torsion)) size (le-trans fits slots)
       where
-        fits : reportLength (chainCells b) p f t ≤ reportSlots (chainCells b) p
+        fits : reportLength (chainCells b) p (counts .free) (counts .torsion) ≤ reportSlots (chainCells b) p
         fits = rw size at (report-fits (count (chainCells b) p) (c .rows) (c .rank) (c .state) (report-answered .right .rank-bound) (report-answered .right .rows-bound))
 
         slots : reportSlots (chainCells b) p ≤ length report
@@ -86,4 +86,4 @@ module _ (limit : ℕ) (b : List ℕ) (p : ℕ) (report work : List ℤ) where
   pub report-leaves : Bytes b → Leaves (reportLength (chainCells b) p) report work reportCalled
   unfolding reportCall
   report-leaves bytes =
-      call-leaves reportNumbers report work reportBefore (reductionsOf pivotRule (chainCells b) p) (reportLength (chainCells b) p) report-narrow (λ f t e. report-kept bytes e)
+      call-leaves reportNumbers report work reportBefore (reductionsOf pivotRule (chainCells b) p) (reportLength (chainCells b) p) report-narrow (λ counts e. report-kept bytes e)

@@ -14,6 +14,7 @@ use Rattle.reduction_steps.specs.PivotLaws.{pivotRule-is-rule}
 use Rattle.reports.specs.Report.{coordinateList}
 use Rattle.reports.specs.Call.{Called, coordinateSlots, callChecks, chainChecks, coordinateCall, written}
 use Rattle.reports.specs.Reductions.{tooWide}
+use Rattle.limits.specs.Limits.{coefficientLimit}
 use Rattle.reports.specs.RefusalLaws.{callChecks-zero, call-told, call-passed}
 use Rattle.refusal.specs.Number.{numberOf}
 use Rattle.refusal.specs.NumberLaws.{number-positive}
@@ -38,7 +39,7 @@ module _ (l : Lent) (z : List ℤ) where
   sheetChecks = callChecks (l .limit) (l .sheet) (l .dimension) coordinateSlots (length (l .output)) (length (l .work))
 
   abbrev before-reductions : ℕ
-  before-reductions = first (sheetChecks ++ chainChecks (l .sheet) (l .dimension) z)
+  before-reductions = first (sheetChecks ++ chainChecks coefficientLimit (l .sheet) (l .dimension) z)
 
   -- the coordinates
   abbrev numbers : ℕ → ℕ → State → List ℤ
@@ -51,19 +52,19 @@ module _ (l : Lent) (z : List ℤ) where
   unfolding coordinateCall
   coordinates-refuse {x} e =
       refuses before-reductions (twice l) numbers (l .output) (l .work)
-      (call-told (l .limit) (l .sheet) (l .dimension) coordinateSlots (length (l .output)) (length (l .work)) z (λ q. absurd (omega (arith, number-positive x))) ∙ e)
+      (call-told (l .limit) (l .sheet) (l .dimension) coordinateSlots (length (l .output)) (length (l .work)) coefficientLimit z (λ q. absurd (omega (arith, number-positive x))) ∙ e)
 
   module _ {n : Sizes} (g : Granted l Coordinates n) where
-    chain-next : before-reductions ≡ first (chainChecks (l .sheet) (l .dimension) z)
+    chain-next : before-reductions ≡ first (chainChecks coefficientLimit (l .sheet) (l .dimension) z)
     chain-next =
-        call-passed (l .limit) (l .sheet) (l .dimension) coordinateSlots (length (l .output)) (length (l .work)) z
+        call-passed (l .limit) (l .sheet) (l .dimension) coordinateSlots (length (l .output)) (length (l .work)) coefficientLimit z
         (callChecks-zero (l .limit) (l .sheet) (l .dimension) coordinateSlots (length (l .output)) (length (l .work)) .1 (g .passed))
 
-    pub chain-refuses : {x : Refusal} → first (chainChecks (l .sheet) (l .dimension) z) ≡ numberOf x → CallAnswers called (Refused x) (l .output) (l .work)
+    pub chain-refuses : {x : Refusal} → first (chainChecks coefficientLimit (l .sheet) (l .dimension) z) ≡ numberOf x → CallAnswers called (Refused x) (l .output) (l .work)
     unfolding coordinateCall
     chain-refuses e = refuses before-reductions (twice l) numbers (l .output) (l .work) (chain-next ∙ e)
 
-    module _ (chain : first (chainChecks (l .sheet) (l .dimension) z) ≡ 0) where
+    module _ (chain : first (chainChecks coefficientLimit (l .sheet) (l .dimension) z) ≡ 0) where
       pub coordinates-wide : {x : Refusal} {work′ : List ℤ} → (twice l ≡ tooWide) × Cleared (length (l .work)) x work′
           → CallAnswers called (Refused refusal.TooWide) (l .output) work′
       unfolding coordinateCall

@@ -15,7 +15,6 @@ use Rattle.sheet_format.specs.Layout.{top}
 use Rattle.sheet_format.specs.Check.{chainCells, first, refusal}
 use Rattle.reports.specs.Call.{workSlots, callChecks, chainChecks, coefficientExceeds, boundaryNotZero}
 use Rattle.reports.specs.RefusalLaws.{sheet-told, sheet-passed}
-use Rattle.limits.specs.Limits.{coefficientLimit}
 use Rattle.answers.specs.ChainChecks.{chain-passes, not-a-cycle-iff}
 use Rattle.refusal.specs.Number.{numberOf}
 use Rattle.refusal.specs.NumberLaws.{number-positive}
@@ -49,28 +48,28 @@ module _ (limit : ℕ) (b : List ℕ) (p : ℕ) (slots : Sections → ℕ → �
 
 -- ---- 10 to 12
 
-module _ (b : List ℕ) (p : ℕ) (z : List ℤ) where
-  pub length-differs : length z ≢ count (chainCells b) p → first (chainChecks b p z) ≡ 10
+module _ (most : ℕ) (b : List ℕ) (p : ℕ) (z : List ℤ) where
+  pub length-differs : length z ≢ count (chainCells b) p → first (chainChecks most b p z) ≡ 10
   unfolding chainChecks
   length-differs h = rw (ne-eqb (length z) (count (chainCells b) p) h)
 
   module _ (size : length z ≡ count (chainCells b) p) where
-    pub coefficient-beyond : coefficientExceeds z ≡ true → first (chainChecks b p z) ≡ 11
+    pub coefficient-beyond : coefficientExceeds most z ≡ true → first (chainChecks most b p z) ≡ 11
     unfolding chainChecks
     coefficient-beyond e = rw (eq-eqb (length z) (count (chainCells b) p) size, e)
 
-    module _ (narrow : coefficientExceeds z ≡ false) where
-      pub boundary-nonzero : boundaryNotZero (chainCells b) p z ≡ true → first (chainChecks b p z) ≡ 12
+    module _ (narrow : coefficientExceeds most z ≡ false) where
+      pub boundary-nonzero : boundaryNotZero (chainCells b) p z ≡ true → first (chainChecks most b p z) ≡ 12
       unfolding chainChecks
       boundary-nonzero e = rw (eq-eqb (length z) (count (chainCells b) p) size, narrow, e)
 
-      pub chain-passed : boundaryNotZero (chainCells b) p z ≡ false → first (chainChecks b p z) ≡ 0
+      pub chain-passed : boundaryNotZero (chainCells b) p z ≡ false → first (chainChecks most b p z) ≡ 0
       unfolding chainChecks
       chain-passed e = rw (eq-eqb (length z) (count (chainCells b) p) size, narrow, e)
 
-      pub coefficients-small : (i : ℕ) → natAbs (getD z i (pos 0)) ≤ coefficientLimit
+      pub coefficients-small : (i : ℕ) → natAbs (getD z i (pos 0)) ≤ most
       coefficients-small = go (boundaryNotZero (chainCells b) p z) refl
         where
-          go : (t : Bool) → boundaryNotZero (chainCells b) p z ≡ t → (i : ℕ) → natAbs (getD z i (pos 0)) ≤ coefficientLimit
-          go true e = not-a-cycle-iff b p z .0 (boundary-nonzero e) .small
-          go false e = chain-passes b p z (chain-passed e) .small
+          go : (t : Bool) → boundaryNotZero (chainCells b) p z ≡ t → (i : ℕ) → natAbs (getD z i (pos 0)) ≤ most
+          go true e = not-a-cycle-iff most b p z .0 (boundary-nonzero e) .small
+          go false e = chain-passes most b p z (chain-passed e) .small

@@ -3,14 +3,20 @@ use mathlib.Core.Path.{_≡_}
 use mathlib.Core.List.{List}
 use lib.IntN.{ℤ}
 use Rattle.refusal.specs.Number.{numberOf}
+use Rattle.reports.specs.Report as report
 use Rattle.reports.specs.Call as call
 use Rattle.reports.specs.Call.{Called}
+use Rattle.writers.specs.declared.reduced.Counts.{Counts}
 use Rattle.calls.specs.declared.answer.Answer.{Answer}
 use Rattle.calls.specs.declared.answer.Answer.the-variants.{Done, Refused}
 
--- done with the counts b and t, or refused with the number that document 01 gives the refusal
+-- the counts that a call answers
+abbrev pub countsIn : Counts → report.Counts
+countsIn counts = record { free = counts .free; torsion = counts .torsion }
+
+-- done with the counts, or refused with the number that document 01 gives the refusal
 abbrev pub answered : Answer → call.Answer
-answered (Done counts) = call.done (counts .free) (counts .torsion)
+answered (Done counts) = call.done (countsIn counts)
 answered (Refused x) = call.refused (numberOf x)
 
 -- the answer and the two slices that a call writes are those of the definition

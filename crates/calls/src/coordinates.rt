@@ -49,7 +49,7 @@ pub fn coordinates_at(
     if chain.len() != sizes.cells {
         return Answer::Refused(Refusal::ChainLengthDiffers);
     }
-    if coefficient_exceeds(chain) {
+    if coefficient_exceeds(chain, Sheet::COEFFICIENT_LIMIT) {
         return Answer::Refused(Refusal::CoefficientExceedsLimit);
     }
     if boundary_not_zero(s, p, chain) {

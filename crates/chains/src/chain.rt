@@ -19,16 +19,17 @@ use sheet::reader::Sheet;
 const CELLS: usize = Sheet::LIBRARY_LIMIT;
 
 // Check 11: whether a coefficient lies outside the limit.
-pub fn coefficient_exceeds(chain: &[i32]) -> bool
-    ensures { λ r. ⌜ r ≡ coefficientExceeds (now (chain .entry)) ⌝ }
+pub fn coefficient_exceeds(chain: &[i32], limit: u16) -> bool
+    ensures { λ r. ⌜ r ≡ coefficientExceeds limit (now (chain .entry)) ⌝ }
 {
+    let most = limit as i32;
     let mut i: usize = 0;
     while i < chain.len() {
         let x = chain[i];
-        if x < -Sheet::COEFFICIENT_LIMIT {
+        if x < -most {
             return true;
         }
-        if Sheet::COEFFICIENT_LIMIT < x {
+        if most < x {
             return true;
         }
         i = i + 1;

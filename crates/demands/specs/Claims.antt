@@ -17,8 +17,9 @@ use Rattle.sheet_format.specs.Check.{first, refusal, sectionsOf}
 use Rattle.sheet_format.specs.Sheet.{Bytes, IsSheet}
 use Rattle.homology_groups.specs.Chain.{Chain, combination}
 use Rattle.reduction_steps.specs.Pivot.{pivotRule}
+use Rattle.reports.specs.Report.{Counts}
 use Rattle.reports.specs.Call.{done, callChecks, chainChecks, reportSlots, coordinateSlots, workSlots, reportCall, coordinateCall}
-use Rattle.limits.specs.Limits.{libraryLimit, hostLimit, entryLimit}
+use Rattle.limits.specs.Limits.{libraryLimit, hostLimit, entryLimit, coefficientLimit}
 use Rattle.reports.specs.Host.{chainFrom, coefficientIn, slotsIn, hostReport, hostCoordinates, numberAt}
 use Rattle.reports.specs.Text.{refusalLine, programText}
 use Rattle.answers.specs.Homology.{IsBoundary}
@@ -45,12 +46,13 @@ ReportNumbers =
 abbrev pub CoordinateNumbers : Type 0
 CoordinateNumbers =
     (limit : ℕ) (b : List ℕ) (p : ℕ) (z coordinates work : List ℤ) → Bytes b →
-    Answers (first (callChecks limit b p coordinateSlots (length coordinates) (length work) ++ chainChecks b p z)) (TooWide b p)
+    Answers (first (callChecks limit b p coordinateSlots (length coordinates) (length work) ++ chainChecks coefficientLimit b p z)) (TooWide b p)
     (answerNumber (coordinateCall limit b p z coordinates work .answer))
 
--- 01, "12. The chain has a nonzero boundary": among 10 to 12 it is told exactly when 10 and 11 do not apply and the chain is no cycle
+-- 01, "12. The chain has a nonzero boundary": among 10 to 12 it is told exactly when 10 and 11 do not apply and the chain is no cycle,
+-- whatever the coefficient limit
 abbrev pub NotACycle : Type 0
-NotACycle = (b : List ℕ) (p : ℕ) (z : List ℤ) → (first (chainChecks b p z) ≡ 12) ↔ NoCycle (sectionsOf b) p z
+NotACycle = (limit : ℕ) (b : List ℕ) (p : ℕ) (z : List ℤ) → (first (chainChecks limit b p z) ≡ 12) ↔ NoCycle limit (sectionsOf b) p z
 
 -- "a refusal leaves report and coordinate slices untouched"; 01, "untouched past what the call writes", and the work slice "reads 0 throughout
 -- after a finished call, after refusal 13 ..; the other refusals leave it alone". The report call:
@@ -78,14 +80,14 @@ SheetCells = (limit : ℕ) → limit ≤ libraryLimit → (b : List ℕ) (sheet 
 -- "the free rank, the torsion orders and the generators reported for each dimension are those of simplicial homology over the whole numbers"
 abbrev pub Reports : Type 0
 Reports =
-    (limit : ℕ) (b : List ℕ) (p : ℕ) (report work : List ℤ) → Bytes b → (f t : ℕ) →
-    reportCall limit b p report work .answer ≡ done f t → IsRight (sectionsOf b) p f t (slot (reportCall limit b p report work .output))
+    (limit : ℕ) (b : List ℕ) (p : ℕ) (report work : List ℤ) → Bytes b → (counts : Counts) → reportCall limit b p report work .answer ≡ done counts →
+    IsRight (sectionsOf b) p (counts .free) (counts .torsion) (slot (reportCall limit b p report work .output))
 
 -- 01, "done, with the report's counts": those that the coordinate call answers are the group's too
 abbrev pub CoordinateCounts : Type 0
 CoordinateCounts =
-    (limit : ℕ) (b : List ℕ) (p : ℕ) (z coordinates work : List ℤ) → Bytes b → (f t : ℕ) →
-    coordinateCall limit b p z coordinates work .answer ≡ done f t → HasCounts (sectionsOf b) p f t
+    (limit : ℕ) (b : List ℕ) (p : ℕ) (z coordinates work : List ℤ) → Bytes b → (counts : Counts) →
+    coordinateCall limit b p z coordinates work .answer ≡ done counts → HasCounts (sectionsOf b) p (counts .free) (counts .torsion)
 
 -- the counts are the group's, so all answers and reports on one sheet and dimension have the same
 abbrev pub SameCounts : Type 0
@@ -98,7 +100,7 @@ SameCounts = (b : List ℕ) (p f t f′ t′ : ℕ) → HasCounts (sectionsOf b)
 -- library at some count limit or from the host
 pub data CoordinatesOf (b : List ℕ) (p : ℕ) : Chain → (ℕ → ℤ) → Type 0 where
   by-library :
-      (limit : ℕ) (z coordinates work : List ℤ) (f t : ℕ) → coordinateCall limit b p z coordinates work .answer ≡ done f t →
+      (limit : ℕ) (z coordinates work : List ℤ) (counts : Counts) → coordinateCall limit b p z coordinates work .answer ≡ done counts →
       CoordinatesOf b p (slot z) (slot (coordinateCall limit b p z coordinates work .output))
   by-host :
       (chain coordinates : List ℕ) → hostCoordinates b p chain coordinates .number ≡ 0 →
@@ -107,7 +109,7 @@ pub data CoordinatesOf (b : List ℕ) (p : ℕ) : Chain → (ℕ → ℤ) → Ty
 -- "Whenever the report on that sheet and dimension is done as well ..": its numbers, as a caller reads them
 pub data ReportOf (b : List ℕ) (p : ℕ) : (ℕ → ℤ) → Type 0 where
   by-library :
-      (limit : ℕ) (report work : List ℤ) (f t : ℕ) → reportCall limit b p report work .answer ≡ done f t →
+      (limit : ℕ) (report work : List ℤ) (counts : Counts) → reportCall limit b p report work .answer ≡ done counts →
       ReportOf b p (slot (reportCall limit b p report work .output))
   by-host : (report : List ℕ) → hostReport b p report .number ≡ 0 → ReportOf b p (numberAt (hostReport b p report .output))
 
@@ -145,7 +147,7 @@ HostCoordinateNumbers =
     (b : List ℕ) (p : ℕ) (chain coordinates : List ℕ) → Bytes b →
     Answers
     (first (callChecks hostLimit b p coordinateSlots (slotsIn coordinates) (workSlots (sectionsOf b) p)
-    ++ chainChecks b p (chainFrom (count (sectionsOf b) p) chain)))
+    ++ chainChecks coefficientLimit b p (chainFrom (count (sectionsOf b) p) chain)))
     (TooWide b p) (hostCoordinates b p chain coordinates .number)
 
 -- demand 1, "a refusal leaves report and coordinate slices untouched"

@@ -27,7 +27,7 @@ use Rattle.sheet_format.specs.Starred.{hollowTriangle}
 use Rattle.sheet_format.specs.Accept.{accepted-complex}
 use Rattle.reduction_steps.specs.Pivot.{release1}
 use Rattle.reduction_steps.specs.PivotLaws.{release1-is-rule}
-use Rattle.limits.specs.Limits.{hostLimit}
+use Rattle.limits.specs.Limits.{hostLimit, coefficientLimit}
 use Rattle.reports.specs.Call.{Called, callChecks, chainChecks, coefficientExceeds, boundaryNotZero, reportSlots, coordinateSlots, workSlots, reportCall, coordinateCall}
 use Rattle.reports.specs.Host.{coefficientAt, coefficientIn, chainFrom, slotsIn, numberAt, hostReport, hostCoordinates}
 use Rattle.reports.specs.RefusalLaws.{callChecks-zero}
@@ -37,7 +37,7 @@ use Rattle.answers.specs.Wide.{GoesWide}
 use Rattle.answers.specs.Called.{answerNumber, NoCycle}
 use Rattle.answers.specs.WideLaws.{wide-iff}
 use Rattle.projective_plane.specs.Plane.{cells, sheet, loop, twice, backwards}
-use Rattle.projective_plane.specs.Examples.{nines, plane-calls, plane-too-wide}
+use Rattle.projective_plane.specs.Examples.{nines, counts, plane-calls, plane-too-wide}
 use Rattle.demands.specs.Claims.{TooWide, CoordinatesOf, ReportOf}
 use Rattle.demands.specs.Claims as claims
 use Rattle.demands.specs.Proofs.{reportNumbers, notACycle, coordinateCounts, coordinatesDecide, hostReportNumbers, hostCoordinateNumbers}
@@ -57,25 +57,25 @@ plane-bytes = record { small = bytes-of sheet tt }
 -- ---- a report and coordinates that are done
 
 pub plane-report : ReportOf sheet 1 (slot (reportCall 256 sheet 1 (nines 242) (nines 600) .output))
-plane-report = claims.ReportOf.by-library 256 (nines 242) (nines 600) 0 1 (ap (λ (c : Called). c .answer) (plane-calls .report-call))
+plane-report = claims.ReportOf.by-library 256 (nines 242) (nines 600) counts (ap (λ (c : Called). c .answer) (plane-calls .report-call))
 
 -- the coordinates that a call leaves of a chain of the plane
 abbrev read : List ℤ → ℕ → ℤ
 read z = slot (coordinateCall 256 sheet 1 z (nines 15) (nines 600) .output)
 
 pub loop-coordinates : CoordinatesOf sheet 1 (slot loop) (read loop)
-loop-coordinates = claims.CoordinatesOf.by-library 256 loop (nines 15) (nines 600) 0 1 (ap (λ (c : Called). c .answer) (plane-calls .coordinate-loop))
+loop-coordinates = claims.CoordinatesOf.by-library 256 loop (nines 15) (nines 600) counts (ap (λ (c : Called). c .answer) (plane-calls .coordinate-loop))
 
 pub backwards-coordinates : CoordinatesOf sheet 1 (slot backwards) (read backwards)
 backwards-coordinates =
-    claims.CoordinatesOf.by-library 256 backwards (nines 15) (nines 600) 0 1 (ap (λ (c : Called). c .answer) (plane-calls .coordinate-backwards))
+    claims.CoordinatesOf.by-library 256 backwards (nines 15) (nines 600) counts (ap (λ (c : Called). c .answer) (plane-calls .coordinate-backwards))
 
 pub twice-coordinates : CoordinatesOf sheet 1 (slot twice) (read twice)
-twice-coordinates = claims.CoordinatesOf.by-library 256 twice (nines 15) (nines 600) 0 1 (ap (λ (c : Called). c .answer) (plane-calls .coordinate-twice))
+twice-coordinates = claims.CoordinatesOf.by-library 256 twice (nines 15) (nines 600) counts (ap (λ (c : Called). c .answer) (plane-calls .coordinate-twice))
 
 pub plane-counts : HasCounts (sectionsOf sheet) 1 0 1
 plane-counts =
-    coordinateCounts 256 sheet 1 loop (nines 15) (nines 600) plane-bytes 0 1 (ap (λ (c : Called). c .answer) (plane-calls .coordinate-loop))
+    coordinateCounts 256 sheet 1 loop (nines 15) (nines 600) plane-bytes counts (ap (λ (c : Called). c .answer) (plane-calls .coordinate-loop))
 
 -- ---- what demand 3 says of them
 
@@ -141,7 +141,7 @@ plane-host-report = claims.ReportOf.by-host (replicate 1936 9) (hostReportNumber
 coordinates-admitted :
     first
     (callChecks hostLimit sheet 1 coordinateSlots (slotsIn (replicate 120 9)) (workSlots (sectionsOf sheet) 1)
-    ++ chainChecks sheet 1 (chainFrom (count (sectionsOf sheet) 1) (replicate 60 0)))
+    ++ chainChecks coefficientLimit sheet 1 (chainFrom (count (sectionsOf sheet) 1) (replicate 60 0)))
     ≡ 0
 unfolding callChecks chainChecks refusal countField offsetField cellOf cellsOf sectionsOf chainCells some verticesDoNotRise cellsDoNotRise faceMissing without same rises precedes listed start countBelow tabulate
     chainFrom coefficientAt coefficientExceeds boundaryNotZero boundary coefficient sign apply sum
@@ -157,9 +157,9 @@ plane-accepted = callChecks-zero hostLimit sheet 1 reportSlots (slotsIn (replica
 
 -- ---- no cycle
 
-pub triangle-no-cycle : NoCycle (sectionsOf hollowTriangle) 1 (pos 1 ∷ pos 0 ∷ pos 0 ∷ [])
+pub triangle-no-cycle : NoCycle coefficientLimit (sectionsOf hollowTriangle) 1 (pos 1 ∷ pos 0 ∷ pos 0 ∷ [])
 unfolding chainChecks countField cellOf cellsOf sectionsOf chainCells some without same start countBelow tabulate coefficientExceeds boundaryNotZero boundary coefficient sign apply sum
-triangle-no-cycle = notACycle hollowTriangle 1 (pos 1 ∷ pos 0 ∷ pos 0 ∷ []) .0 told
+triangle-no-cycle = notACycle coefficientLimit hollowTriangle 1 (pos 1 ∷ pos 0 ∷ pos 0 ∷ []) .0 told
   where
-    told : first (chainChecks hollowTriangle 1 (pos 1 ∷ pos 0 ∷ pos 0 ∷ [])) ≡ 12
+    told : first (chainChecks coefficientLimit hollowTriangle 1 (pos 1 ∷ pos 0 ∷ pos 0 ∷ [])) ≡ 12
     told = refl

@@ -71,14 +71,14 @@ sheetCells limit small b s = sym (sections-layout (s .complex) small) ∙ ap sec
 
 pub reports : Reports
 unfolding chainCells
-reports limit b p report work bytes f t e =
+reports limit b p report work bytes counts e =
     let d = report-answered limit b p report work bytes e in
     as-counted (λ f t. IsRight (sectionsOf b) p f t (slot (reportCall limit b p report work .output))) (d .counted .free) (d .counted .torsion)
     (report-is-right (d .right) (report-reads limit b p report work bytes e))
 
 pub coordinateCounts : CoordinateCounts
 unfolding chainCells
-coordinateCounts limit b p z coordinates work bytes f t e =
+coordinateCounts limit b p z coordinates work bytes counts e =
     let d = coordinates-answered limit b p z coordinates work bytes e in
     as-counted (λ f t. HasCounts (sectionsOf b) p f t) (d .counted .free) (d .counted .torsion) (has-counts (d .right))
 
@@ -110,7 +110,7 @@ record CoordinatesBehind (b : List ℕ) (p : ℕ) (z : Chain) (c : ℕ → ℤ) 
 
 coordinates-behind : (b : List ℕ) (p : ℕ) → Bytes b → (z : Chain) (c : ℕ → ℤ) → CoordinatesOf b p z c → CoordinatesBehind b p z c
 unfolding chainCells
-coordinates-behind b p bytes _ _ (claims.CoordinatesOf.by-library limit z coordinates work f t e) =
+coordinates-behind b p bytes _ _ (claims.CoordinatesOf.by-library limit z coordinates work counts e) =
     let d = coordinates-answered limit b p z coordinates work bytes e in
     record {
       rows = d .counted .rows;
@@ -164,7 +164,7 @@ record ReportBehind (b : List ℕ) (p : ℕ) (report : ℕ → ℤ) : Type 0 whe
 
 report-behind : (b : List ℕ) (p : ℕ) → Bytes b → (report : ℕ → ℤ) → ReportOf b p report → ReportBehind b p report
 unfolding chainCells
-report-behind b p bytes _ (claims.ReportOf.by-library limit report work f t e) =
+report-behind b p bytes _ (claims.ReportOf.by-library limit report work counts e) =
     let d = report-answered limit b p report work bytes e in
     record {
       rows = d .counted .rows;

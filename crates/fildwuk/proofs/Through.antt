@@ -21,7 +21,7 @@ use Rattle.answers.specs.HostSizes.{ReportSized, CoordinatesSized, report-sized
 use Rattle.writers.specs.declared.reduced.Counts.{Counts}
 use Rattle.calls.specs.declared.answer.Answer as library
 use Rattle.calls.specs.declared.answer.Answer.the-variants.{Done, Refused}
-use Rattle.calls.specs.Answer.{answered, CallAnswers}
+use Rattle.calls.specs.Answer.{countsIn, answered, CallAnswers}
 use Rattle.fildwuk.specs.Answer.{HostAnswers}
 
 -- ---- the slots that are lent
@@ -108,8 +108,8 @@ module _ (l : Lent reportRoom) {r : library.Answer} {after work′ : List ℤ}
   report-refuses {x} e is = refuses (report-refused (l .sheet) (l .dimension) (l .output) (slots l) (l .work) (size l) (l .space) (numberOf x) (at-host e)) is
 
   module _ {x : Counts} (e : r ≡ Done x) where
-    pub report-sizes : ReportSized (l .sheet) (l .dimension) (slots l) (x .free) (x .torsion)
-    report-sizes = report-sized (l .sheet) (l .bytes) (l .dimension) (slots l) (l .work) (x .free) (x .torsion) (at-host e)
+    pub report-sizes : ReportSized (l .sheet) (l .dimension) (slots l) (countsIn x)
+    report-sizes = report-sized (l .sheet) (l .bytes) (l .dimension) (slots l) (l .work) (countsIn x) (at-host e)
 
     module _ {cells : ℕ} (is : cells ≡ countField (l .sheet) (l .dimension)) where
       abbrev numbers-of : ℕ
@@ -149,8 +149,8 @@ module _ (l : Lent coordinateRoom) (z : List ℤ) {r : library.Answer} {after wo
       refuses (coordinates-refused (l .sheet) (l .dimension) chain (l .output) z (slots l) (l .work) (size l) (l .space) read (numberOf x) (given e)) is
 
   module _ {x : Counts} (e : r ≡ Done x) where
-    pub coordinates-sizes : CoordinatesSized (l .sheet) (l .dimension) (slots l) (x .free) (x .torsion)
-    coordinates-sizes = coordinates-sized (l .sheet) (l .bytes) (l .dimension) z (slots l) (l .work) (x .free) (x .torsion) (given e)
+    pub coordinates-sizes : CoordinatesSized (l .sheet) (l .dimension) (slots l) (countsIn x)
+    coordinates-sizes = coordinates-sized (l .sheet) (l .bytes) (l .dimension) z (slots l) (l .work) (countsIn x) (given e)
 
     pub coordinates-write : {output′ : List ℕ} → length after ≡ length (slots l)
         → output′ ≡ numbersBytes (take (x .torsion + x .free) (left l after)) ++ drop (8 * (x .torsion + x .free)) (l .output)

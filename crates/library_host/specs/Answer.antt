@@ -7,7 +7,7 @@ use Rattle.reports.specs.Call.{Answer, done, refused, Called}
 
 -- 0 for done, or the number of the refusal
 abbrev pub numberTold : Answer → ℕ
-numberTold (done b t) = 0
+numberTold (done counts) = 0
 numberTold (refused n) = n
 
 -- the number and the two slices that a call writes are those of the definition

@@ -29,7 +29,7 @@ use Rattle.text.specs.Room.{lineRoom, dimensionRoom}
 use Rattle.text.specs.PutLaws.{within-more}
 use Rattle.writers.specs.declared.reduced.Counts.{Counts}
 use Rattle.calls.specs.declared.answer.Answer.the-variants.{Done, Refused}
-use Rattle.calls.specs.Answer.{CallAnswers}
+use Rattle.calls.specs.Answer.{countsIn, CallAnswers}
 
 -- the text of dimension p of the sheet b
 abbrev pub textOf : List ℕ → ℕ → List ℕ
@@ -57,8 +57,8 @@ module _ (limit : ℕ) (host : limit ≡ hostLimit) (b : List ℕ) (accepted : r
       same = ap refusalLine (w .number-is) ∙ ap (dimensionText p (count (chainCells b) p)) (sym (w .is-wide))
 
   module _ (bytes : Bytes b) (x : Counts) (after work′ : List ℤ) (a : CallAnswers (reportCall limit b p report work) (Done x) after work′) where
-    sizes : ReportSized b p report (x .free) (x .torsion)
-    sizes = report-sized b bytes p report work (x .free) (x .torsion) (rw host at (sym (a .answer)))
+    sizes : ReportSized b p report (countsIn x)
+    sizes = report-sized b bytes p report work (countsIn x) (rw host at (sym (a .answer)))
 
     pub total-within : x .torsion + x .free ≤ hostLimit
     total-within = omega (arith, sizes .is-sized .total-within, sizes .is-sized .cells-within)
@@ -76,10 +76,10 @@ module _ (limit : ℕ) (host : limit ≡ hostLimit) (b : List ℕ) (accepted : r
         → PutsWithin dimensionRoom (reportText p cells (x .torsion) (x .torsion + x .free) after) at out r out′ → PutsWithin dimensionRoom (textOf b p) at out r out′
     done-text cells r out′ is puts = subst (λ (text : List ℕ). PutsWithin dimensionRoom text at out r out′) same puts
       where
-        s : Sized b p (x .free) (x .torsion)
+        s : Sized b p (countsIn x)
         s = sizes .is-sized
 
-        c : ReducedWith (reductionsOf pivotRule (chainCells b) p) (x .free) (x .torsion)
+        c : ReducedWith (reductionsOf pivotRule (chainCells b) p) (countsIn x)
         c = s .counted
 
         n : ℕ

@@ -21,7 +21,7 @@ use Rattle.reduction_steps.specs.State.{follow, rowOperation, columnOperation, 
 use Rattle.reduction_steps.specs.Pivot.{better, alongRow, downRows, release1, pivotRule}
 use Rattle.reduction_steps.specs.Step.{columnKeeps, rowKeeps, rowIndivisible, firstIndivisible, positive, bring, quotient, rowPass, columnPass, next, step, run, reduce}
 use Rattle.reports.specs.Reductions.{tooWide, reduced, firstStart, product, secondStart, afterSecond, second, afterFirst, reductions}
-use Rattle.reports.specs.Report.{reported, columnsOf, torsionCount, reportList, coordinateAt, coordinateList}
+use Rattle.reports.specs.Report.{Counts, reported, columnsOf, torsionCount, reportList, coordinateAt, coordinateList}
 use Rattle.reports.specs.Call.{Called, done, coefficientExceeds, boundaryNotZero, callChecks, chainChecks, finished, reductionsOf, reportCall, coordinateCall}
 use Rattle.reports.specs.Text.{digits, decimal, spaced, generatorLines, dimensionText}
 use Rattle.reports.specs.WideEnd.{inFirst, inSecond, endOfSecond, endOfProduct, endOfFirst, end, endsWide, end-wide}
@@ -42,9 +42,13 @@ reductions-plane = refl
 abbrev pub nines : ℕ → List ℤ
 nines n = replicate n (pos 9)
 
--- done with b = 0 and t = 1, these numbers in the output and the other slots untouched, the work slice cleared
+-- b = 0 and t = 1
+abbrev pub counts : Counts
+counts = record { free = 0; torsion = 1 }
+
+-- done, these numbers in the output and the other slots untouched, the work slice cleared
 abbrev gives : List ℤ → List ℤ → Called
-gives numbers rest = record { answer = done 0 1; output = numbers ++ rest; work = replicate 600 (pos 0) }
+gives numbers rest = record { answer = done counts; output = numbers ++ rest; work = replicate 600 (pos 0) }
 
 pub record PlaneCalls : Type 0 where
   pub report-call : reportCall 256 sheet 1 (nines 242) (nines 600) ≡ gives report (nines 224)

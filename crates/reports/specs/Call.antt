@@ -15,7 +15,7 @@ use Rattle.sheet_format.specs.Check.{chainCells, some, first, sheetChecks}
 use Rattle.reduction_steps.specs.State.{State}
 use Rattle.reduction_steps.specs.Pivot.{Rule, pivotRule}
 use Rattle.reports.specs.Reductions.{Reductions, tooWide, reduced, reductions}
-use Rattle.reports.specs.Report.{freeRank, torsionCount, reportList, coordinateList}
+use Rattle.reports.specs.Report.{Counts, countsOf, reportList, coordinateList}
 
 -- ---- the slots that check 9 asks for
 
@@ -35,8 +35,8 @@ abbrev pub chainLengthDiffers : Sections → ℕ → List ℤ → Bool
 chainLengthDiffers K p z = not (eqb (length z) (count K p))
 
 -- 11: a coefficient lies outside the limit
-unfoldable pub coefficientExceeds : List ℤ → Bool
-coefficientExceeds z = some (length z) (λ i. ltb coefficientLimit (natAbs (getD z i (pos 0))))
+unfoldable pub coefficientExceeds : ℕ → List ℤ → Bool
+coefficientExceeds limit z = some (length z) (λ i. ltb limit (natAbs (getD z i (pos 0))))
 
 -- 12: the chain has a nonzero boundary
 unfoldable pub boundaryNotZero : Sections → ℕ → List ℤ → Bool
@@ -52,18 +52,18 @@ callChecks limit b p slots output work =
     ++ (8, ltb top p)
     ∷ (9, ltb output (slots (chainCells b) p) || ltb work (workSlots (chainCells b) p)) ∷ []
 
--- 10 to 12, for a chain z
-unfoldable pub chainChecks : List ℕ → ℕ → List ℤ → List (ℕ × Bool)
-chainChecks b p z =
+-- 10 to 12, for a chain z at a coefficient limit
+unfoldable pub chainChecks : ℕ → List ℕ → ℕ → List ℤ → List (ℕ × Bool)
+chainChecks limit b p z =
     (10, chainLengthDiffers (chainCells b) p z)
-    ∷ (11, coefficientExceeds z)
+    ∷ (11, coefficientExceeds limit z)
     ∷ (12, boundaryNotZero (chainCells b) p z) ∷ []
 
 -- ---- what a call answers and leaves
 
--- done, with the report's counts b and t, or refused with a number
+-- done, with the report's counts, or refused with a number
 pub data Answer : Type 0 where
-  done : ℕ → ℕ → Answer
+  done : Counts → Answer
   refused : ℕ → Answer
 
 -- the answer, and the output slice and the work slice as the call leaves them
@@ -89,7 +89,7 @@ orRefused (suc n) output work later = record { answer = refused (suc n); output 
 unfoldable pub finished : Reductions → (ℕ → ℕ → State → List ℤ) → List ℤ → List ℤ → Called
 finished tooWide numbers output work = record { answer = refused 13; output = output; work = cleared work }
 finished (reduced s r x) numbers output work =
-    record { answer = done (freeRank s r) (torsionCount r x); output = written (numbers s r x) output; work = cleared work }
+    record { answer = done (countsOf s r x); output = written (numbers s r x) output; work = cleared work }
 
 -- the two reductions of dimension p of the cells K, by a pivot rule
 unfoldable pub reductionsOf : Rule → Sections → ℕ → Reductions
@@ -104,5 +104,5 @@ reportCall limit b p report work =
 -- the coordinate call at a count limit, on a sheet, a dimension, a chain, a coordinate slice and a work slice
 unfoldable pub coordinateCall : ℕ → List ℕ → ℕ → List ℤ → List ℤ → List ℤ → Called
 coordinateCall limit b p z coordinates work =
-    orRefused (first (callChecks limit b p coordinateSlots (length coordinates) (length work) ++ chainChecks b p z)) coordinates work
+    orRefused (first (callChecks limit b p coordinateSlots (length coordinates) (length work) ++ chainChecks coefficientLimit b p z)) coordinates work
     (finished (reductionsOf pivotRule (chainCells b) p) (λ s r x. coordinateList (count (chainCells b) p) s x z) coordinates work)

@@ -8,15 +8,15 @@ use native.Mathlib.Nat.{suc-ne-zero}
 use lib.IntN.{ℤ}
 use Rattle.reduction_steps.specs.State.{State}
 use Rattle.reports.specs.Reductions.{Reductions, tooWide, reduced}
-use Rattle.reports.specs.Report.{freeRank, torsionCount}
+use Rattle.reports.specs.Report.{Counts, freeRank, torsionCount, countsOf}
 use Rattle.reports.specs.Call.{Answer, done, refused, Called, orRefused, finished, written, cleared}
 
 -- done is not refused
-refused≢done : {k f t : ℕ} → refused k ≡ done f t → ⊥
+refused≢done : {k : ℕ} {counts : Counts} → refused k ≡ done counts → ⊥
 refused≢done e = subst Refused e tt
   where
     Refused : Answer → Type 0
-    Refused (done f t) = ⊥
+    Refused (done counts) = ⊥
     Refused (refused k) = Unit {0}
 
 -- ---- a call: the refusals before the reduction, then what the reductions come to
@@ -24,31 +24,19 @@ refused≢done e = subst Refused e tt
 abbrev pub call : ℕ → Reductions → (ℕ → ℕ → State → List ℤ) → List ℤ → List ℤ → Called
 call before R numbers output work = orRefused before output work (finished R numbers output work)
 
--- the two reductions are done with f free generators and t orders
-pub record ReducedWith (R : Reductions) (f t : ℕ) : Type 0 where
+-- the two reductions are done, and these are their counts
+pub record ReducedWith (R : Reductions) (counts : Counts) : Type 0 where
   pub rows : ℕ
   pub rank : ℕ
   pub state : State
   pub reductions : R ≡ reduced rows rank state
-  pub free : f ≡ freeRank rows rank
-  pub torsion : t ≡ torsionCount rank state
-
-pub reducedWith-unique : {R : Reductions} {f t f′ t′ : ℕ} → ReducedWith R f t → ReducedWith R f′ t′ → (f ≡ f′) × (t ≡ t′)
-reducedWith-unique {f} {t} {f′} {t′} c d = (free, torsion)
-  where
-    same : reduced (c .rows) (c .rank) (c .state) ≡ reduced (d .rows) (d .rank) (d .state)
-    same = sym (c .reductions) ∙ d .reductions
-
-    free : f ≡ f′
-    free = cc (c .free, d .free, same)
-
-    torsion : t ≡ t′
-    torsion = cc (c .torsion, d .torsion, same)
+  pub free : counts .free ≡ freeRank rows rank
+  pub torsion : counts .torsion ≡ torsionCount rank state
 
 -- nothing was refused, and the two reductions are done
-pub record CallDone (before : ℕ) (R : Reductions) (f t : ℕ) : Type 0 where
+pub record CallDone (before : ℕ) (R : Reductions) (counts : Counts) : Type 0 where
   pub passes : before ≡ 0
-  pub counted : ReducedWith R f t
+  pub counted : ReducedWith R counts
 
 -- refused before the reduction, or too wide
 pub data CallRefused (before : ℕ) (R : Reductions) (k : ℕ) : Type 0 where
@@ -57,12 +45,12 @@ pub data CallRefused (before : ℕ) (R : Reductions) (k : ℕ) : Type 0 where
 
 -- ---- from the answer
 
-pub call-done : (before : ℕ) (R : Reductions) (numbers : ℕ → ℕ → State → List ℤ) (output work : List ℤ) (f t : ℕ)
-    → call before R numbers output work .answer ≡ done f t → CallDone before R f t
+pub call-done : (before : ℕ) (R : Reductions) (numbers : ℕ → ℕ → State → List ℤ) (output work : List ℤ) (counts : Counts)
+    → call before R numbers output work .answer ≡ done counts → CallDone before R counts
 unfolding finished
-call-done (suc n) R numbers output work f t e = absurd (refused≢done e)
-call-done zero tooWide numbers output work f t e = absurd (refused≢done e)
-call-done zero (reduced s r x) numbers output work f t e =
+call-done (suc n) R numbers output work counts e = absurd (refused≢done e)
+call-done zero tooWide numbers output work counts e = absurd (refused≢done e)
+call-done zero (reduced s r x) numbers output work counts e =
     record { passes = refl; counted = record { rows = s; rank = r; state = x; reductions = refl; free = cc; torsion = cc } }
 
 pub call-refused : (before : ℕ) (R : Reductions) (numbers : ℕ → ℕ → State → List ℤ) (output work : List ℤ) (k : ℕ)
@@ -96,7 +84,7 @@ module _ (before : ℕ) (R : Reductions) (numbers : ℕ → ℕ → State → Li
   call-wide e = rw (passes, e)
 
   module _ (s r : ℕ) (x : State) (e : R ≡ reduced s r x) where
-    pub call-answer : call before R numbers output work .answer ≡ done (freeRank s r) (torsionCount r x)
+    pub call-answer : call before R numbers output work .answer ≡ done (countsOf s r x)
     unfolding finished
     call-answer = rw (passes, e)
 

@@ -14,7 +14,7 @@ use Rattle.reduction_steps.specs.Pivot.{pivotRule}
 use Rattle.reports.specs.Reductions.{Reductions, tooWide, reduced}
 use Rattle.reports.specs.Report.{reportList, coordinateList}
 use Rattle.reports.specs.Call.{callChecks, chainChecks, reportSlots, coordinateSlots, workSlots, reductionsOf}
-use Rattle.limits.specs.Limits.{hostLimit}
+use Rattle.limits.specs.Limits.{hostLimit, coefficientLimit}
 
 -- ---- numbers as bytes
 
@@ -100,6 +100,6 @@ unfoldable pub hostCoordinates : List ℕ → ℕ → List ℕ → List ℕ → 
 hostCoordinates b p chain output =
     orRefusedWith
     (first (callChecks hostLimit b p coordinateSlots (slotsIn output) (workSlots (chainCells b) p)
-    ++ chainChecks b p (chainFrom (count (chainCells b) p) chain)))
+    ++ chainChecks coefficientLimit b p (chainFrom (count (chainCells b) p) chain)))
     output
     (finishedWith (reductionsOf pivotRule (chainCells b) p) (λ s r x. coordinateList (count (chainCells b) p) s x (chainFrom (count (chainCells b) p) chain)) output)

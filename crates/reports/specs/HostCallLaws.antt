@@ -22,9 +22,9 @@ use Rattle.sheet_format.specs.SheetLaws.{count-chainCells, countField-out}
 use Rattle.reduction_steps.specs.State.{State}
 use Rattle.reduction_steps.specs.Pivot.{pivotRule}
 use Rattle.reports.specs.Reductions.{Reductions}
-use Rattle.reports.specs.Report.{reportList, coordinateList}
+use Rattle.reports.specs.Report.{Counts, reportList, coordinateList}
 use Rattle.reports.specs.Call.{done, refused, callChecks, chainChecks, reportSlots, coordinateSlots, workSlots, reductionsOf, reportCall, coordinateCall}
-use Rattle.limits.specs.Limits.{hostLimit}
+use Rattle.limits.specs.Limits.{hostLimit, coefficientLimit}
 use Rattle.reports.specs.RefusalLaws.{sheet-told, sheet-passed}
 use Rattle.reports.specs.CallLaws.{call, ReducedWith, CallRefused, earlier, wide, call-done, call-refused, call-output}
 use Rattle.reports.specs.Host.{HostCalled, numbersBytes, chainFrom, slotsIn, orRefusedWith, finishedWith, hostReport, hostCoordinates}
@@ -55,7 +55,7 @@ module _ (before : ℕ) (R : Reductions) (numbers : ℕ → ℕ → State → Li
       go zero R (wide z e t) = rw e (record { number-is = sym t; output-is = refl })
       go (suc n) R (wide z e t) = absurd (omega arith)
 
-  host-done : {f t : ℕ} (many : ℕ) → before ≡ 0 → (c : ReducedWith R f t) → length (numbers (c .rows) (c .rank) (c .state)) ≡ many
+  host-done : {counts : Counts} (many : ℕ) → before ≡ 0 → (c : ReducedWith R counts) → length (numbers (c .rows) (c .rank) (c .state)) ≡ many
       → HostDone (hostCall before R numbers output) many (call before R numbers slots work .output) output
   unfolding finishedWith
   host-done many z c size = record { number-is = rw (z, c .reductions); output-is = bytes }
@@ -154,12 +154,12 @@ module _ (b : List ℕ) (p : ℕ) (output : List ℕ) (slots work : List ℤ) (s
   report-refused k e = rw report-same (host-refused reportBefore (reductionsOf pivotRule (chainCells b) p) reportNumbers slots work output k e)
 
   -- where the report has `many` numbers
-  pub report-done : {f t : ℕ} (many : ℕ) → reportCall hostLimit b p slots work .answer ≡ done f t → (c : ReducedWith (reductionsOf pivotRule (chainCells b) p) f t)
+  pub report-done : {counts : Counts} (many : ℕ) → reportCall hostLimit b p slots work .answer ≡ done counts → (c : ReducedWith (reductionsOf pivotRule (chainCells b) p) counts)
       → length (reportList (count (chainCells b) p) (c .rows) (c .rank) (c .state)) ≡ many
       → HostDone (hostReport b p output) many (reportCall hostLimit b p slots work .output) output
   unfolding reportCall reportBefore reportNumbers
-  report-done {f} {t} many e c long =
-      let d = call-done reportBefore (reductionsOf pivotRule (chainCells b) p) reportNumbers slots work f t e in
+  report-done {counts} many e c long =
+      let d = call-done reportBefore (reductionsOf pivotRule (chainCells b) p) reportNumbers slots work counts e in
       rw report-same (host-done reportBefore (reductionsOf pivotRule (chainCells b) p) reportNumbers slots work output many (d .passes) c long)
 
 -- ---- the coordinates
@@ -174,15 +174,15 @@ module _ (b : List ℕ) (p : ℕ) (chain output : List ℕ) (z slots work : List
   sheetChecked = callChecks hostLimit b p coordinateSlots (length slots) (length work)
 
   coordinateBefore : List ℤ → ℕ
-  coordinateBefore y = first (sheetChecked ++ chainChecks b p y)
+  coordinateBefore y = first (sheetChecked ++ chainChecks coefficientLimit b p y)
 
   answered : List ℤ → HostCalled
   answered y = hostCall (coordinateBefore y) (reductionsOf pivotRule (chainCells b) p) (coordinateNumbers y) output
 
   -- the checks 1 to 9 of the library's call decide, or those of the chain
-  before-is : (y : List ℤ) → coordinateBefore y ≡ orElse (first sheetChecked) (first (chainChecks b p y))
+  before-is : (y : List ℤ) → coordinateBefore y ≡ orElse (first sheetChecked) (first (chainChecks coefficientLimit b p y))
   unfolding coordinateBefore sheetChecked callChecks
-  before-is y = first-append sheetChecked (chainChecks b p y) refl
+  before-is y = first-append sheetChecked (chainChecks coefficientLimit b p y) refl
 
   -- only a sheet that is accepted has its chain read
   same-chain : (k : ℕ) → refusal hostLimit b ≡ k → answered (chainFrom (count (chainCells b) p) chain) ≡ answered z
@@ -196,8 +196,8 @@ module _ (b : List ℕ) (p : ℕ) (chain output : List ℕ) (z slots work : List
   unfolding hostCoordinates answered sheetChecked coordinateNumbers callChecks
   coordinates-same =
       ap (λ (n : ℕ). hostCall n (reductionsOf pivotRule (chainCells b) p) (coordinateNumbers y) output)
-      (first-append (callChecks hostLimit b p coordinateSlots (slotsIn output) (workSlots (chainCells b) p)) (chainChecks b p y) refl
-      ∙ ap (λ (n : ℕ). orElse n (first (chainChecks b p y)))
+      (first-append (callChecks hostLimit b p coordinateSlots (slotsIn output) (workSlots (chainCells b) p)) (chainChecks coefficientLimit b p y) refl
+      ∙ ap (λ (n : ℕ). orElse n (first (chainChecks coefficientLimit b p y)))
       (sym (same-refusal b p coordinateSlots coordinateRoom (slotsIn output) (length slots) (length work) size space (λ e. counts-within b e p)))
       ∙ sym (before-is y))
       ∙ same-chain (refusal hostLimit b) refl
@@ -211,10 +211,10 @@ module _ (b : List ℕ) (p : ℕ) (chain output : List ℕ) (z slots work : List
       rw coordinates-same (host-refused (coordinateBefore z) (reductionsOf pivotRule (chainCells b) p) (coordinateNumbers z) slots work output k e)
 
   -- where there are `many` coordinates
-  pub coordinates-done : {f t : ℕ} (many : ℕ) → coordinateCall hostLimit b p z slots work .answer ≡ done f t → (c : ReducedWith (reductionsOf pivotRule (chainCells b) p) f t)
+  pub coordinates-done : {counts : Counts} (many : ℕ) → coordinateCall hostLimit b p z slots work .answer ≡ done counts → (c : ReducedWith (reductionsOf pivotRule (chainCells b) p) counts)
       → length (coordinateList (count (chainCells b) p) (c .rows) (c .state) z) ≡ many
       → HostDone (hostCoordinates b p chain output) many (coordinateCall hostLimit b p z slots work .output) output
   unfolding coordinateCall answered coordinateBefore sheetChecked coordinateNumbers
-  coordinates-done {f} {t} many e c long =
-      let d = call-done (coordinateBefore z) (reductionsOf pivotRule (chainCells b) p) (coordinateNumbers z) slots work f t e in
+  coordinates-done {counts} many e c long =
+      let d = call-done (coordinateBefore z) (reductionsOf pivotRule (chainCells b) p) (coordinateNumbers z) slots work counts e in
       rw coordinates-same (host-done (coordinateBefore z) (reductionsOf pivotRule (chainCells b) p) (coordinateNumbers z) slots work output many (d .passes) c long)

@@ -12,7 +12,7 @@ use Rattle.sheet_format.specs.Layout.{cellBytes, sectionBytes, sectionsBytes, s
 use Rattle.sheet_format.specs.Check.{countField, offsetField, cellOf, cellsOf, sectionsOf, chainCells, some, countExceeds, verticesDoNotRise, cellsDoNotRise, faceMissing, refusal}
 use Rattle.reduction_steps.specs.Table.{rowWithin, tableWithin}
 use Rattle.reports.specs.Call.{coefficientExceeds}
-use Rattle.limits.specs.Limits.{libraryLimit, hostLimit, entryLimit}
+use Rattle.limits.specs.Limits.{libraryLimit, hostLimit, entryLimit, coefficientLimit}
 
 -- the sheet of n vertices
 unfoldable pub vertices : ℕ → List ℕ
@@ -41,9 +41,9 @@ tests =
     ∷ not (entryWithin (pos 1048576))
     ∷ not (entryWithin (negℤ (pos 1048576)))
     -- coefficients
-    ∷ not (coefficientExceeds (pos 32767 ∷ negℤ (pos 32767) ∷ []))
-    ∷ coefficientExceeds (pos 32768 ∷ [])
-    ∷ coefficientExceeds (pos 0 ∷ negℤ (pos 32768) ∷ [])
+    ∷ not (coefficientExceeds coefficientLimit (pos 32767 ∷ negℤ (pos 32767) ∷ []))
+    ∷ coefficientExceeds coefficientLimit (pos 32768 ∷ [])
+    ∷ coefficientExceeds coefficientLimit (pos 0 ∷ negℤ (pos 32768) ∷ [])
     ∷ []
 
 pub limit-examples : T (every (λ x. x) tests)

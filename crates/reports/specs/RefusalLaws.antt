@@ -75,23 +75,23 @@ module _ (limit : ℕ) (b : List ℕ) (p : ℕ) (slots : Sections → ℕ → �
   unfolding callChecks
   callChecks-narrow = first-absent 13 (callChecks limit b p slots output work) (λ e. absurd (omega arith)) refl
 
-  module _ (z : List ℤ) where
+  module _ (most : ℕ) (z : List ℤ) where
     pub call-told : first (callChecks limit b p slots output work) ≢ 0
-        → first (callChecks limit b p slots output work ++ chainChecks b p z) ≡ first (callChecks limit b p slots output work)
+        → first (callChecks limit b p slots output work ++ chainChecks most b p z) ≡ first (callChecks limit b p slots output work)
     unfolding callChecks
-    call-told d = first-append-told (callChecks limit b p slots output work) (chainChecks b p z) refl d
+    call-told d = first-append-told (callChecks limit b p slots output work) (chainChecks most b p z) refl d
 
     pub call-passed : first (callChecks limit b p slots output work) ≡ 0
-        → first (callChecks limit b p slots output work ++ chainChecks b p z) ≡ first (chainChecks b p z)
+        → first (callChecks limit b p slots output work ++ chainChecks most b p z) ≡ first (chainChecks most b p z)
     unfolding callChecks
-    call-passed e = first-append-passed (callChecks limit b p slots output work) (chainChecks b p z) refl e
+    call-passed e = first-append-passed (callChecks limit b p slots output work) (chainChecks most b p z) refl e
 
-    pub call-chain-zero : (first (callChecks limit b p slots output work ++ chainChecks b p z) ≡ 0)
-        ↔ ((first (callChecks limit b p slots output work) ≡ 0) × (first (chainChecks b p z) ≡ 0))
+    pub call-chain-zero : (first (callChecks limit b p slots output work ++ chainChecks most b p z) ≡ 0)
+        ↔ ((first (callChecks limit b p slots output work) ≡ 0) × (first (chainChecks most b p z) ≡ 0))
     unfolding callChecks
-    call-chain-zero = first-append-zero (callChecks limit b p slots output work) (chainChecks b p z) refl
+    call-chain-zero = first-append-zero (callChecks limit b p slots output work) (chainChecks most b p z) refl
 
-    pub call-chain-narrow : first (callChecks limit b p slots output work ++ chainChecks b p z) ≢ 13
+    pub call-chain-narrow : first (callChecks limit b p slots output work ++ chainChecks most b p z) ≢ 13
     unfolding callChecks chainChecks
     call-chain-narrow =
-        first-absent 13 (callChecks limit b p slots output work ++ chainChecks b p z) (λ e. absurd (omega arith)) refl
+        first-absent 13 (callChecks limit b p slots output work ++ chainChecks most b p z) (λ e. absurd (omega arith)) refl

@@ -36,6 +36,14 @@ freeRank s r = s - r
 unfoldable pub torsionCount : ℕ → State → ℕ
 torsionCount r x = length (reported (kind x) r)
 
+-- the report's counts
+pub record Counts : Type 0 where
+  pub free : ℕ
+  pub torsion : ℕ
+
+abbrev pub countsOf : ℕ → ℕ → State → Counts
+countsOf s r x = record { free = freeRank s r; torsion = torsionCount r x }
+
 -- b, t, the t orders in rising place, then the columns of G for the orders and after them the free ones
 unfoldable pub reportList : ℕ → ℕ → ℕ → State → List ℤ
 reportList n s r x =

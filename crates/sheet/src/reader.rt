@@ -30,7 +30,7 @@ impl Sheet {
     pub const HOST_LIMIT: usize = 48;
 
     // The greatest absolute value of a coefficient of a given chain.
-    pub const COEFFICIENT_LIMIT: i32 = 32767;
+    pub const COEFFICIENT_LIMIT: u16 = 32767;
 
     // The sheet of the library's calls.
     pub fn library() -> Sheet

@@ -6,6 +6,7 @@ use Prim.Native.Nat.{ℕ}
 use lib.Dec.{T}
 use lib.IntN.{ℤ, pos, negℤ}
 use lib.ListN.{replicate}
+use Rattle.reports.specs.Report.{Counts}
 use Rattle.reports.specs.Call.{Called, refused, reportCall, coordinateCall}
 use Rattle.limits.specs.Limits.{libraryLimit}
 use Rattle.starred.specs.Same.{sameCalled, sameCalled-eq}
@@ -48,6 +49,10 @@ good-eq c t = sameCalled-eq (outcome (c .call)) (c .expected) t
 
 abbrev pub minus : ℕ → ℤ
 minus n = negℤ (pos n)
+
+-- b and t
+abbrev pub counts : ℕ → ℕ → Counts
+counts b t = record { free = b; torsion = t }
 
 -- n slots as they are lent: a slot that is left untouched shows
 abbrev pub nines : ℕ → List ℤ

@@ -1,10 +1,11 @@
 -- A test that two results of a call are the same: `sameCalled`, with `sameCalled-eq`.
 use mathlib.Core.Bool.{Bool, false, _&&_}
 use mathlib.Core.List.{List}
-use mathlib.Core.Path.{_≡_, ap, ap₂}
+use mathlib.Core.Path.{_≡_, ap}
 use lib.Dec.{T, eqb, eqb→eq}
 use lib.IntN.{ℤ}
 use Rattle.lists.specs.Same.{sameNumber, sameList, both, sameNumber-eq, sameList-eq}
+use Rattle.reports.specs.Report.{Counts}
 use Rattle.reports.specs.Call.{Answer, done, refused, Called}
 
 -- ---- the tests
@@ -12,10 +13,13 @@ use Rattle.reports.specs.Call.{Answer, done, refused, Called}
 unfoldable pub sameSlice : List ℤ → List ℤ → Bool
 sameSlice = sameList sameNumber
 
+unfoldable pub sameCounts : Counts → Counts → Bool
+sameCounts x y = eqb (x .free) (y .free) && eqb (x .torsion) (y .torsion)
+
 unfoldable pub sameAnswer : Answer → Answer → Bool
-sameAnswer (done b t) (done c u) = eqb b c && eqb t u
-sameAnswer (done b t) (refused m) = false
-sameAnswer (refused n) (done c u) = false
+sameAnswer (done x) (done y) = sameCounts x y
+sameAnswer (done x) (refused m) = false
+sameAnswer (refused n) (done y) = false
 sameAnswer (refused n) (refused m) = eqb n m
 
 unfoldable pub sameCalled : Called → Called → Bool
@@ -27,13 +31,17 @@ sameSlice-eq : (xs ys : List ℤ) → T (sameSlice xs ys) → xs ≡ ys
 unfolding sameSlice
 sameSlice-eq xs ys t = sameList-eq sameNumber sameNumber-eq xs ys t
 
+sameCounts-eq : (x y : Counts) → T (sameCounts x y) → x ≡ y
+unfolding sameCounts
+sameCounts-eq x y h =
+    let (free, torsion) = both (eqb (x .free) (y .free)) _ h in
+    λ i. record { free = eqb→eq (x .free) (y .free) free i; torsion = eqb→eq (x .torsion) (y .torsion) torsion i }
+
 sameAnswer-eq : (x y : Answer) → T (sameAnswer x y) → x ≡ y
 unfolding sameAnswer
-sameAnswer-eq (done b t) (done c u) h =
-    let p : T (eqb b c) × T (eqb t u) = both (eqb b c) (eqb t u) h in
-    ap₂ done (eqb→eq b c (p .0)) (eqb→eq t u (p .1))
-sameAnswer-eq (done b t) (refused m) h = absurd h
-sameAnswer-eq (refused n) (done c u) h = absurd h
+sameAnswer-eq (done x) (done y) h = ap done (sameCounts-eq x y h)
+sameAnswer-eq (done x) (refused m) h = absurd h
+sameAnswer-eq (refused n) (done y) h = absurd h
 sameAnswer-eq (refused n) (refused m) h = ap refused (eqb→eq n m h)
 
 pub sameCalled-eq : (x y : Called) → T (sameCalled x y) → x ≡ y

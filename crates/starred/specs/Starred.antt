@@ -20,7 +20,7 @@ use Rattle.reduction_steps.specs.Step.{columnKeeps, rowKeeps, rowIndivisible, f
 use Rattle.reports.specs.Reductions.{firstStart, product, secondStart, afterSecond, second, afterFirst, reductions}
 use Rattle.reports.specs.Report.{reported, columnsOf, torsionCount, reportList, coordinateAt, coordinateList}
 use Rattle.reports.specs.Call.{coefficientExceeds, boundaryNotZero, callChecks, chainChecks, finished, reductionsOf, reportCall, coordinateCall}
-use Rattle.starred.specs.Same.{sameSlice, sameAnswer, sameCalled}
+use Rattle.starred.specs.Same.{sameSlice, sameCounts, sameAnswer, sameCalled}
 use Rattle.starred.specs.Case.{Case, answered, good}
 use Rattle.starred.specs.DoneCases.{noCellsCases, reportCases, coordinateCases}
 use Rattle.starred.specs.RefusedCases.{sheetCases, dimensionCases, sliceCases, chainCases}
@@ -30,7 +30,7 @@ abbrev pub cases : List Case
 cases = noCellsCases ++ (reportCases ++ (coordinateCases ++ (sheetCases ++ (dimensionCases ++ (sliceCases ++ chainCases)))))
 
 pub starred-sheets-and-calls : T (every good cases)
-unfolding every good sameCalled sameAnswer sameSlice sameList sameNumber
+unfolding every good sameCalled sameAnswer sameCounts sameSlice sameList sameNumber
     answered reportCall coordinateCall callChecks chainChecks coefficientExceeds boundaryNotZero reductionsOf finished
     refusal countField offsetField cellOf cellsOf sectionsOf chainCells some verticesDoNotRise cellsDoNotRise faceMissing without same rises precedes listed start
     reductions firstStart afterFirst second product secondStart afterSecond countBelow boundary coefficient sign

@@ -9,6 +9,7 @@ use lib.IntN.{ℤ}
 use Rattle.reports.specs.HostCallLaws.{coordinateRoom}
 use Rattle.answers.specs.HostSizes.{CoordinatesSized}
 use Rattle.writers.specs.declared.reduced.Counts.{Counts}
+use Rattle.calls.specs.Answer.{countsIn}
 use Rattle.fildwuk.proofs.Through.{Lent, lend, lent-length, slots, writable, coordinates-refuse, coordinates-sizes, coordinates-write}
 use Rattle.fildwuk.proofs.coordinates_through.Statement.{statement}
 use Rattle.fildwuk.proofs.coordinates_through.Tie as tie
@@ -32,7 +33,7 @@ module _ (c : tie.After-counts) where
   abbrev counts : Counts
   counts = c .counts .given .0 .0
 
-  sizes : CoordinatesSized (call called .sheet) (call called .dimension) (slots (call called)) (counts .free) (counts .torsion)
+  sizes : CoordinatesSized (call called .sheet) (call called .dimension) (slots (call called)) (countsIn counts)
   sizes = coordinates-sizes (call called) (chain called) (called .coordinates-at .ensures) (c .counts .given .1)
 
 slice-aggregate-coordinates-at : tie.Need-slice-aggregate-coordinates-at

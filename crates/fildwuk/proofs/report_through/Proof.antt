@@ -8,6 +8,7 @@ use lib.ListN.{length}
 use Rattle.reports.specs.HostCallLaws.{reportRoom}
 use Rattle.answers.specs.HostSizes.{ReportSized}
 use Rattle.writers.specs.declared.reduced.Counts.{Counts}
+use Rattle.calls.specs.Answer.{countsIn}
 use Rattle.fildwuk.proofs.Through.{Lent, lend, lent-length, slots, size, writable, report-refuses, report-sizes, report-room, report-writes}
 use Rattle.fildwuk.proofs.report_through.Statement.{statement}
 use Rattle.fildwuk.proofs.report_through.Tie as tie
@@ -28,7 +29,7 @@ module _ (c : tie.After-counts) where
   abbrev counts : Counts
   counts = c .counts .given .0 .0
 
-  sizes : ReportSized (call called .sheet) (call called .dimension) (slots (call called)) (counts .free) (counts .torsion)
+  sizes : ReportSized (call called .sheet) (call called .dimension) (slots (call called)) (countsIn counts)
   sizes = report-sizes (call called) (called .report-at .ensures) (c .counts .given .1)
 
 module _ (c : tie.After-count) where

@@ -66,7 +66,7 @@ returns-2 c =
     let s = c .before .before .before in
     let l = given s in
     chain-refuses l (chain-of s) (granted s)
-    (length-differs (l .sheet) (l .dimension) (chain-of s) (λ e. c .if1 .taken (e ∙ sym (cells-of (granted s .sizes)))))
+    (length-differs coefficientLimit (l .sheet) (l .dimension) (chain-of s) (λ e. c .if1 .taken (e ∙ sym (cells-of (granted s .sizes)))))
 
 module _ (c : tie.Else1) where
   abbrev admitted : tie.After-sizes
@@ -80,17 +80,17 @@ returns-3 c =
     let s = admitted (c .before .before) in
     let l = given s in
     chain-refuses l (chain-of s) (granted s)
-    (coefficient-beyond (l .sheet) (l .dimension) (chain-of s) (size (c .before .before)) (sym (c .before .coefficient-exceeds .ensures) ∙ c .if2 .taken))
+    (coefficient-beyond coefficientLimit (l .sheet) (l .dimension) (chain-of s) (size (c .before .before)) (sym (c .before .coefficient-exceeds .ensures) ∙ c .if2 .taken))
 
 module _ (c : tie.Else2) where
   abbrev sized : tie.Else1
   sized = c .before .before
 
-  narrow : coefficientExceeds (chain-of (admitted sized)) ≡ false
+  narrow : coefficientExceeds coefficientLimit (chain-of (admitted sized)) ≡ false
   narrow = sym (c .before .coefficient-exceeds .ensures) ∙ c .if2 .left
 
   small : (j : ℕ) → natAbs (getD (chain-of (admitted sized)) j (pos 0)) ≤ coefficientLimit
-  small = let l = given (admitted sized) in coefficients-small (l .sheet) (l .dimension) (chain-of (admitted sized)) (size sized) narrow
+  small = let l = given (admitted sized) in coefficients-small coefficientLimit (l .sheet) (l .dimension) (chain-of (admitted sized)) (size sized) narrow
 
 boundary-not-zero-requires : tie.Need-boundary-not-zero-requires
 boundary-not-zero-requires c κs =
@@ -102,7 +102,7 @@ returns-4 c =
     let s = admitted (sized second) in
     let l = given s in
     chain-refuses l (chain-of s) (granted s)
-    (boundary-nonzero (l .sheet) (l .dimension) (chain-of s) (size (sized second)) (narrow second)
+    (boundary-nonzero coefficientLimit (l .sheet) (l .dimension) (chain-of s) (size (sized second)) (narrow second)
     (sym (c .before .boundary-not-zero .ensures) ∙ c .if3 .taken))
 
 module _ (c : tie.Else3) where
@@ -112,9 +112,9 @@ module _ (c : tie.Else3) where
   abbrev checked : tie.After-sizes
   checked = admitted (sized second)
 
-  chain : first (chainChecks (given checked .sheet) (given checked .dimension) (chain-of checked)) ≡ 0
+  chain : first (chainChecks coefficientLimit (given checked .sheet) (given checked .dimension) (chain-of checked)) ≡ 0
   chain =
-      chain-passed (given checked .sheet) (given checked .dimension) (chain-of checked) (size (sized second)) (narrow second)
+      chain-passed coefficientLimit (given checked .sheet) (given checked .dimension) (chain-of checked) (size (sized second)) (narrow second)
       (sym (c .before .boundary-not-zero .ensures) ∙ c .if3 .left)
 
 -- ---- the reductions
