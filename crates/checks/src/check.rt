@@ -48,7 +48,7 @@ pub fn offset_differs(s: &[u8]) -> bool
 
 // Check 5 in the section of `many` cells of n vertices from byte `at` on.
 fn section_vertices_do_not_rise(s: &[u8], at: usize, n: usize, many: usize) -> bool
-    requires { ⌜ (at < 2 ^ 31) × (n ≤ 4) × (many < 65536) ⌝ }
+    requires { ⌜ (at < 2 ^ 31) × (n ≤ suc top) × (many < 65536) ⌝ }
     ensures { λ r. ⌜ r ≡ some many (λ i. not (spec.rises (cellOf (now (s .entry)) n (at + 2 * (n * i))))) ⌝ }
 {
     let mut i: usize = 0;
@@ -89,7 +89,7 @@ fn stands_before(s: &[u8], a: usize, b: usize, n: usize) -> bool
 
 // Check 6 in one section.
 fn section_cells_do_not_rise(s: &[u8], at: usize, n: usize, many: usize) -> bool
-    requires { ⌜ (at < 2 ^ 31) × (n ≤ 4) × (many < 65536) ⌝ }
+    requires { ⌜ (at < 2 ^ 31) × (n ≤ suc top) × (many < 65536) ⌝ }
     ensures { λ r. ⌜
         r ≡ some (pred many)
         (λ i. not (precedes (cellOf (now (s .entry)) n (at + 2 * (n * i))) (cellOf (now (s .entry)) n (at + 2 * (n * suc i)))))
@@ -121,7 +121,7 @@ pub fn cells_do_not_rise(s: &[u8]) -> bool
 
 // Check 7 for one cell of n + 1 vertices at byte a, whose faces stand among the `many` cells from byte `at` on.
 fn cell_misses(s: &[u8], a: usize, at: usize, n: usize, many: usize) -> bool
-    requires { ⌜ (a < 2 ^ 32) × (at < 2 ^ 31) × (n ≤ 4) × (many < 65536) ⌝ }
+    requires { ⌜ (a < 2 ^ 32) × (at < 2 ^ 31) × (n ≤ suc top) × (many < 65536) ⌝ }
     requires { ⌜ Rising (cellsOf (now s) n many at) ⌝ }
     ensures { λ r. ⌜
         r ≡ some (suc n)
@@ -140,7 +140,7 @@ fn cell_misses(s: &[u8], a: usize, at: usize, n: usize, many: usize) -> bool
 
 // Check 7 for the section of `cells` cells of n + 1 vertices from byte `a` on.
 fn section_misses(s: &[u8], a: usize, cells: usize, at: usize, n: usize, many: usize) -> bool
-    requires { ⌜ (a < 2 ^ 31) × (cells < 65536) × (at < 2 ^ 31) × (n ≤ 3) × (many < 65536) ⌝ }
+    requires { ⌜ (a < 2 ^ 31) × (cells < 65536) × (at < 2 ^ 31) × (n ≤ top) × (many < 65536) ⌝ }
     requires { ⌜ Rising (cellsOf (now s) n many at) ⌝ }
     ensures { λ r. ⌜
         r ≡ some cells

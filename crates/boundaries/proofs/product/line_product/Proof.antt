@@ -2,13 +2,14 @@
 -- Assumes nothing.
 use mathlib.Core.Path.{_≡_, refl, ap, _∙_}
 use mathlib.Core.List.{List}
-use Prim.Native.Nat.{ℕ, _+_, _-_, _^_, _<_, _≤_}
+use Prim.Native.Nat.{ℕ, suc, _+_, _-_, _^_, _<_, _≤_}
 use native.Mathlib.Numerals.{add-one}
 use native.Mathlib.Omega.{arith}
 use lib.ListN.{getD}
 use lib.IntN.{ℤ, natAbs, _+ℤ_, _*ℤ_}
 use mir.Syntax.{w32, w64}
 use mir.Val.{SFits, toZ}
+use Rattle.sheet_format.specs.Layout.{top}
 use Rattle.integers.specs.Order.{natAbs-mul}
 use Rattle.matrices.specs.Sum.{sum}
 use Rattle.complexes.specs.Boundary.{sign}
@@ -29,7 +30,7 @@ record Invariant (w : List ℤ) (line : ℕ) (places : List ℕ) (faces t : ℕ)
   is : total ≡ sum t (signed w line places)
 
 module _ {w : List ℤ} {line : ℕ} {places : List ℕ} {faces t : ℕ} {total : ℤ} (inv : Invariant w line places faces t total) (small : Small w)
-    (more : t < faces) (few : faces ≤ 4) (r : ℤ) (r-is : r ≡ sign t) where
+    (more : t < faces) (few : faces ≤ suc top) (r : ℤ) (r-is : r ≡ sign t) where
   abbrev x : ℤ
   x = at w (line + getD places t 0)
 
@@ -66,7 +67,7 @@ abbrev Inv-loop : tie.InvT-loop
 Inv-loop w line width faces places total₀ t₀ total t = Invariant w line places faces t (toZ w64 total)
 
 abbrev μ-loop : tie.MeasureT-loop
-μ-loop w line width faces places total₀ t₀ total t = 4 - t
+μ-loop w line width faces places total₀ t₀ total t = suc top - t
 
 loop-holds : tie.Need-loop-holds Inv-loop μ-loop
 unfolding sum

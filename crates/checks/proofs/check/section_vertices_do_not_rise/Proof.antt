@@ -7,7 +7,7 @@ use denote.Ref.{now}
 use mathlib.Core.List.{List}
 use Rattle.complexes.specs.Cell.{rises}
 use Rattle.sheet_format.specs.Check.{cellOf}
-use Rattle.fields.proofs.Offset.{few}
+use Rattle.fields.proofs.Offset.{most, few}
 use Rattle.checks.proofs.Scan.{Passed, passed-none, passed-more, passed-all, some-found}
 use Rattle.checks.proofs.check.section_vertices_do_not_rise.Statement.{statement}
 use Rattle.checks.proofs.check.section_vertices_do_not_rise.Tie as tie
@@ -22,7 +22,7 @@ abbrev μ-loop : tie.MeasureT-loop
 μ-loop s at n many i₀ i = many - i
 
 -- the vertex numbers before cell i
-passed : (c : tie.In-loop Inv-loop μ-loop) → c .before .before .before .args .n * c .before .loop .i ≤ 262144
+passed : (c : tie.In-loop Inv-loop μ-loop) → c .before .before .before .args .n * c .before .loop .i ≤ most
 passed c = few (c .before .before .before .args .n) (c .before .loop .i) (omega arith) (omega arith)
 
 loop-holds : tie.Need-loop-holds Inv-loop μ-loop

@@ -4,11 +4,12 @@ use native.Mathlib.Omega.{arith}
 use mathlib.Core.Path.{_≡_, sym, _∙_}
 use mathlib.Core.Bool.{Bool, not}
 use mathlib.Core.List.{List}
-use Prim.Native.Nat.{ℕ, _-_}
+use Prim.Native.Nat.{ℕ, suc, _-_}
 use denote.Ref.{now}
 use native.Mathlib.Numerals.{add-one}
 use Rattle.complexes.specs.Cell.{rises}
 use Rattle.complexes.specs.Complex.{count, cell}
+use Rattle.sheet_format.specs.Layout.{top}
 use Rattle.sheet_format.specs.Check.{sectionsOf, some, verticesDoNotRise}
 use Rattle.checks.proofs.Scan.{Passed, passed-none, passed-more, passed-all, some-found}
 use Rattle.checks.proofs.Sections.{vertices-section}
@@ -19,10 +20,10 @@ abbrev DoesNotRise : List ℕ → ℕ → Bool
 DoesNotRise s p = some (count (sectionsOf s) p) (λ i. not (rises (cell (sectionsOf s) p i)))
 
 abbrev Inv-loop : tie.InvT-loop
-Inv-loop s p₀ p = Passed 4 (DoesNotRise s) p
+Inv-loop s p₀ p = Passed (suc top) (DoesNotRise s) p
 
 abbrev μ-loop : tie.MeasureT-loop
-μ-loop s p₀ p = 4 - p
+μ-loop s p₀ p = suc top - p
 
 -- the turn over section p
 abbrev turn : tie.After-section-vertices-do-not-rise Inv-loop μ-loop → tie.At-loop Inv-loop μ-loop
@@ -41,22 +42,22 @@ told c = sym (c .section-vertices-do-not-rise .ensures ∙ vertices-section (rec
 }))
 
 loop-holds : tie.Need-loop-holds Inv-loop μ-loop
-loop-holds c = passed-none 4 (DoesNotRise (now (c .before .args .s)))
+loop-holds c = passed-none (suc top) (DoesNotRise (now (c .before .args .s)))
 
 returns : tie.Need-returns Inv-loop μ-loop
 unfolding verticesDoNotRise
 returns c =
     let loop = turn (c .before) in
-    some-found 4 (Test loop) (loop .loop .p) (omega arith) (told (c .before) ∙ c .if1 .taken)
+    some-found (suc top) (Test loop) (loop .loop .p) (omega arith) (told (c .before) ∙ c .if1 .taken)
 
 loop-again : tie.Need-loop-again Inv-loop μ-loop
 loop-again c =
     let loop = turn (c .before) in
-    passed-more 4 (Test loop) (loop .loop .p) (loop .loop .inv) (omega arith) (told (c .before) ∙ c .if1 .left)
+    passed-more (suc top) (Test loop) (loop .loop .p) (loop .loop .inv) (omega arith) (told (c .before) ∙ c .if1 .left)
 
 returns-2 : tie.Need-returns-2 Inv-loop μ-loop
 unfolding verticesDoNotRise
-returns-2 c = passed-all 4 (Test (c .before)) (c .before .loop .p) (c .before .loop .inv) (c .loop-test .left)
+returns-2 c = passed-all (suc top) (Test (c .before)) (c .before .loop .p) (c .before .loop .inv) (c .loop-test .left)
 
 pub vertices-do-not-rise-spec : {M : Type 1} → statement M
 vertices-do-not-rise-spec =

@@ -4,9 +4,10 @@ use borrow.Author.Tests.{lt-ltb, le-ltb, eq-eqb, ne-eqb}
 use mathlib.Core.Path.{_≡_, sym, ap, _∙_}
 use mathlib.Core.Bool.{false, not}
 use mathlib.Core.List.{List}
-use Prim.Native.Nat.{ℕ}
+use Prim.Native.Nat.{ℕ, suc}
 use lib.ListN.{length}
 use denote.Ref.{now}
+use Rattle.sheet_format.specs.Layout.{top, headerLength}
 use Rattle.sheet_format.specs.Check.{startAt, sectionsOf, tooShort, countExceeds, offsetDiffers, lengthDiffers, verticesDoNotRise, cellsDoNotRise, refusal}
 use Rattle.sheet_format.specs.Sheet.{Bytes}
 use Rattle.sheet.proofs.Accepted.{reads-sheet}
@@ -39,7 +40,7 @@ abbrev start₆ : tie.Else6 → tie.Start
 start₆ c = start₅ (c .before .before)
 
 long : (c : tie.Else1) → tooShort (sheetOf (start₁ c)) ≡ false
-long c = le-ltb (length (sheetOf (start₁ c))) 16 (c .if1 .left)
+long c = le-ltb (length (sheetOf (start₁ c))) headerLength (c .if1 .left)
 
 counts : (c : tie.Else2) → countExceeds (start₂ c .args .self .limit) (sheetOf (start₂ c)) ≡ false
 counts c = sym (c .before .count-exceeds .ensures) ∙ c .if2 .left
@@ -48,7 +49,7 @@ offsets : (c : tie.Else3) → offsetDiffers (sheetOf (start₃ c)) ≡ false
 offsets c = sym (c .before .offset-differs .ensures) ∙ c .if3 .left
 
 ends : (c : tie.Else4) → lengthDiffers (sheetOf (start₄ c)) ≡ false
-ends c = ap not (eq-eqb (length (sheetOf (start₄ c))) (startAt (sheetOf (start₄ c)) 4) (c .if4 .left ∙ c .before .start .ensures .is))
+ends c = ap not (eq-eqb (length (sheetOf (start₄ c))) (startAt (sheetOf (start₄ c)) (suc top)) (c .if4 .left ∙ c .before .start .ensures .is))
 
 vertices : (c : tie.Else5) → verticesDoNotRise (sectionsOf (sheetOf (start₅ c))) ≡ false
 vertices c = sym (c .before .vertices-do-not-rise .ensures) ∙ c .if5 .left
@@ -58,7 +59,7 @@ cells c = sym (c .before .cells-do-not-rise .ensures) ∙ c .if6 .left
 
 returns : tie.Need-returns
 unfolding refusal
-returns c = reads-sheet (bytes (c .before)) (rw (lt-ltb (length (sheetOf (c .before .before))) 16 (c .if1 .taken)))
+returns c = reads-sheet (bytes (c .before)) (rw (lt-ltb (length (sheetOf (c .before .before))) headerLength (c .if1 .taken)))
 
 returns-2 : tie.Need-returns-2
 unfolding refusal
@@ -80,7 +81,7 @@ returns-4 c =
     let c₂ = c₃ .before .before in
     let c₁ = c₂ .before .before in
     let b = sheetOf (start₃ c₃) in
-    reads-sheet (bytes (c₁ .before)) (rw (long c₁, counts c₂, offsets c₃, ne-eqb (length b) (startAt b 4) (λ e. c .if4 .taken (e ∙ sym (c .before .start .ensures .is)))))
+    reads-sheet (bytes (c₁ .before)) (rw (long c₁, counts c₂, offsets c₃, ne-eqb (length b) (startAt b (suc top)) (λ e. c .if4 .taken (e ∙ sym (c .before .start .ensures .is)))))
 
 returns-5 : tie.Need-returns-5
 unfolding refusal
