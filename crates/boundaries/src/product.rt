@@ -23,7 +23,7 @@ use lines::matrix::Matrix;
 // The sum of sign t times the entry at places[t] of a line, over t below `faces`. The loop has a constant length, so that the compiler
 // keeps the places in registers.
 fn line_product(w: &[i32], line: usize, width: usize, places: [usize; FACES], faces: usize) -> i64
-    requires { ⌜ (line + width ≤ length (now w)) × Small (now w) × (faces ≤ 4) ⌝ }
+    requires { ⌜ (line + width ≤ length (now w)) × Small (now w) × (faces ≤ suc top) ⌝ }
     requires { ⌜ ((t : ℕ) → t < faces → getD places t 0 < width) ⌝ }
     ensures { λ r. ⌜ r ≡ sum faces (λ t. at (now (w .entry)) (line + getD places t 0) *ℤ spec.sign t) ⌝ }
 {

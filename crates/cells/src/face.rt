@@ -3,6 +3,7 @@ ghost use Prim.Native.Nat.{ℕ, suc, _+_, _*_, _^_, _≤_, _<_};
 ghost use mathlib.Core.Path.{_≡_};
 ghost use mathlib.Core.Bool.{true};
 ghost use Rattle.complexes.specs.Cell.{without, precedes};
+ghost use Rattle.sheet_format.specs.Layout.{top};
 ghost use Rattle.sheet_format.specs.Check.{cellOf, cellsOf};
 ghost use Rattle.cells.specs.Find.{Finds, Rising};
 use crate::cell::Order;
@@ -15,7 +16,7 @@ pub enum Found {
 
 // The place of the cell of n + 1 vertices at byte a, less vertex number `skip`, among the `many` cells of n vertices from byte `at` on.
 pub fn find(s: &[u8], a: usize, skip: usize, at: usize, n: usize, many: usize) -> Found
-    requires { ⌜ (a < 2 ^ 32) × (at < 2 ^ 31) × (skip ≤ n) × (n ≤ 4) × (many < 65536) ⌝ }
+    requires { ⌜ (a < 2 ^ 32) × (at < 2 ^ 31) × (skip ≤ n) × (n ≤ suc top) × (many < 65536) ⌝ }
     requires { ⌜ Rising (cellsOf (now s) n many at) ⌝ }
     ensures { λ r. ⌜ Finds (without skip (cellOf (now (s .entry)) (suc n) a)) (cellsOf (now (s .entry)) n many at) r ⌝ }
 {

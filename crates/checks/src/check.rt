@@ -3,6 +3,7 @@ ghost use mathlib.Core.Path.{_≡_};
 ghost use mathlib.Core.Bool.{false, not};
 ghost use Prim.Native.Nat.{suc, _+_, _*_, _^_, _≤_, _<_};
 ghost use Rattle.complexes.specs.Cell.{without, listed};
+ghost use Rattle.sheet_format.specs.Layout.{top};
 ghost use Rattle.sheet_format.specs.Check.{cellOf, cellsOf, sectionsOf, some, countExceeds, offsetDiffers, verticesDoNotRise, cellsDoNotRise, faceMissing};
 ghost use Rattle.cells.specs.Find.{Rising};
 use crate::rise::Rise;
@@ -57,7 +58,7 @@ pub fn cells_do_not_rise(s: &[u8]) -> bool
 
 // Check 7 for one cell of n + 1 vertices at byte a, whose faces stand among the `many` cells from byte `at` on.
 fn cell_misses(s: &[u8], a: usize, at: usize, n: usize, many: usize) -> bool
-    requires { ⌜ (a < 2 ^ 32) × (at < 2 ^ 31) × (n ≤ 4) × (many < 65536) ⌝ }
+    requires { ⌜ (a < 2 ^ 32) × (at < 2 ^ 31) × (n ≤ suc top) × (many < 65536) ⌝ }
     requires { ⌜ Rising (cellsOf (now s) n many at) ⌝ }
     ensures { λ r. ⌜
         r ≡ some (suc n)
@@ -76,7 +77,7 @@ fn cell_misses(s: &[u8], a: usize, at: usize, n: usize, many: usize) -> bool
 
 // Check 7 for the section of `cells` cells of n + 1 vertices from byte `a` on.
 fn section_misses(s: &[u8], a: usize, cells: usize, at: usize, n: usize, many: usize) -> bool
-    requires { ⌜ (a < 2 ^ 31) × (cells < 65536) × (at < 2 ^ 31) × (n ≤ 3) × (many < 65536) ⌝ }
+    requires { ⌜ (a < 2 ^ 31) × (cells < 65536) × (at < 2 ^ 31) × (n ≤ top) × (many < 65536) ⌝ }
     requires { ⌜ Rising (cellsOf (now s) n many at) ⌝ }
     ensures { λ r. ⌜
         r ≡ some cells

@@ -1,7 +1,8 @@
 // The checks 5 and 6 of document 01 as one scan.
 ghost use mathlib.Core.Path.{_≡_};
-ghost use Prim.Native.Nat.{_+_, _*_, _^_, _≤_, _<_};
+ghost use Prim.Native.Nat.{suc, _+_, _*_, _^_, _≤_, _<_};
 ghost use Rattle.complexes.specs.Cell.{precedes};
+ghost use Rattle.sheet_format.specs.Layout.{top};
 ghost use Rattle.sheet_format.specs.Check.{cellOf, sectionsOf};
 ghost use Rattle.checks.specs.Rise.{tested, fails, someFails, doNotRise};
 use cells::cell::Order;
@@ -42,7 +43,7 @@ impl Rise {
 
     // Whether the cell of n vertices at byte `at` fails; the next cell stands right after it.
     fn fails_at(self, s: &[u8], at: usize, n: usize) -> bool
-        requires { ⌜ (at < 2 ^ 31) × (n ≤ 4) ⌝ }
+        requires { ⌜ (at < 2 ^ 31) × (n ≤ suc top) ⌝ }
         ensures { λ r. ⌜ r ≡ fails self (cellOf (now (s .entry)) n at) (cellOf (now (s .entry)) n (at + 2 * n)) ⌝ }
     {
         match self {
@@ -53,7 +54,7 @@ impl Rise {
 
     // Whether some cell fails in the section of `many` cells of n vertices from byte `at` on.
     fn fails_in_section(self, s: &[u8], at: usize, n: usize, many: usize) -> bool
-        requires { ⌜ (at < 2 ^ 30) × (n ≤ 4) × (many < 65536) ⌝ }
+        requires { ⌜ (at < 2 ^ 30) × (n ≤ suc top) × (many < 65536) ⌝ }
         ensures { λ r. ⌜ r ≡ someFails self (λ i. cellOf (now (s .entry)) n (at + 2 * (n * i))) many ⌝ }
     {
         let cells = self.tested(many);

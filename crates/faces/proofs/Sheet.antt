@@ -18,8 +18,8 @@ use Rattle.cells.specs.declared.face.Found.the-variants.{At, Nothing}
 use Rattle.limits.specs.Limits.{libraryLimit}
 use Rattle.faces.specs.Face.{Accepted, IsFace}
 
--- a cell has at most 4 vertices
-pub few : (n i : ℕ) → n ≤ 4 → i ≤ libraryLimit → n * i ≤ 4 * libraryLimit
+-- a cell has at most suc top vertices
+pub few : (n i : ℕ) → n ≤ suc top → i ≤ libraryLimit → n * i ≤ suc top * libraryLimit
 few n i h k = mul-le-mul h k
 
 -- the place that a search found; 0 where there is none

@@ -8,11 +8,12 @@ ghost use Rattle.sheet_format.specs.Check.{sectionsOf};
 ghost use Rattle.faces.specs.Face.{Accepted, IsFace, AreFaces};
 use cells::face::Found;
 use cells::face::find;
+use fields::field::TOP;
 use fields::field::count;
 use fields::field::start;
 
 // A cell has at most this many faces.
-pub const FACES: usize = 4;
+pub const FACES: usize = TOP + 1;
 
 // +1 for even t and -1 for odd t.
 pub fn sign(t: usize) -> i64

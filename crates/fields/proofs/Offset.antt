@@ -1,6 +1,10 @@
--- A section has at most 4 vertex numbers in each of its cells and fewer than 65536 cells.
-use Prim.Native.Nat.{ℕ, _*_, _≤_}
+-- A section has at most suc top vertex numbers in each of its cells and fewer than 65536 cells: `most` vertex numbers.
+use Prim.Native.Nat.{ℕ, suc, _*_, _≤_}
 use native.Mathlib.Nat.{mul-le-mul}
+use Rattle.sheet_format.specs.Layout.{top}
 
-pub few : (n i : ℕ) → n ≤ 4 → i ≤ 65536 → n * i ≤ 262144
+abbrev pub most : ℕ
+most = suc top * 65536
+
+pub few : (n i : ℕ) → n ≤ suc top → i ≤ 65536 → n * i ≤ most
 few n i h k = mul-le-mul h k

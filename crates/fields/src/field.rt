@@ -9,8 +9,8 @@ ghost use Rattle.fields.specs.Read.{ReadsBelow};
 // The highest dimension of a cell.
 pub const TOP: usize = 3;
 
-// The bytes of the header.
-pub const HEADER_LENGTH: usize = 16;
+// The bytes of the header: a count and an offset for each dimension.
+pub const HEADER_LENGTH: usize = 4 * (TOP + 1);
 
 // The byte at i.
 pub fn byte(s: &[u8], i: usize) -> usize

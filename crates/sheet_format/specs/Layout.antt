@@ -10,7 +10,7 @@ top = 3
 
 -- the bytes of the header: a count and an offset for each dimension
 abbrev pub headerLength : ℕ
-headerLength = 16
+headerLength = 4 * suc top
 
 -- a field: unsigned 16-bit, low byte first
 abbrev pub field : ℕ → List ℕ

@@ -3,7 +3,7 @@
 use mathlib.Core.Path.{_≡_, refl, sym, ap, subst, _∙_}
 use mathlib.Core.Logic.{⊎-elim}
 use mathlib.Core.List.{List}
-use Prim.Native.Nat.{ℕ, _+_, _-_, _^_, _<_, _≤_}
+use Prim.Native.Nat.{ℕ, suc, _+_, _-_, _^_, _<_, _≤_}
 use native.Mathlib.Numerals.{add-one}
 use native.Mathlib.Omega.{arith}
 use native.Mathlib.Nat as NatL
@@ -11,6 +11,7 @@ use lib.ListN.{getD}
 use lib.IntN.{ℤ, pos, natAbs, _+ℤ_, _*ℤ_}
 use mir.Syntax.{w32, w64}
 use mir.Val.{SFits, toZ}
+use Rattle.sheet_format.specs.Layout.{top}
 use Rattle.integers.specs.Order.{natAbs-mul}
 use Rattle.matrices.specs.Sum.{sum}
 use Rattle.complexes.specs.Boundary.{sign}
@@ -31,7 +32,7 @@ record Invariant (w : List ℤ) (line : ℕ) (places : List ℕ) (faces t : ℕ)
   all : faces ≤ t → total ≡ sum faces (signed w line places)
 
 module _ {w : List ℤ} {line : ℕ} {places : List ℕ} {faces t : ℕ} {total : ℤ} (inv : Invariant w line places faces t total) (small : Small w)
-    (more : t < faces) (few : faces ≤ 4) (r : ℤ) (r-is : r ≡ sign t) where
+    (more : t < faces) (few : faces ≤ suc top) (r : ℤ) (r-is : r ≡ sign t) where
   abbrev x : ℤ
   x = at w (line + getD places t 0)
 
@@ -81,7 +82,7 @@ abbrev Inv-loop : tie.InvT-loop
 Inv-loop w line width faces places total₀ t₀ total t = Invariant w line places faces t (toZ w64 total)
 
 abbrev μ-loop : tie.MeasureT-loop
-μ-loop w line width faces places total₀ t₀ total t = 4 - t
+μ-loop w line width faces places total₀ t₀ total t = suc top - t
 
 loop-holds : tie.Need-loop-holds Inv-loop μ-loop
 loop-holds c = none-yet (c .args .w .now) (c .args .line) (c .args .t4) (c .args .faces)

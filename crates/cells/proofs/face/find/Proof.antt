@@ -10,7 +10,7 @@ use Rattle.complexes.specs.Cell.{Cell, without}
 use Rattle.sheet_format.specs.Check.{cellOf, cellsOf}
 use Rattle.sheet_format.specs.SheetLaws.{length-cellsOf, getD-cellsOf}
 use Rattle.cells.specs.Find.{Compares}
-use Rattle.fields.proofs.Offset.{few}
+use Rattle.fields.proofs.Offset.{most, few}
 use Rattle.cells.proofs.Halving.{Bracket, bracket-start, bracket-down, bracket-up, bracket-end}
 use Rattle.cells.proofs.face.find.Statement.{statement}
 use Rattle.cells.proofs.face.find.Tie as tie
@@ -32,7 +32,7 @@ abbrev mid : tie.In-loop Inv-loop μ-loop → ℕ
 mid c = c .before .loop .lo + (c .before .loop .hi - c .before .loop .lo) / 2
 
 -- the vertex numbers before the middle cell
-passed : (c : tie.In-loop Inv-loop μ-loop) → c .before .before .before .args .n * mid c ≤ 262144
+passed : (c : tie.In-loop Inv-loop μ-loop) → c .before .before .before .args .n * mid c ≤ most
 passed c = few (c .before .before .before .args .n) (mid c) (omega arith) (omega arith)
 
 sized : (c : tie.Start Inv-loop μ-loop) → length (Among c) ≡ c .args .many

@@ -61,7 +61,7 @@ module _ {b : List ℕ} {p j : ℕ} {x : ℤ} {sums₀ : List ℤ} {t : ℕ} {su
   abbrev old : ℤ
   old = getD sums i (pos 0)
 
-  small-entry : natAbs (entry b p j t i) ≤ 4
+  small-entry : natAbs (entry b p j t i) ≤ suc top
   small-entry = omega (arith, natAbs-part (cell (sectionsOf b) (suc p) j) t (cell (sectionsOf b) p i), given .inside)
 
   old-small : natAbs old ≤ 2 ^ 33

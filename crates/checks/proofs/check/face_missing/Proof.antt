@@ -9,6 +9,7 @@ use Prim.Native.Nat.{ℕ, suc, _+_, _-_}
 use denote.Ref.{now}
 use Rattle.complexes.specs.Cell.{without, listed}
 use Rattle.complexes.specs.Complex.{section, count, cell}
+use Rattle.sheet_format.specs.Layout.{top}
 use Rattle.sheet_format.specs.Check.{countField, startAt, sectionsOf, some, faceMissing}
 use Rattle.checks.proofs.Scan.{Passed, passed-none, passed-more, passed-all, some-found}
 use Rattle.checks.proofs.Sections.{Section, faces-section, rising-section}
@@ -19,10 +20,10 @@ abbrev Misses : List ℕ → ℕ → Bool
 Misses s p = some (count (sectionsOf s) (suc p)) (λ i. some (suc (suc p)) (λ j. not (listed (without j (cell (sectionsOf s) (suc p) i)) (section (sectionsOf s) p))))
 
 abbrev Inv-loop : tie.InvT-loop
-Inv-loop s p₀ p = Passed 3 (Misses s) p
+Inv-loop s p₀ p = Passed top (Misses s) p
 
 abbrev μ-loop : tie.MeasureT-loop
-μ-loop s p₀ p = 3 - p
+μ-loop s p₀ p = top - p
 
 -- the turn over the cells of section p + 1
 abbrev turn : tie.After-count2 Inv-loop μ-loop → tie.At-loop Inv-loop μ-loop
@@ -53,7 +54,7 @@ told : (c : tie.After-section-misses Inv-loop μ-loop) → Misses (Bytes (turn (
 told c = sym (c .section-misses .ensures ∙ faces-section (cells (c .before)) (faces (c .before)))
 
 loop-holds : tie.Need-loop-holds Inv-loop μ-loop
-loop-holds c = passed-none 3 (Misses (now (c .before .args .s)))
+loop-holds c = passed-none top (Misses (now (c .before .args .s)))
 
 section-misses-requires : tie.Need-section-misses-requires Inv-loop μ-loop
 section-misses-requires c κs = (omega arith, rising-section (faces c) (turn c .before .before .pre))
@@ -62,16 +63,16 @@ returns : tie.Need-returns Inv-loop μ-loop
 unfolding faceMissing
 returns c =
     let loop = turn (c .before .before) in
-    some-found 3 (Misses (Bytes loop)) (loop .loop .p) (omega arith) (told (c .before) ∙ c .if1 .taken)
+    some-found top (Misses (Bytes loop)) (loop .loop .p) (omega arith) (told (c .before) ∙ c .if1 .taken)
 
 loop-again : tie.Need-loop-again Inv-loop μ-loop
 loop-again c =
     let loop = turn (c .before .before) in
-    passed-more 3 (Misses (Bytes loop)) (loop .loop .p) (loop .loop .inv) (omega arith) (told (c .before) ∙ c .if1 .left)
+    passed-more top (Misses (Bytes loop)) (loop .loop .p) (loop .loop .inv) (omega arith) (told (c .before) ∙ c .if1 .left)
 
 returns-2 : tie.Need-returns-2 Inv-loop μ-loop
 unfolding faceMissing
-returns-2 c = passed-all 3 (Misses (Bytes (c .before))) (c .before .loop .p) (c .before .loop .inv) (c .loop-test .left)
+returns-2 c = passed-all top (Misses (Bytes (c .before))) (c .before .loop .p) (c .before .loop .inv) (c .loop-test .left)
 
 pub face-missing-spec : {M : Type 1} → statement M
 face-missing-spec =

@@ -9,7 +9,7 @@ use denote.Ref.{now}
 use native.Mathlib.Numerals.{add-one}
 use Rattle.complexes.specs.Cell.{without, listed}
 use Rattle.sheet_format.specs.Check.{cellOf, cellsOf, some}
-use Rattle.fields.proofs.Offset.{few}
+use Rattle.fields.proofs.Offset.{most, few}
 use Rattle.checks.proofs.Scan.{Passed, passed-none, passed-more, passed-all, some-found}
 use Rattle.checks.proofs.check.section_misses.Statement.{statement}
 use Rattle.checks.proofs.check.section_misses.Tie as tie
@@ -28,7 +28,7 @@ abbrev Test : tie.Start Inv-loop μ-loop → ℕ → Bool
 Test c = Misses (now (c .args .s)) (c .args .a) (c .args .at) (c .args .n) (c .args .many)
 
 -- the vertex numbers before cell i
-passed : (c : tie.In-loop Inv-loop μ-loop) → (c .before .before .before .args .n + 1) * c .before .loop .i ≤ 262144
+passed : (c : tie.In-loop Inv-loop μ-loop) → (c .before .before .before .args .n + 1) * c .before .loop .i ≤ most
 passed c = few (c .before .before .before .args .n + 1) (c .before .loop .i) (omega arith) (omega arith)
 
 -- what the call tells of the cell

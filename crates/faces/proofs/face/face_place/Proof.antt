@@ -5,6 +5,7 @@ use native.Mathlib.Numerals.{add-one}
 use native.Mathlib.Omega.{arith}
 use borrow.Author.Needs.{needs}
 use denote.Ref.{now}
+use Rattle.sheet_format.specs.Layout.{top}
 use Rattle.sheet_format.specs.Check.{startAt}
 use Rattle.sheet_format.specs.Sheet.{Bytes}
 use Rattle.limits.specs.Limits.{libraryLimit}
@@ -17,7 +18,7 @@ bytes : (c : tie.After-shared-slice-known) → Bytes (now (c .before .args .s))
 bytes c = record { small = λ i. c .shared-slice-known .given i .fits }
 
 -- the vertex numbers before the cell
-passed : (c : tie.After-start) → (c .before .before .args .p + 2) * c .before .before .args .j ≤ 4 * libraryLimit
+passed : (c : tie.After-start) → (c .before .before .args .p + 2) * c .before .before .args .j ≤ suc top * libraryLimit
 passed c =
     let start = c .before .before in
     few (start .args .p + 2) (start .args .j) (omega (arith, start .pre .1 .0))

@@ -2,21 +2,22 @@
 -- are left. Assumes nothing.
 use mathlib.Core.Path.{_≡_, refl, _∙_}
 use mathlib.Core.List.{List}
-use Prim.Native.Nat.{ℕ, _+_, _-_, _<_, _≤_}
+use Prim.Native.Nat.{ℕ, suc, _+_, _-_, _<_, _≤_}
 use native.Mathlib.Omega.{arith}
 use native.Mathlib.Decide.{ℕ-discrete}
 use lib.ListN.{length, getD, set, length-set}
 use lib.Seq.{getD-set-same, getD-set-other}
+use Rattle.sheet_format.specs.Layout.{top}
 use Rattle.faces.specs.Face.{IsFace}
 use Rattle.faces.proofs.face.face_places.Statement.{statement}
 use Rattle.faces.proofs.face.face_places.Tie as tie
 
 record Invariant (b : List ℕ) (p j t : ℕ) (places : List ℕ) : Type 0 where
   within : t ≤ p + 2
-  sized : length places ≡ 4
+  sized : length places ≡ suc top
   so-far : (k : ℕ) → k < t → IsFace b p j k (getD places k 0)
 
-more : {b : List ℕ} {p j t : ℕ} {places : List ℕ} → Invariant b p j t places → t < p + 2 → t < 4 → (r : ℕ) → IsFace b p j t r
+more : {b : List ℕ} {p j t : ℕ} {places : List ℕ} → Invariant b p j t places → t < p + 2 → t < suc top → (r : ℕ) → IsFace b p j t r
     → Invariant b p j (t + 1) (set places t r)
 more {b} {p} {j} {t} {places} inv l inside r face = record {
   within = omega arith;

@@ -1,4 +1,4 @@
--- `start` meets its contract. The loop's invariant: `at` is where section q starts, and each section passed took at most 2 ^ 19 bytes.
+-- `start` meets its contract. The loop's invariant: `at` is where section q starts, and each section passed took at most 2 * most bytes.
 use borrow.Author.Needs.{needs}
 use mathlib.Core.Path.{_≡_, refl}
 use Prim.Native.Nat.{_+_, _*_, _-_, _≤_}
@@ -6,19 +6,19 @@ use native.Mathlib.Nat.{le-antisymm}
 use native.Mathlib.Numerals.{add-one}
 use native.Mathlib.Omega.{arith}
 use Rattle.sheet_format.specs.Check.{startAt}
-use Rattle.sheet_format.specs.Layout.{start}
-use Rattle.fields.proofs.Offset.{few}
+use Rattle.sheet_format.specs.Layout.{headerLength, start}
+use Rattle.fields.proofs.Offset.{most, few}
 use Rattle.fields.proofs.field.start.Statement.{statement}
 use Rattle.fields.proofs.field.start.Tie as tie
 
 abbrev Inv-loop : tie.InvT-loop
-Inv-loop s p at₀ q₀ at q = (q ≤ p) × (at ≡ startAt s q) × (at ≤ 16 + 524288 * q)
+Inv-loop s p at₀ q₀ at q = (q ≤ p) × (at ≡ startAt s q) × (at ≤ headerLength + 2 * most * q)
 
 abbrev μ-loop : tie.MeasureT-loop
 μ-loop s p at₀ q₀ at q = p - q
 
 -- the vertex numbers of section q
-section : (c : tie.After-count Inv-loop μ-loop) → (c .before .before .loop .q + 1) * c .count .result ≤ 262144
+section : (c : tie.After-count Inv-loop μ-loop) → (c .before .before .loop .q + 1) * c .count .result ≤ most
 section c = few (c .before .before .loop .q + 1) (c .count .result) (omega arith) (omega arith)
 
 loop-holds : tie.Need-loop-holds Inv-loop μ-loop

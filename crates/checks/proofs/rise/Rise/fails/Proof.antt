@@ -4,10 +4,11 @@ use native.Mathlib.Omega.{arith}
 use mathlib.Core.Path.{_≡_, sym, _∙_}
 use mathlib.Core.Bool.{Bool}
 use mathlib.Core.List.{List}
-use Prim.Native.Nat.{ℕ, _-_}
+use Prim.Native.Nat.{ℕ, suc, _-_}
 use denote.Ref.{now}
 use native.Mathlib.Numerals.{add-one}
 use Rattle.complexes.specs.Complex.{count, cell}
+use Rattle.sheet_format.specs.Layout.{top}
 use Rattle.sheet_format.specs.Check.{sectionsOf}
 use Rattle.checks.specs.Rise.{someFails}
 use Rattle.checks.specs.declared.rise.Rise.{Rise}
@@ -21,10 +22,10 @@ abbrev Fails : Rise → List ℕ → ℕ → Bool
 Fails rise s p = someFails rise (cell (sectionsOf s) p) (count (sectionsOf s) p)
 
 abbrev Inv-loop : tie.InvT-loop
-Inv-loop self s p₀ p = Passed 4 (Fails self s) p
+Inv-loop self s p₀ p = Passed (suc top) (Fails self s) p
 
 abbrev μ-loop : tie.MeasureT-loop
-μ-loop self s p₀ p = 4 - p
+μ-loop self s p₀ p = suc top - p
 
 -- the turn over section p
 abbrev turn : tie.After-fails-in-section Inv-loop μ-loop → tie.At-loop Inv-loop μ-loop
@@ -43,23 +44,23 @@ told c = sym (c .fails-in-section .ensures ∙ fails-section (record {
 }) (turn c .before .before .args .self))
 
 loop-holds : tie.Need-loop-holds Inv-loop μ-loop
-loop-holds c = passed-none 4 (Fails (c .before .args .self) (now (c .before .args .s)))
+loop-holds c = passed-none (suc top) (Fails (c .before .args .self) (now (c .before .args .s)))
 
 returns : tie.Need-returns Inv-loop μ-loop
 returns c =
     let loop = turn (c .before) in
     let a = loop .before .before .args in
-    some-found 4 (Test loop) (loop .loop .p) (omega arith) (told (c .before) ∙ c .if1 .taken) ∙ fails-sections (a .self) (now (a .s))
+    some-found (suc top) (Test loop) (loop .loop .p) (omega arith) (told (c .before) ∙ c .if1 .taken) ∙ fails-sections (a .self) (now (a .s))
 
 loop-again : tie.Need-loop-again Inv-loop μ-loop
 loop-again c =
     let loop = turn (c .before) in
-    passed-more 4 (Test loop) (loop .loop .p) (loop .loop .inv) (omega arith) (told (c .before) ∙ c .if1 .left)
+    passed-more (suc top) (Test loop) (loop .loop .p) (loop .loop .inv) (omega arith) (told (c .before) ∙ c .if1 .left)
 
 returns-2 : tie.Need-returns-2 Inv-loop μ-loop
 returns-2 c =
     let a = c .before .before .before .args in
-    passed-all 4 (Test (c .before)) (c .before .loop .p) (c .before .loop .inv) (c .loop-test .left) ∙ fails-sections (a .self) (now (a .s))
+    passed-all (suc top) (Test (c .before)) (c .before .loop .p) (c .before .loop .inv) (c .loop-test .left) ∙ fails-sections (a .self) (now (a .s))
 
 pub fails-spec : {M : Type 1} → statement M
 fails-spec =
