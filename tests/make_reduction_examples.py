@@ -9,6 +9,7 @@ outcome of that case. The mistaken outcomes make the edits that the crate must r
 import argparse
 from dataclasses import dataclass, field
 from pathlib import Path
+from textwrap import indent
 
 from model.matrices import identity, multiply, transpose
 from model.matrix_cases import COMPANIONS, WIDE_AT_SMALL
@@ -54,9 +55,13 @@ class Case:
             return len(start[0]) if start else 0
         return len(start)
 
+    def from_identities(self):
+        """Whether the companions that are there start as identities."""
+        return all(start == identity(self.lines(name)) for name, start in self.starts.items())
+
     def all_identities(self):
         """Whether all four companions are there and start as identities."""
-        return all(self.starts.get(name) == identity(self.lines(name)) for name in COMPANIONS)
+        return self.from_identities() and len(self.starts) == len(COMPANIONS)
 
 
 def case(text, matrix, names=(), **choices):
@@ -291,14 +296,16 @@ IMPORTS = """\
 use mathlib.Core.List.{List, [], _∷_}
 use lib.IntN.{pos}
 use Rattle.reduction_steps.specs.Step.{done, wide}
-use Rattle.reduction_examples.specs.Case.{Case, minus, withAll, identities, alone, bare}
-
 """
+WIDTH = 140
+FORMS = ["minus", "withAll", "withRows", "withColumns", "alone", "fromIdentities", "bare"]
 
 
-def header(about):
-    """The top of a file of cases."""
-    return f"-- {about}\n-- {WRITTEN_BY}\n{IMPORTS}"
+def header(about, text):
+    """The top of a file of cases: the imports that its text needs."""
+    forms = ", ".join(["Case"] + [name for name in FORMS if f"{name} " in text])
+    return (f"-- {about}\n-- {WRITTEN_BY}\n{IMPORTS}"
+            f"use Rattle.reduction_examples.specs.Case.{{{forms}}}\n\n")
 
 
 def numbers(row):
@@ -335,26 +342,21 @@ def state(one, matrix, companions):
     """A state in full, or by the short form for a matrix alone."""
     if not one.starts:
         return f"bare {one.rows} {one.cols} ({table(matrix)})"
-    parts = "".join(f"    {part}\n" for part in fields(one, matrix, companions))
-    return "record {\n" + parts + "  }"
+    parts = "".join(f"  {part}\n" for part in fields(one, matrix, companions))
+    return "record {\n" + parts + "}"
+
+
+SHORT = {(): "alone", ROWS: "withRows", COLUMNS: "withColumns", COMPANIONS: "withAll"}
 
 
 def sizes(one):
     """The sizes, by a short form where there is one."""
-    if not one.starts:
-        return f"alone {one.rows} {one.cols}"
-    if one.all_identities():
-        return f"withAll {one.rows} {one.cols}"
+    short = SHORT.get(tuple(name for name in COMPANIONS if name in one.starts))
+    if short and one.from_identities():
+        return f"{short} {one.rows} {one.cols}"
     parts = [f"rows = {one.rows}", f"columns = {one.cols}"]
     parts += [f"{FIELDS[name]} = {one.length(name)}" for name in COMPANIONS]
     return "record { " + "; ".join(parts) + " }"
-
-
-def start(one):
-    """The starting tables."""
-    if one.all_identities():
-        return f"identities {one.rows} {one.cols} ({table(one.matrix)})"
-    return state(one, one.matrix, one.starts)
 
 
 def expected(one):
@@ -368,9 +370,16 @@ def expected(one):
 
 
 def record(one):
-    """A case as a record."""
-    return (f"record {{\n  limit = {one.limit};\n  sizes = {sizes(one)};\n"
-            f"  start = {start(one)};\n  expected = {expected(one)};\n}}")
+    """A case, as a record where its companions do not start as identities."""
+    if one.from_identities():
+        told = expected(one)
+        told = told if told == "wide" else f"({told})"
+        parts = [f"fromIdentities {one.limit} ({sizes(one)})", f"({table(one.matrix)})", told]
+        wide = len(" ".join(parts).split("\n")[0]) > WIDTH
+        return ("\n" if wide else " ").join(parts)
+    parts = [f"limit = {one.limit};", f"sizes = {sizes(one)};",
+             f"start = {state(one, one.matrix, one.starts)};", f"expected = {expected(one)};"]
+    return "record {\n" + indent("\n".join(parts), "  ") + "\n}"
 
 
 def group(name, cases):
@@ -379,7 +388,7 @@ def group(name, cases):
     for i, one in enumerate(cases):
         check(one)
         body = ("∷ " if i else "") + record(one)
-        text += f"    -- {one.text}\n" + "".join(f"    {line}\n" for line in body.splitlines())
+        text += indent(f"-- {one.text}\n{body}\n", "    ")
     return text + "    ∷ []\n"
 
 
@@ -400,12 +409,13 @@ def main():
     parser = argparse.ArgumentParser(description=__doc__.splitlines()[0])
     parser.add_argument("crate", type=Path, metavar="CRATE", help="the folder of the crate")
     crate = parser.parse_args().crate
-    step_text = header("Cases for the steps a to e of document 01, and for the shapes of a matrix.")
-    step_text += group("steps", steps()) + "\n" + group("shapes", shapes())
+    step_text = group("steps", steps()) + "\n" + group("shapes", shapes())
+    step_text = header("Cases for the steps a to e of document 01, and for the shapes of a matrix.",
+                       step_text) + step_text
     (crate / "specs" / "StepCases.antt").write_text(step_text, encoding="utf-8")
+    limit_text = group("limits", limits())
     limit_text = header("Cases at the entry limit and beyond it, in the matrix and in each companion "
-                        "alone.")
-    limit_text += group("limits", limits())
+                        "alone.", limit_text) + limit_text
     (crate / "specs" / "LimitCases.antt").write_text(limit_text, encoding="utf-8")
     by_text = {one.text: one for one in steps()}
     for name, (case_text, mistake) in EDITS.items():

@@ -1,6 +1,6 @@
 -- A call, of the library or of the host, whose refusals before the reduction come to `before` and whose reductions to R. `told`: the number that
 -- it answers, which is as document 01 says (told-answers). On an accepted sheet: reductionsOf-wide, reductionsOf-right, reductionsOf-within.
--- What the library's call leaves in its slices: output-left, output-kept, work-left.
+-- What the library's call leaves in its slices: call-leaves, output-kept. What it answers on an accepted sheet: call-answers, answered.
 use mathlib.Core.Path.{_≡_, refl, sym, _∙_, ap}
 use mathlib.Core.Logic.{_↔_, _≢_}
 use mathlib.Core.Bool.{true}
@@ -25,7 +25,7 @@ use Rattle.reports.specs.CallLaws.{call, ReducedWith, call-done, call-output}
 use Rattle.reports.specs.WrittenLaws.{length-written, getD-written-past}
 use Rattle.reports.specs.RefusalLaws.{callChecks-zero}
 use Rattle.answers.specs.Wide.{GoesWide}
-use Rattle.answers.specs.Called.{answerNumber, IsDone, Answers, KeptPast, WorkLeft}
+use Rattle.answers.specs.Called.{answerNumber, IsDone, Answers, KeptPast, WorkLeft, Leaves}
 use Rattle.answers.specs.TwoReductions.{Right, reductions-right, reductions-within}
 use Rattle.answers.specs.WideLaws.{wide-iff}
 
@@ -69,29 +69,40 @@ told-done (suc k) R e = absurd (omega arith)
 -- ---- the library's call
 
 module _ (numbers : ℕ → ℕ → State → List ℤ) (output work : List ℤ) where
-  pub call-number : (before : ℕ) (R : Reductions) → answerNumber (call before R numbers output work .answer) ≡ told before R
+  call-number : (before : ℕ) (R : Reductions) → answerNumber (call before R numbers output work .answer) ≡ told before R
   unfolding finished
   call-number zero tooWide = refl
   call-number zero (reduced s r x) = refl
   call-number (suc k) R = refl
 
-  pub call-counted : (before : ℕ) (R : Reductions) → answerNumber (call before R numbers output work .answer) ≡ 0 → IsDone (call before R numbers output work .answer)
+  call-counted : (before : ℕ) (R : Reductions) → answerNumber (call before R numbers output work .answer) ≡ 0 → IsDone (call before R numbers output work .answer)
   unfolding finished
   call-counted zero tooWide e = absurd (omega arith)
   call-counted zero (reduced s r x) e = record { counts = countsOf s r x; is = refl }
   call-counted (suc k) R e = absurd (omega arith)
 
-  pub output-left : (before : ℕ) (R : Reductions) → told before R ≢ 0 → call before R numbers output work .output ≡ output
+  output-left : (before : ℕ) (R : Reductions) → told before R ≢ 0 → call before R numbers output work .output ≡ output
   unfolding finished
   output-left zero tooWide d = refl
   output-left zero (reduced s r x) d = absurd (d refl)
   output-left (suc k) R d = refl
 
-  pub work-left : (before : ℕ) (R : Reductions) → before ≢ 13 → WorkLeft (told before R) work (call before R numbers output work .work)
+  work-left : (before : ℕ) (R : Reductions) → before ≢ 13 → WorkLeft (told before R) work (call before R numbers output work .work)
   unfolding finished
   work-left zero tooWide h = record { after-done = λ e. absurd (omega arith); after-wide = λ e. refl; otherwise = λ d e. absurd (e refl) }
   work-left zero (reduced s r x) h = record { after-done = λ e. refl; after-wide = λ e. absurd (omega arith); otherwise = λ d e. absurd (d refl) }
   work-left (suc k) R h = record { after-done = λ e. absurd (omega arith); after-wide = λ e. absurd (h e); otherwise = λ d e. refl }
+
+  -- where done leaves what is past its first `many` numbers
+  pub call-leaves : (before : ℕ) (R : Reductions) (many : ℕ → ℕ → ℕ) → before ≢ 13
+      → ((counts : Counts) → call before R numbers output work .answer ≡ done counts → KeptPast (pos 0) (many (counts .free) (counts .torsion)) output (call before R numbers output work .output))
+      → Leaves many output work (call before R numbers output work)
+  call-leaves before R many narrow past = record {
+    counted = call-counted before R;
+    after-refusal = λ d. output-left before R (rw (call-number before R) at d);
+    past = past;
+    work-left = rw (call-number before R) (work-left before R narrow);
+  }
 
   pub output-kept : (before : ℕ) (R : Reductions) → before ≡ 0 → {counts : Counts} (c : ReducedWith R counts) (many : ℕ)
       → length (numbers (c .rows) (c .rank) (c .state)) ≡ many → many ≤ length output → KeptPast (pos 0) many output (call before R numbers output work .output)
@@ -125,6 +136,13 @@ module _ {rule : Rule} (is : IsRule rule) {limit : ℕ} (K : Sections) (p : ℕ)
     pub reductionsOf-within : within entryLimit x ≡ true
     unfolding reductionsOf
     reductionsOf-within = reductions-within chains rule is entryLimit p (omega arith) s r x e
+
+pub call-answers : {rule : Rule} → IsRule rule → {limit : ℕ} (K : Sections) (p before : ℕ) → before ≢ 13 → (before ≡ 0 → ChainComplex limit K)
+    → (numbers : ℕ → ℕ → State → List ℤ) (output work : List ℤ)
+    → Answers before (GoesWide entryLimit rule K p) (answerNumber (call before (reductionsOf rule K p) numbers output work .answer))
+call-answers {rule} is K p before narrow chains numbers output work =
+    rw (call-number numbers output work before (reductionsOf rule K p))
+    (told-answers before (reductionsOf rule K p) narrow (λ e. reductionsOf-wide is K p (chains e)))
 
 -- a call that is done with these counts: two reductions that are right
 pub record Answered (rule : Rule) (K : Sections) (p before : ℕ) (counts : Counts) : Type 0 where

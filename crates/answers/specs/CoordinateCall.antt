@@ -1,5 +1,5 @@
--- The laws of `Calls` for the library's coordinate call: what it answers (coordinates-answer), what it leaves (coordinates-left,
--- coordinates-work, coordinates-kept), and the numbers that stand in its output (coordinates-read).
+-- The laws of `Calls` for the library's coordinate call: what it answers (coordinates-answer), what it leaves (coordinates-leave), and
+-- the numbers that stand in its output (coordinates-read).
 use mathlib.Core.Path.{_≡_, _∙_, ap}
 use mathlib.Core.Logic.{_↔_, _≢_}
 use mathlib.Core.List.{List, _++_}
@@ -25,11 +25,11 @@ use Rattle.reports.specs.CallLaws.{ReducedWith, call-output}
 use Rattle.answers.specs.Homology.{IsCycle}
 use Rattle.answers.specs.Right.{slot}
 use Rattle.answers.specs.Wide.{GoesWide}
-use Rattle.answers.specs.Called.{answerNumber, IsDone, Answers, KeptPast, WorkLeft}
+use Rattle.answers.specs.Called.{answerNumber, Answers, KeptPast, Leaves}
 use Rattle.answers.specs.ChainChecks.{chain-passes}
 use Rattle.answers.specs.Numbers.{coordinates-length}
 use Rattle.answers.specs.CoordinatesRight.{ReadsCoordinates}
-use Rattle.answers.specs.Calls.{told, told-answers, call-number, call-counted, output-left, output-kept, work-left, passed-chains, reductionsOf-wide, Answered, answered}
+use Rattle.answers.specs.Calls.{call-leaves, output-kept, passed-chains, call-answers, Answered, answered}
 
 module _ (limit : ℕ) (b : List ℕ) (p : ℕ) (z coordinates work : List ℤ) where
   -- the refusals 1 to 9 of the coordinate call; and those with 10 to 12 after them
@@ -57,25 +57,9 @@ module _ (limit : ℕ) (b : List ℕ) (p : ℕ) (z coordinates work : List ℤ) 
   pub chain-cycle : coordinatesBefore ≡ 0 → IsCycle (chainCells b) p (slot z)
   chain-cycle e = chain-passes coefficientLimit b p z (coordinates-passed .0 e .1) .cycle
 
-  pub coordinates-number : answerNumber (coordinatesCalled .answer) ≡ told coordinatesBefore (reductionsOf pivotRule (chainCells b) p)
-  unfolding coordinateCall
-  coordinates-number = call-number coordinatesNumbers coordinates work coordinatesBefore (reductionsOf pivotRule (chainCells b) p)
-
   pub coordinates-answer : Bytes b → Answers coordinatesBefore (GoesWide entryLimit pivotRule (chainCells b) p) (answerNumber (coordinatesCalled .answer))
-  coordinates-answer bytes =
-      rw coordinates-number (told-answers coordinatesBefore (reductionsOf pivotRule (chainCells b) p) coordinates-narrow (λ e. reductionsOf-wide pivotRule-is-rule (chainCells b) p (coordinates-chains bytes e)))
-
-  pub coordinates-counted : answerNumber (coordinatesCalled .answer) ≡ 0 → IsDone (coordinatesCalled .answer)
   unfolding coordinateCall
-  coordinates-counted = call-counted coordinatesNumbers coordinates work coordinatesBefore (reductionsOf pivotRule (chainCells b) p)
-
-  pub coordinates-left : answerNumber (coordinatesCalled .answer) ≢ 0 → coordinatesCalled .output ≡ coordinates
-  unfolding coordinateCall
-  coordinates-left d = output-left coordinatesNumbers coordinates work coordinatesBefore (reductionsOf pivotRule (chainCells b) p) (rw coordinates-number at d)
-
-  pub coordinates-work : WorkLeft (answerNumber (coordinatesCalled .answer)) work (coordinatesCalled .work)
-  unfolding coordinateCall
-  coordinates-work = rw coordinates-number (work-left coordinatesNumbers coordinates work coordinatesBefore (reductionsOf pivotRule (chainCells b) p) coordinates-narrow)
+  coordinates-answer bytes = call-answers pivotRule-is-rule (chainCells b) p coordinatesBefore coordinates-narrow (coordinates-chains bytes) coordinatesNumbers coordinates work
 
   module _ (bytes : Bytes b) {counts : Counts} (e : coordinatesCalled .answer ≡ done counts) where
     pub coordinates-answered : Answered pivotRule (chainCells b) p coordinatesBefore counts
@@ -99,7 +83,7 @@ module _ (limit : ℕ) (b : List ℕ) (p : ℕ) (z coordinates work : List ℤ) 
           ∙ getD-written (coordinatesNumbers (c .rows) (c .rank) (c .state)) coordinates (pos 0) j (omega (arith, coordinates-length (coordinates-answered .right) z));
     }
 
-    pub coordinates-kept : KeptPast (pos 0) (counts .torsion + counts .free) coordinates (coordinatesCalled .output)
+    coordinates-kept : KeptPast (pos 0) (counts .torsion + counts .free) coordinates (coordinatesCalled .output)
     unfolding coordinateCall
     coordinates-kept =
         output-kept coordinatesNumbers coordinates work coordinatesBefore (reductionsOf pivotRule (chainCells b) p) (coordinates-answered .passes) c (counts .torsion + counts .free) size (le-trans fits slots)
@@ -109,3 +93,8 @@ module _ (limit : ℕ) (b : List ℕ) (p : ℕ) (z coordinates work : List ℤ) 
 
         slots : coordinateSlots (chainCells b) p ≤ length coordinates
         slots = callChecks-zero limit b p coordinateSlots (length coordinates) (length work) .0 (coordinates-passed .0 (coordinates-answered .passes) .0) .output-slots
+
+  pub coordinates-leave : Bytes b → Leaves (λ f t. t + f) coordinates work coordinatesCalled
+  unfolding coordinateCall
+  coordinates-leave bytes =
+      call-leaves coordinatesNumbers coordinates work coordinatesBefore (reductionsOf pivotRule (chainCells b) p) (λ f t. t + f) coordinates-narrow (λ counts e. coordinates-kept bytes e)

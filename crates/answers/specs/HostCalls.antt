@@ -1,48 +1,73 @@
--- A host call whose refusals before the reduction come to `before` and whose reductions to R: the number that it answers (host-number), the
--- output that it leaves (host-left, host-kept), and the numbers that a caller reads from its bytes (host-reads).
+-- A host call whose refusals before the reduction come to `before` and whose reductions to R: the output that it leaves (host-left, host-kept), and
+-- the numbers that a caller reads from its bytes (host-reads). On an accepted sheet: what it answers (host-answers) and the reductions (host-done).
 use mathlib.Core.Path.{_≡_, refl, sym, _∙_, ap}
 use mathlib.Core.Logic.{_≢_}
+use mathlib.Core.Bool.{true}
 use mathlib.Core.List.{List, _++_}
 use Prim.Native.Nat.{ℕ, zero, suc, _+_, _*_, _≤_, _<_}
 use native.Mathlib.Omega.{arith}
 use lib.ListN.{length, getD, drop}
 use lib.IntN.{ℤ}
-use Rattle.reduction_steps.specs.State.{State}
+use Rattle.complexes.specs.Complex.{Sections, count}
+use Rattle.complexes.specs.ChainComplex.{ChainComplex}
+use Rattle.reduction_steps.specs.State.{State, within}
+use Rattle.reduction_steps.specs.Pivot.{Rule, IsRule}
 use Rattle.reports.specs.Reductions.{Reductions, tooWide, reduced}
+use Rattle.limits.specs.Limits.{libraryLimit, hostLimit, entryLimit}
+use Rattle.reports.specs.Call.{reductionsOf}
 use Rattle.reports.specs.WrittenLaws.{length-written, getD-written-past}
-use Rattle.reports.specs.Host.{numbersBytes, finishedWith, numberAt}
+use Rattle.reports.specs.Host.{HostCalled, numbersBytes, finishedWith, numberAt}
 use Rattle.reports.specs.HostLaws.{Word, length-numbersBytes, numberAt-numbersBytes}
 use Rattle.reports.specs.HostCallLaws.{hostCall}
 use Rattle.answers.specs.Right.{slot}
-use Rattle.answers.specs.Called.{KeptPast}
-use Rattle.answers.specs.Calls.{told, ToldDone}
+use Rattle.answers.specs.Wide.{GoesWide}
+use Rattle.answers.specs.Called.{Answers, KeptPast}
+use Rattle.answers.specs.TwoReductions.{Right}
+use Rattle.answers.specs.Calls.{told, told-answers, told-done, reductionsOf-wide, reductionsOf-right, reductionsOf-within}
+
+-- a call that is done: two reductions that are right, with entries and cells within their limits
+pub record HostDone (rule : Rule) (K : Sections) (p before : ℕ) : Type 0 where
+  pub passes : before ≡ 0
+  pub rows : ℕ
+  pub rank : ℕ
+  pub state : State
+  pub reductions : reductionsOf rule K p ≡ reduced rows rank state
+  pub right : Right K p rows rank state
+  pub small : within entryLimit state ≡ true
+  pub few : count K p ≤ libraryLimit
 
 module _ (numbers : ℕ → ℕ → State → List ℤ) (output : List ℕ) where
-  pub host-number : (before : ℕ) (R : Reductions) → hostCall before R numbers output .number ≡ told before R
+  number : (before : ℕ) (R : Reductions) → hostCall before R numbers output .number ≡ told before R
   unfolding finishedWith
-  host-number zero tooWide = refl
-  host-number zero (reduced s r x) = refl
-  host-number (suc k) R = refl
+  number zero tooWide = refl
+  number zero (reduced s r x) = refl
+  number (suc k) R = refl
 
-  pub host-left : (before : ℕ) (R : Reductions) → told before R ≢ 0 → hostCall before R numbers output .output ≡ output
+  left : (before : ℕ) (R : Reductions) → told before R ≢ 0 → hostCall before R numbers output .output ≡ output
   unfolding finishedWith
-  host-left zero tooWide d = refl
-  host-left zero (reduced s r x) d = absurd (d refl)
-  host-left (suc k) R d = refl
+  left zero tooWide d = refl
+  left zero (reduced s r x) d = absurd (d refl)
+  left (suc k) R d = refl
 
-  module _ (before : ℕ) (R : Reductions) (d : ToldDone before R) where
+  pub host-left : (before : ℕ) (R : Reductions) → hostCall before R numbers output .number ≢ 0 → hostCall before R numbers output .output ≡ output
+  host-left before R d = left before R (rw (number before R) at d)
+
+  module _ {rule : Rule} {K : Sections} {p before : ℕ} (d : HostDone rule K p before) where
+    abbrev called : HostCalled
+    called = hostCall before (reductionsOf rule K p) numbers output
+
     abbrev list : List ℤ
     list = numbers (d .rows) (d .rank) (d .state)
 
-    host-output : hostCall before R numbers output .output ≡ numbersBytes list ++ drop (8 * length list) output
+    host-output : called .output ≡ numbersBytes list ++ drop (8 * length list) output
     unfolding finishedWith
     host-output = rw (d .passes, d .reductions)
 
     -- number i of the bytes
-    pub host-reads : (i : ℕ) → i < length list → Word (slot list i) → numberAt (hostCall before R numbers output .output) i ≡ slot list i
+    pub host-reads : (i : ℕ) → i < length list → Word (slot list i) → numberAt (called .output) i ≡ slot list i
     host-reads i h w = ap (λ (o : List ℕ). numberAt o i) host-output ∙ numberAt-numbersBytes list (drop (8 * length list) output) i h w
 
-    pub host-kept : 8 * length list ≤ length output → KeptPast 0 (8 * length list) output (hostCall before R numbers output .output)
+    pub host-kept : 8 * length list ≤ length output → KeptPast 0 (8 * length list) output (called .output)
     host-kept h = record {
       size = ap length is ∙ length-written (numbersBytes list) output (omega (arith, long));
       past = λ i l. ap (λ (o : List ℕ). getD o i 0) is ∙ getD-written-past (numbersBytes list) output 0 i (omega (arith, long));
@@ -51,5 +76,26 @@ module _ (numbers : ℕ → ℕ → State → List ℤ) (output : List ℕ) wher
         long : length (numbersBytes list) ≡ 8 * length list
         long = length-numbersBytes list
 
-        is : hostCall before R numbers output .output ≡ numbersBytes list ++ drop (length (numbersBytes list)) output
+        is : called .output ≡ numbersBytes list ++ drop (length (numbersBytes list)) output
         is = host-output ∙ ap (λ (n : ℕ). numbersBytes list ++ drop n output) (sym long)
+
+-- on a sheet that is accepted where nothing is refused
+module _ {rule : Rule} (is : IsRule rule) (K : Sections) (p before : ℕ) (chains : before ≡ 0 → ChainComplex hostLimit K) (numbers : ℕ → ℕ → State → List ℤ)
+    (output : List ℕ) where
+  pub host-answers : before ≢ 13 → Answers before (GoesWide entryLimit rule K p) (hostCall before (reductionsOf rule K p) numbers output .number)
+  host-answers narrow =
+      rw (number numbers output before (reductionsOf rule K p)) (told-answers before (reductionsOf rule K p) narrow (λ e. reductionsOf-wide is K p (chains e)))
+
+  pub host-done : hostCall before (reductionsOf rule K p) numbers output .number ≡ 0 → HostDone rule K p before
+  host-done e =
+      let d = told-done before (reductionsOf rule K p) (sym (number numbers output before (reductionsOf rule K p)) ∙ e) in
+      let within = chains (d .passes) in record {
+        passes = d .passes;
+        rows = d .rows;
+        rank = d .rank;
+        state = d .state;
+        reductions = d .reductions;
+        right = reductionsOf-right is K p within (d .rows) (d .rank) (d .state) (d .reductions);
+        small = reductionsOf-within is K p within (d .rows) (d .rank) (d .state) (d .reductions);
+        few = omega (arith, within .within p);
+      }

@@ -18,7 +18,6 @@ use Rattle.sheet_format.specs.Sheet.{Bytes}
 use Rattle.reduction_steps.specs.State.{State, within}
 use Rattle.reduction_steps.specs.Pivot.{pivotRule}
 use Rattle.reduction_steps.specs.PivotLaws.{pivotRule-is-rule}
-use Rattle.reports.specs.Reductions.{reduced}
 use Rattle.reports.specs.Report.{freeRank, torsionCount, coordinateList}
 use Rattle.reports.specs.ReportLaws.{coordinates-fit}
 use Rattle.reports.specs.Call.{callChecks, chainChecks, coordinateSlots, workSlots, reductionsOf}
@@ -28,13 +27,12 @@ use Rattle.reports.specs.Host.{coefficientIn, otherLength, chainFrom, slotsIn, 
 use Rattle.answers.specs.Right.{slot}
 use Rattle.answers.specs.Wide.{GoesWide}
 use Rattle.answers.specs.Called.{Answers, KeptPast}
-use Rattle.answers.specs.TwoReductions.{Right}
 use Rattle.answers.specs.ChainChecks.{ChainPasses, chain-passes}
 use Rattle.answers.specs.Numbers.{coordinates-length}
 use Rattle.answers.specs.CoordinatesRight.{ReadsCoordinates}
-use Rattle.answers.specs.Calls.{told, told-answers, ToldDone, told-done, passed-chains, reductionsOf-wide, reductionsOf-right, reductionsOf-within}
+use Rattle.answers.specs.Calls.{passed-chains}
 use Rattle.answers.specs.Fits.{coordinates-word}
-use Rattle.answers.specs.HostCalls.{host-number, host-left, host-reads, host-kept}
+use Rattle.answers.specs.HostCalls.{host-left, host-reads, host-kept, HostDone, host-answers, host-done}
 
 -- a chain of n coefficients has those that its bytes give
 pub given-coefficient : (n : ℕ) (chain : List ℕ) → length (chainFrom n chain) ≡ n → (i : ℕ) → i < n → slot (chainFrom n chain) i ≡ coefficientIn chain i
@@ -74,68 +72,46 @@ module _ (b : List ℕ) (bytes : Bytes b) (p : ℕ) (chain output : List ℕ) wh
   chains : hostCoordinatesBefore ≡ 0 → ChainComplex hostLimit (chainCells b)
   chains e = passed-chains hostLimit b p coordinateSlots (slotsIn output) (workSlots (chainCells b) p) bytes (passed .0 e .0)
 
-  number : hostCoordinates b p chain output .number ≡ told hostCoordinatesBefore (reductionsOf pivotRule (chainCells b) p)
-  unfolding hostCoordinates
-  number = host-number numbers output hostCoordinatesBefore (reductionsOf pivotRule (chainCells b) p)
-
   pub host-coordinates-answer : Answers hostCoordinatesBefore (GoesWide entryLimit pivotRule (chainCells b) p) (hostCoordinates b p chain output .number)
+  unfolding hostCoordinates
   host-coordinates-answer =
-      rw number
-      (told-answers hostCoordinatesBefore (reductionsOf pivotRule (chainCells b) p)
+      host-answers pivotRule-is-rule (chainCells b) p hostCoordinatesBefore chains numbers output
       (call-chain-narrow hostLimit b p coordinateSlots (slotsIn output) (workSlots (chainCells b) p) coefficientLimit given)
-      (λ e. reductionsOf-wide pivotRule-is-rule (chainCells b) p (chains e)))
 
   pub host-coordinates-left : hostCoordinates b p chain output .number ≢ 0 → hostCoordinates b p chain output .output ≡ output
   unfolding hostCoordinates
-  host-coordinates-left d = host-left numbers output hostCoordinatesBefore (reductionsOf pivotRule (chainCells b) p) (rw number at d)
+  host-coordinates-left = host-left numbers output hostCoordinatesBefore (reductionsOf pivotRule (chainCells b) p)
 
   -- the chain is a cycle, and the two reductions behind its coordinates are right
   pub record HostCoordinated : Type 0 where
-    pub rows : ℕ
-    pub rank : ℕ
-    pub state : State
-    pub right : Right (chainCells b) p rows rank state
-    pub reductions : reductionsOf pivotRule (chainCells b) p ≡ reduced rows rank state
+    pub behind : HostDone pivotRule (chainCells b) p hostCoordinatesBefore
     pub chain-passed : ChainPasses coefficientLimit b p given
-    pub reads : ReadsCoordinates (chainCells b) p rows rank state given (numberAt (hostCoordinates b p chain output .output))
-    pub kept : KeptPast 0 (8 * (torsionCount rank state + freeRank rows rank)) output (hostCoordinates b p chain output .output)
+    pub reads : ReadsCoordinates (chainCells b) p (behind .rows) (behind .rank) (behind .state) given (numberAt (hostCoordinates b p chain output .output))
+    pub kept : KeptPast 0 (8 * (torsionCount (behind .rank) (behind .state) + freeRank (behind .rows) (behind .rank))) output
+        (hostCoordinates b p chain output .output)
 
   pub host-coordinated : hostCoordinates b p chain output .number ≡ 0 → HostCoordinated
   unfolding hostCoordinates
   host-coordinated e = record {
-    rows = d .rows;
-    rank = d .rank;
-    state = d .state;
-    right = right;
-    reductions = d .reductions;
+    behind = h;
     chain-passed = cycle;
     reads = record {
-      places = λ j l.
-          host-reads numbers output hostCoordinatesBefore (reductionsOf pivotRule (chainCells b) p) d j (omega (arith, coordinates-length right given))
-          (coordinates-word right small few given (cycle .small) j);
+      places = λ j l. host-reads numbers output h j (omega (arith, coordinates-length (h .right) given))
+          (coordinates-word (h .right) (h .small) (h .few) given (cycle .small) j);
     };
-    kept = rw (coordinates-length right given) at (host-kept numbers output hostCoordinatesBefore (reductionsOf pivotRule (chainCells b) p) d fits);
+    kept = rw (coordinates-length (h .right) given) at (host-kept numbers output h fits);
   }
     where
-      d : ToldDone hostCoordinatesBefore (reductionsOf pivotRule (chainCells b) p)
-      d = told-done hostCoordinatesBefore (reductionsOf pivotRule (chainCells b) p) (sym number ∙ e)
+      h : HostDone pivotRule (chainCells b) p hostCoordinatesBefore
+      h = host-done pivotRule-is-rule (chainCells b) p hostCoordinatesBefore chains numbers output e
 
       cycle : ChainPasses coefficientLimit b p given
-      cycle = chain-passes coefficientLimit b p given (passed .0 (d .passes) .1)
+      cycle = chain-passes coefficientLimit b p given (passed .0 (h .passes) .1)
 
-      right : Right (chainCells b) p (d .rows) (d .rank) (d .state)
-      right = reductionsOf-right pivotRule-is-rule (chainCells b) p (chains (d .passes)) (d .rows) (d .rank) (d .state) (d .reductions)
-
-      small : within entryLimit (d .state) ≡ true
-      small = reductionsOf-within pivotRule-is-rule (chainCells b) p (chains (d .passes)) (d .rows) (d .rank) (d .state) (d .reductions)
-
-      few : count (chainCells b) p ≤ libraryLimit
-      few = omega (arith, chains (d .passes) .within p)
-
-      fits : 8 * length (numbers (d .rows) (d .rank) (d .state)) ≤ length output
+      fits : 8 * length (numbers (h .rows) (h .rank) (h .state)) ≤ length output
       fits =
           omega (
             arith,
-            coordinates-fit (count (chainCells b) p) (d .rows) (d .state) given (right .rows-bound),
-            callChecks-zero hostLimit b p coordinateSlots (slotsIn output) (workSlots (chainCells b) p) .0 (passed .0 (d .passes) .0) .output-slots,
+            coordinates-fit (count (chainCells b) p) (h .rows) (h .state) given (h .right .rows-bound),
+            callChecks-zero hostLimit b p coordinateSlots (slotsIn output) (workSlots (chainCells b) p) .0 (passed .0 (h .passes) .0) .output-slots,
           )

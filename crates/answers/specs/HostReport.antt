@@ -15,7 +15,6 @@ use Rattle.sheet_format.specs.Sheet.{Bytes}
 use Rattle.reduction_steps.specs.State.{State, within}
 use Rattle.reduction_steps.specs.Pivot.{pivotRule}
 use Rattle.reduction_steps.specs.PivotLaws.{pivotRule-is-rule}
-use Rattle.reports.specs.Reductions.{reduced}
 use Rattle.reports.specs.Report.{freeRank, torsionCount, reportList}
 use Rattle.reports.specs.ReportLaws.{report-fits}
 use Rattle.reports.specs.Call.{callChecks, reportSlots, workSlots, reductionsOf}
@@ -25,12 +24,11 @@ use Rattle.reports.specs.Host.{slotsIn, hostReport, numberAt}
 use Rattle.answers.specs.Right.{reportLength}
 use Rattle.answers.specs.Wide.{GoesWide}
 use Rattle.answers.specs.Called.{Answers, KeptPast}
-use Rattle.answers.specs.TwoReductions.{Right}
 use Rattle.answers.specs.Numbers.{report-length}
 use Rattle.answers.specs.ReportRight.{Reads}
-use Rattle.answers.specs.Calls.{told, told-answers, ToldDone, told-done, passed-chains, reductionsOf-wide, reductionsOf-right, reductionsOf-within}
+use Rattle.answers.specs.Calls.{passed-chains}
 use Rattle.answers.specs.Fits.{report-word}
-use Rattle.answers.specs.HostCalls.{host-number, host-left, host-reads, host-kept}
+use Rattle.answers.specs.HostCalls.{host-left, host-reads, host-kept, HostDone, host-answers, host-done}
 
 module _ (b : List ℕ) (bytes : Bytes b) (p : ℕ) (output : List ℕ) where
   -- the refusals 1 to 9 of fildwuk_report, which has work slots enough
@@ -43,61 +41,40 @@ module _ (b : List ℕ) (bytes : Bytes b) (p : ℕ) (output : List ℕ) where
   chains : hostReportBefore ≡ 0 → ChainComplex hostLimit (chainCells b)
   chains = passed-chains hostLimit b p reportSlots (slotsIn output) (workSlots (chainCells b) p) bytes
 
-  number : hostReport b p output .number ≡ told hostReportBefore (reductionsOf pivotRule (chainCells b) p)
-  unfolding hostReport
-  number = host-number numbers output hostReportBefore (reductionsOf pivotRule (chainCells b) p)
-
   pub host-report-answers : Answers hostReportBefore (GoesWide entryLimit pivotRule (chainCells b) p) (hostReport b p output .number)
+  unfolding hostReport
   host-report-answers =
-      rw number
-      (told-answers hostReportBefore (reductionsOf pivotRule (chainCells b) p)
-      (callChecks-narrow hostLimit b p reportSlots (slotsIn output) (workSlots (chainCells b) p))
-      (λ e. reductionsOf-wide pivotRule-is-rule (chainCells b) p (chains e)))
+      host-answers pivotRule-is-rule (chainCells b) p hostReportBefore chains numbers output (callChecks-narrow hostLimit b p reportSlots (slotsIn output) (workSlots (chainCells b) p))
 
   pub host-report-left : hostReport b p output .number ≢ 0 → hostReport b p output .output ≡ output
   unfolding hostReport
-  host-report-left d = host-left numbers output hostReportBefore (reductionsOf pivotRule (chainCells b) p) (rw number at d)
+  host-report-left = host-left numbers output hostReportBefore (reductionsOf pivotRule (chainCells b) p)
 
   -- the two reductions behind a report that is done are right
   pub record HostReported : Type 0 where
-    pub rows : ℕ
-    pub rank : ℕ
-    pub state : State
-    pub right : Right (chainCells b) p rows rank state
-    pub reductions : reductionsOf pivotRule (chainCells b) p ≡ reduced rows rank state
-    pub reads : Reads (chainCells b) p rows rank state (numberAt (hostReport b p output .output))
-    pub kept : KeptPast 0 (8 * reportLength (chainCells b) p (freeRank rows rank) (torsionCount rank state)) output (hostReport b p output .output)
+    pub behind : HostDone pivotRule (chainCells b) p hostReportBefore
+    pub reads : Reads (chainCells b) p (behind .rows) (behind .rank) (behind .state) (numberAt (hostReport b p output .output))
+    pub kept : KeptPast 0 (8 * reportLength (chainCells b) p (freeRank (behind .rows) (behind .rank)) (torsionCount (behind .rank) (behind .state))) output
+        (hostReport b p output .output)
 
   pub host-reported : hostReport b p output .number ≡ 0 → HostReported
   unfolding hostReport
   host-reported e = record {
-    rows = d .rows;
-    rank = d .rank;
-    state = d .state;
-    right = right;
-    reductions = d .reductions;
+    behind = h;
     reads = record {
-      slots = λ i l. host-reads numbers output hostReportBefore (reductionsOf pivotRule (chainCells b) p) d i (omega (arith, report-length right)) (report-word right small few i);
+      slots = λ i l. host-reads numbers output h i (omega (arith, report-length (h .right)))
+          (report-word (h .right) (h .small) (h .few) i);
     };
-    kept = rw (report-length right) at (host-kept numbers output hostReportBefore (reductionsOf pivotRule (chainCells b) p) d fits);
+    kept = rw (report-length (h .right)) at (host-kept numbers output h fits);
   }
     where
-      d : ToldDone hostReportBefore (reductionsOf pivotRule (chainCells b) p)
-      d = told-done hostReportBefore (reductionsOf pivotRule (chainCells b) p) (sym number ∙ e)
+      h : HostDone pivotRule (chainCells b) p hostReportBefore
+      h = host-done pivotRule-is-rule (chainCells b) p hostReportBefore chains numbers output e
 
-      right : Right (chainCells b) p (d .rows) (d .rank) (d .state)
-      right = reductionsOf-right pivotRule-is-rule (chainCells b) p (chains (d .passes)) (d .rows) (d .rank) (d .state) (d .reductions)
-
-      small : within entryLimit (d .state) ≡ true
-      small = reductionsOf-within pivotRule-is-rule (chainCells b) p (chains (d .passes)) (d .rows) (d .rank) (d .state) (d .reductions)
-
-      few : count (chainCells b) p ≤ libraryLimit
-      few = omega (arith, chains (d .passes) .within p)
-
-      fits : 8 * length (numbers (d .rows) (d .rank) (d .state)) ≤ length output
+      fits : 8 * length (numbers (h .rows) (h .rank) (h .state)) ≤ length output
       fits =
           omega (
             arith,
-            report-fits (count (chainCells b) p) (d .rows) (d .rank) (d .state) (right .rank-bound) (right .rows-bound),
-            callChecks-zero hostLimit b p reportSlots (slotsIn output) (workSlots (chainCells b) p) .0 (d .passes) .output-slots,
+            report-fits (count (chainCells b) p) (h .rows) (h .rank) (h .state) (h .right .rank-bound) (h .right .rows-bound),
+            callChecks-zero hostLimit b p reportSlots (slotsIn output) (workSlots (chainCells b) p) .0 (h .passes) .output-slots,
           )

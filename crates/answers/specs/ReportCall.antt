@@ -1,5 +1,5 @@
--- The laws of `Calls` for the library's report call: what it answers (report-answers), what it leaves (report-left, report-work, report-kept), and
--- the numbers that stand in its output (report-reads).
+-- The laws of `Calls` for the library's report call: what it answers (report-answers), what it leaves (report-leaves), and the numbers that
+-- stand in its output (report-reads).
 use mathlib.Core.Path.{_≡_, _∙_, ap}
 use mathlib.Core.Logic.{_≢_}
 use mathlib.Core.List.{List}
@@ -24,10 +24,10 @@ use Rattle.reports.specs.WrittenLaws.{getD-written}
 use Rattle.reports.specs.CallLaws.{ReducedWith, call-output}
 use Rattle.answers.specs.Right.{slot, reportLength}
 use Rattle.answers.specs.Wide.{GoesWide}
-use Rattle.answers.specs.Called.{answerNumber, IsDone, Answers, KeptPast, WorkLeft}
+use Rattle.answers.specs.Called.{answerNumber, Answers, KeptPast, Leaves}
 use Rattle.answers.specs.Numbers.{report-length}
 use Rattle.answers.specs.ReportRight.{Reads}
-use Rattle.answers.specs.Calls.{told, told-answers, call-number, call-counted, output-left, output-kept, work-left, passed-chains, reductionsOf-wide, Answered, answered}
+use Rattle.answers.specs.Calls.{call-leaves, output-kept, passed-chains, call-answers, Answered, answered}
 
 module _ (limit : ℕ) (b : List ℕ) (p : ℕ) (report work : List ℤ) where
   -- the refusals 1 to 9 of the report call
@@ -46,24 +46,9 @@ module _ (limit : ℕ) (b : List ℕ) (p : ℕ) (report work : List ℤ) where
   report-chains : Bytes b → reportBefore ≡ 0 → ChainComplex limit (chainCells b)
   report-chains bytes = passed-chains limit b p reportSlots (length report) (length work) bytes
 
-  pub report-number : answerNumber (reportCalled .answer) ≡ told reportBefore (reductionsOf pivotRule (chainCells b) p)
-  unfolding reportCall
-  report-number = call-number reportNumbers report work reportBefore (reductionsOf pivotRule (chainCells b) p)
-
   pub report-answers : Bytes b → Answers reportBefore (GoesWide entryLimit pivotRule (chainCells b) p) (answerNumber (reportCalled .answer))
-  report-answers bytes = rw report-number (told-answers reportBefore (reductionsOf pivotRule (chainCells b) p) report-narrow (λ e. reductionsOf-wide pivotRule-is-rule (chainCells b) p (report-chains bytes e)))
-
-  pub report-counted : answerNumber (reportCalled .answer) ≡ 0 → IsDone (reportCalled .answer)
   unfolding reportCall
-  report-counted = call-counted reportNumbers report work reportBefore (reductionsOf pivotRule (chainCells b) p)
-
-  pub report-left : answerNumber (reportCalled .answer) ≢ 0 → reportCalled .output ≡ report
-  unfolding reportCall
-  report-left d = output-left reportNumbers report work reportBefore (reductionsOf pivotRule (chainCells b) p) (rw report-number at d)
-
-  pub report-work : WorkLeft (answerNumber (reportCalled .answer)) work (reportCalled .work)
-  unfolding reportCall
-  report-work = rw report-number (work-left reportNumbers report work reportBefore (reductionsOf pivotRule (chainCells b) p) report-narrow)
+  report-answers bytes = call-answers pivotRule-is-rule (chainCells b) p reportBefore report-narrow (report-chains bytes) reportNumbers report work
 
   pub report-output : reportBefore ≡ 0 → {counts : Counts} (c : ReducedWith (reductionsOf pivotRule (chainCells b) p) counts) → reportCalled .output ≡ written (reportList (count (chainCells b) p) (c .rows) (c .rank) (c .state)) report
   unfolding reportCall
@@ -87,7 +72,7 @@ module _ (limit : ℕ) (b : List ℕ) (p : ℕ) (report work : List ℤ) where
           ∙ getD-written (reportNumbers (c .rows) (c .rank) (c .state)) report (pos 0) i (omega (arith, report-length (report-answered .right)));
     }
 
-    pub report-kept : KeptPast (pos 0) (reportLength (chainCells b) p (counts .free) (counts .torsion)) report (reportCalled .output)
+    report-kept : KeptPast (pos 0) (reportLength (chainCells b) p (counts .free) (counts .torsion)) report (reportCalled .output)
     unfolding reportCall
     report-kept =
         output-kept reportNumbers report work reportBefore (reductionsOf pivotRule (chainCells b) p) (report-answered .passes) c (reportLength (chainCells b) p (counts .free) (counts .torsion)) size (le-trans fits slots)
@@ -97,3 +82,8 @@ module _ (limit : ℕ) (b : List ℕ) (p : ℕ) (report work : List ℤ) where
 
         slots : reportSlots (chainCells b) p ≤ length report
         slots = callChecks-zero limit b p reportSlots (length report) (length work) .0 (report-answered .passes) .output-slots
+
+  pub report-leaves : Bytes b → Leaves (reportLength (chainCells b) p) report work reportCalled
+  unfolding reportCall
+  report-leaves bytes =
+      call-leaves reportNumbers report work reportBefore (reductionsOf pivotRule (chainCells b) p) (reportLength (chainCells b) p) report-narrow (λ counts e. report-kept bytes e)

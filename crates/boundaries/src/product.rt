@@ -20,8 +20,8 @@ use faces::face::sign;
 use lines::line::Effect;
 use lines::matrix::Matrix;
 
-// The sum of sign t times the entry at places[t] of a line, over t below `faces`. The loop ends at a constant, so that the compiler keeps the places
-// in registers.
+// The sum of sign t times the entry at places[t] of a line, over t below `faces`. The loop has a constant length, so that the compiler
+// keeps the places in registers.
 fn line_product(w: &[i32], line: usize, width: usize, places: [usize; FACES], faces: usize) -> i64
     requires { ⌜ (line + width ≤ length (now w)) × Small (now w) × (faces ≤ suc top) ⌝ }
     requires { ⌜ ((t : ℕ) → t < faces → getD places t 0 < width) ⌝ }
@@ -30,11 +30,10 @@ fn line_product(w: &[i32], line: usize, width: usize, places: [usize; FACES], fa
     let mut total: i64 = 0;
     let mut t: usize = 0;
     while t < FACES {
-        if t == faces {
-            return total;
+        if t < faces {
+            let place = places[t];
+            total = total + w[line + place] as i64 * sign(t);
         }
-        let place = places[t];
-        total = total + w[line + place] as i64 * sign(t);
         t = t + 1;
     }
     total

@@ -1,33 +1,86 @@
--- What `admit` answered: admit-refused, the first of the checks 1 to 9; `Granted` (admit-granted), what they ask and the sizes of the dimension.
+-- What a call on a dimension was given (`Lent`), and what its callees answered.
+--     admit-refused, admit-granted     the first of the checks 1 to 9; `Granted`, what they ask, the sizes of the dimension and the chain complex
+--     twice-refused, twice-done        the two reductions went too wide; they left the state that is written
 use mathlib.Core.Path.{_≡_, subst}
 use mathlib.Core.List.{List}
-use Prim.Native.Nat.{ℕ}
+use Prim.Native.Nat.{ℕ, _≤_}
 use Rattle.complexes.specs.Complex.{Sections}
-use Rattle.sheet_format.specs.Check.{chainCells, first}
-use Rattle.reports.specs.Call.{callChecks}
+use Rattle.complexes.specs.ChainComplex.{ChainComplex}
+use lib.IntN.{ℤ}
+use lib.ListN.{length}
+use Rattle.reduction_steps.specs.Pivot.{pivotRule}
+use Rattle.sheet_format.specs.Sheet.{Bytes}
+use Rattle.sheet_format.specs.Check.{first, chainCells}
+use Rattle.limits.specs.Limits.{libraryLimit}
+use Rattle.faces.specs.Face.{Accepted}
+use Rattle.reports.specs.Call.{callChecks, reductionsOf}
 use Rattle.reports.specs.RefusalLaws.{Passed, callChecks-zero}
+use Rattle.reports.specs.Reductions.{Reductions, tooWide}
 use Rattle.refusal.specs.Number.{numberOf}
 use Rattle.refusal.specs.declared.Refusal.{Refusal}
+use Rattle.passes.specs.Answer.{Cleared}
+use Rattle.writers.specs.declared.reduced.Reduced.{Reduced}
+use Rattle.calls.specs.Slices.{ReducedTwice, TwiceReduced}
 use Rattle.calls.specs.Admission.{sizesIn, slotsFor, SizesRead, Admits}
 use Rattle.calls.specs.declared.admission.Sizes.{Sizes}
 use Rattle.calls.specs.declared.admission.Request.{Request}
 use Rattle.calls.specs.declared.admission.Admission.{Admission}
 use Rattle.calls.specs.declared.admission.Admission.the-variants.{Admitted, Refused}
+use Rattle.calls.specs.declared.reductions.Reductions as answer
+use Rattle.calls.specs.declared.reductions.Reductions.the-variants as variants
+use Rattle.calls.proofs.Sheet.{accepted-library, sheet-chains}
 
 -- the output slots that check 9 asks for
 abbrev pub slotsAsked : Request → Sections → ℕ → ℕ
 slotsAsked request K q = slotsFor request (sizesIn K q)
 
-module _ (limit : ℕ) (b : List ℕ) (p : ℕ) (request : Request) (output work : ℕ) where
+-- what a call on a dimension was given
+pub record Lent : Type 0 where
+  pub limit : ℕ
+  pub sheet : List ℕ
+  pub dimension : ℕ
+  pub output : List ℤ
+  pub work : List ℤ
+
+-- ---- the checks 1 to 9
+
+module _ (l : Lent) (request : Request) where
   pub record Granted (n : Sizes) : Type 0 where
-    pub passed : Passed limit b p (slotsAsked request) output work
-    pub sizes : SizesRead (chainCells b) p n
+    pub passed : Passed (l .limit) (l .sheet) (l .dimension) (slotsAsked request) (length (l .output)) (length (l .work))
+    pub sizes : SizesRead (chainCells (l .sheet)) (l .dimension) n
+    pub library : Accepted (l .sheet)
+    pub chains : ChainComplex libraryLimit (chainCells (l .sheet))
 
-  module _ (r : Admission) (h : Admits limit b p request output work r) where
-    pub admit-refused : {x : Refusal} → r ≡ Refused x → first (callChecks limit b p (slotsAsked request) output work) ≡ numberOf x
-    admit-refused e = subst (Admits limit b p request output work) e h
+  abbrev Answered : Admission → Type 0
+  Answered = Admits (l .limit) (l .sheet) (l .dimension) request (length (l .output)) (length (l .work))
 
-    pub admit-granted : {n : Sizes} → r ≡ Admitted n → Granted n
-    admit-granted e =
-        let k = subst (Admits limit b p request output work) e h in
-        record { passed = callChecks-zero limit b p (slotsAsked request) output work .0 (k .0); sizes = k .1 }
+  module _ (r : Admission) (h : Answered r) where
+    pub admit-refused : {x : Refusal} → r ≡ Refused x
+        → first (callChecks (l .limit) (l .sheet) (l .dimension) (slotsAsked request) (length (l .output)) (length (l .work))) ≡ numberOf x
+    admit-refused e = subst Answered e h
+
+    pub admit-granted : {n : Sizes} → l .limit ≤ libraryLimit → Bytes (l .sheet) → r ≡ Admitted n → Granted n
+    admit-granted within bytes e =
+        let k = subst Answered e h in
+        let passed = callChecks-zero (l .limit) (l .sheet) (l .dimension) (slotsAsked request) (length (l .output)) (length (l .work)) .0 (k .0) in
+        let library = accepted-library within (passed .accepted) in
+        record { passed = passed; sizes = k .1; library = library; chains = sheet-chains bytes library }
+
+-- ---- the two reductions
+
+module _ (l : Lent) where
+  abbrev pub twice : Reductions
+  twice = reductionsOf pivotRule (chainCells (l .sheet)) (l .dimension)
+
+  abbrev Twice : answer.Reductions → List ℤ → Type 0
+  Twice r w = TwiceReduced (chainCells (l .sheet)) (l .dimension) twice (length (l .work)) r w
+
+  abbrev pub Reduces : Reduced → List ℤ → Type 0
+  Reduces x w = ReducedTwice (chainCells (l .sheet)) (l .dimension) twice (length (l .work)) x w
+
+  module _ (r : answer.Reductions) {w : List ℤ} where
+    pub twice-done : {x : Reduced} → r ≡ variants.Done x → Twice r w → Reduces x w
+    twice-done e h = subst (λ (z : answer.Reductions). Twice z w) e h
+
+    pub twice-refused : {x : Refusal} → r ≡ variants.Refused x → Twice r w → (twice ≡ tooWide) × Cleared (length (l .work)) x w
+    twice-refused e h = subst (λ (z : answer.Reductions). Twice z w) e h

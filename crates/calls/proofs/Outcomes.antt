@@ -60,13 +60,6 @@ module _ (W : Layout) {y : Machine} {n : ℕ} {w : List ℤ} (x : Reduction) whe
   pub reduces-refused : {z : Refusal} → x ≡ reduction.Refused z → Reduces W y n x w → ReductionRefused y n z w
   reduces-refused e h = subst (λ (z : Reduction). Reduces W y n z w) e h
 
-module _ (K : Sections) (p : ℕ) (y : reports.Reductions) {n : ℕ} {w : List ℤ} (x : Reductions) where
-  pub twice-done : {z : Reduced} → x ≡ Done z → TwiceReduced K p y n x w → ReducedTwice K p y n z w
-  twice-done e h = subst (λ (z : Reductions). TwiceReduced K p y n z w) e h
-
-  pub twice-refused : {z : Refusal} → x ≡ Refused z → TwiceReduced K p y n x w → (y ≡ reports.tooWide) × Cleared n z w
-  twice-refused e h = subst (λ (z : Reductions). TwiceReduced K p y n z w) e h
-
 module _ {M : Matrix} {w w′ : List ℤ} {A : theory.Matrix} (x : Effect) where
   pub became-done : x ≡ written.Done → Became M w A x w′ → Holds M w A w′
   became-done e h = subst (λ (z : Effect). Became M w A z w′) e h

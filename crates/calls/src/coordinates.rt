@@ -26,10 +26,12 @@ pub fn coordinates_at(
     work: &mut [i32],
 ) -> Answer
     requires { ⌜ sheet .limit ≤ libraryLimit ⌝ }
-    ensures { λ r. ⌜
+    ensures { λ r.
+        let left = now (coordinates .exit) in
+        let work-left = now (work .exit) in ⌜
         CallAnswers
         (coordinateCall (sheet .limit) (now (s .entry)) dimension (now (chain .entry)) (now (coordinates .entry)) (now (work .entry)))
-        r (now (coordinates .exit)) (now (work .exit))
+        r left work-left
         ⌝ }
 {
     let sizes = match admit(
@@ -69,10 +71,12 @@ pub fn coordinates(
     coordinates: &mut [i64],
     work: &mut [i32],
 ) -> Answer
-    ensures { λ r. ⌜
+    ensures { λ r.
+        let left = now (coordinates .exit) in
+        let work-left = now (work .exit) in ⌜
         CallAnswers
         (coordinateCall libraryLimit (now (s .entry)) dimension (now (chain .entry)) (now (coordinates .entry)) (now (work .entry)))
-        r (now (coordinates .exit)) (now (work .exit))
+        r left work-left
         ⌝ }
 {
     coordinates_at(Sheet::library(), s, dimension, chain, coordinates, work)

@@ -23,9 +23,10 @@ pub fn report_at(
     work: &mut [i32],
 ) -> Answer
     requires { ⌜ sheet .limit ≤ libraryLimit ⌝ }
-    ensures { λ r. ⌜
-        CallAnswers (reportCall (sheet .limit) (now (s .entry)) dimension (now (report .entry)) (now (work .entry))) r
-        (now (report .exit)) (now (work .exit))
+    ensures { λ r.
+        let left = now (report .exit) in
+        let work-left = now (work .exit) in ⌜
+        CallAnswers (reportCall (sheet .limit) (now (s .entry)) dimension (now (report .entry)) (now (work .entry))) r left work-left
         ⌝ }
 {
     let sizes = match admit(
@@ -50,9 +51,10 @@ pub fn report_at(
 
 // The report of a dimension: document 01, "The report and the coordinates".
 pub fn report(s: &[u8], dimension: u32, report: &mut [i64], work: &mut [i32]) -> Answer
-    ensures { λ r. ⌜
-        CallAnswers (reportCall libraryLimit (now (s .entry)) dimension (now (report .entry)) (now (work .entry))) r
-        (now (report .exit)) (now (work .exit))
+    ensures { λ r.
+        let left = now (report .exit) in
+        let work-left = now (work .exit) in ⌜
+        CallAnswers (reportCall libraryLimit (now (s .entry)) dimension (now (report .entry)) (now (work .entry))) r left work-left
         ⌝ }
 {
     report_at(Sheet::library(), s, dimension, report, work)

@@ -1,16 +1,12 @@
 // The checks 2, 3, 5, 6 and 7 of document 01: first over one section, then over the sheet.
 ghost use mathlib.Core.Path.{_≡_};
 ghost use mathlib.Core.Bool.{false, not};
-ghost use Prim.Native.Nat.{suc, pred, _+_, _*_, _^_, _≤_, _<_};
-ghost use lib.Dec.{eqb, ltb};
-ghost use Rattle.complexes.specs.Cell as spec;
-ghost use Rattle.complexes.specs.Cell.{without, precedes, listed};
+ghost use Prim.Native.Nat.{suc, _+_, _*_, _^_, _≤_, _<_};
+ghost use Rattle.complexes.specs.Cell.{without, listed};
 ghost use Rattle.sheet_format.specs.Layout.{top};
 ghost use Rattle.sheet_format.specs.Check.{cellOf, cellsOf, sectionsOf, some, countExceeds, offsetDiffers, verticesDoNotRise, cellsDoNotRise, faceMissing};
 ghost use Rattle.cells.specs.Find.{Rising};
-use cells::cell::Order;
-use cells::cell::compare;
-use cells::cell::rises;
+use crate::rise::Rise;
 use cells::face::Found;
 use cells::face::find;
 use fields::field::TOP;
@@ -46,77 +42,18 @@ pub fn offset_differs(s: &[u8]) -> bool
     false
 }
 
-// Check 5 in the section of `many` cells of n vertices from byte `at` on.
-fn section_vertices_do_not_rise(s: &[u8], at: usize, n: usize, many: usize) -> bool
-    requires { ⌜ (at < 2 ^ 31) × (n ≤ suc top) × (many < 65536) ⌝ }
-    ensures { λ r. ⌜ r ≡ some many (λ i. not (spec.rises (cellOf (now (s .entry)) n (at + 2 * (n * i))))) ⌝ }
-{
-    let mut i: usize = 0;
-    while i < many {
-        if !rises(s, at + 2 * (n * i), n) {
-            return true;
-        }
-        i = i + 1;
-    }
-    false
-}
-
 // Check 5.
 pub fn vertices_do_not_rise(s: &[u8]) -> bool
     ensures { λ r. ⌜ r ≡ verticesDoNotRise (sectionsOf (now (s .entry))) ⌝ }
 {
-    let mut p: usize = 0;
-    while p <= TOP {
-        if section_vertices_do_not_rise(s, start(s, p), p + 1, count(s, p)) {
-            return true;
-        }
-        p = p + 1;
-    }
-    false
-}
-
-// Whether the cell of n vertices at byte a stands before the one at byte b.
-fn stands_before(s: &[u8], a: usize, b: usize, n: usize) -> bool
-    requires { ⌜ (a < 2 ^ 32) × (b < 2 ^ 32) × (n < 2 ^ 16) ⌝ }
-    ensures { λ r. ⌜ r ≡ precedes (cellOf (now (s .entry)) n a) (cellOf (now (s .entry)) n b) ⌝ }
-{
-    match compare(s, a, n, b, n) {
-        Order::Before => true,
-        Order::Same => false,
-        Order::After => false,
-    }
-}
-
-// Check 6 in one section.
-fn section_cells_do_not_rise(s: &[u8], at: usize, n: usize, many: usize) -> bool
-    requires { ⌜ (at < 2 ^ 31) × (n ≤ suc top) × (many < 65536) ⌝ }
-    ensures { λ r. ⌜
-        r ≡ some (pred many)
-        (λ i. not (precedes (cellOf (now (s .entry)) n (at + 2 * (n * i))) (cellOf (now (s .entry)) n (at + 2 * (n * suc i)))))
-        ⌝ }
-{
-    let mut i: usize = 0;
-    while i + 1 < many {
-        if !stands_before(s, at + 2 * (n * i), at + 2 * (n * (i + 1)), n) {
-            return true;
-        }
-        i = i + 1;
-    }
-    false
+    Rise::Vertices.fails(s)
 }
 
 // Check 6.
 pub fn cells_do_not_rise(s: &[u8]) -> bool
     ensures { λ r. ⌜ r ≡ cellsDoNotRise (sectionsOf (now (s .entry))) ⌝ }
 {
-    let mut p: usize = 0;
-    while p <= TOP {
-        if section_cells_do_not_rise(s, start(s, p), p + 1, count(s, p)) {
-            return true;
-        }
-        p = p + 1;
-    }
-    false
+    Rise::Cells.fails(s)
 }
 
 // Check 7 for one cell of n + 1 vertices at byte a, whose faces stand among the `many` cells from byte `at` on.

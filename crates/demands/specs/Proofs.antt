@@ -25,8 +25,8 @@ use Rattle.answers.specs.TwoReductions.{Right}
 use Rattle.answers.specs.ChainChecks.{not-a-cycle-iff}
 use Rattle.answers.specs.ReportRight.{Reads, report-is-right, has-counts, counts-unique}
 use Rattle.answers.specs.CoordinatesRight.{ReadsCoordinates, coordinates-decide, coordinates-combine, coordinates-reduced}
-use Rattle.answers.specs.ReportCall.{report-answers, report-counted, report-left, report-work, report-kept, report-answered, report-reads}
-use Rattle.answers.specs.CoordinateCall.{coordinates-answer, coordinates-counted, coordinates-left, coordinates-work, coordinates-kept, coordinates-answered, coordinates-read, chain-cycle}
+use Rattle.answers.specs.ReportCall.{report-answers, report-leaves, report-answered, report-reads}
+use Rattle.answers.specs.CoordinateCall.{coordinates-answer, coordinates-leave, coordinates-answered, coordinates-read, chain-cycle}
 use Rattle.answers.specs.HostReport.{host-report-answers, host-report-left, host-reported}
 use Rattle.answers.specs.HostCoordinates.{host-coordinates-answer, host-coordinates-left, host-coordinated, given-coefficient}
 use Rattle.answers.specs.ProgramText.{refused-iff, dimensions-printed}
@@ -52,20 +52,10 @@ notACycle = not-a-cycle-iff
 
 pub reportLeaves : ReportLeaves
 unfolding chainCells
-reportLeaves limit b p report work bytes = record {
-  counted = report-counted limit b p report work;
-  after-refusal = report-left limit b p report work;
-  past = λ counts e. report-kept limit b p report work bytes e;
-  work-left = report-work limit b p report work;
-}
+reportLeaves = report-leaves
 
 pub coordinatesLeave : CoordinatesLeave
-coordinatesLeave limit b p z coordinates work bytes = record {
-  counted = coordinates-counted limit b p z coordinates work;
-  after-refusal = coordinates-left limit b p z coordinates work;
-  past = λ counts e. coordinates-kept limit b p z coordinates work bytes e;
-  work-left = coordinates-work limit b p z coordinates work;
-}
+coordinatesLeave = coordinates-leave
 
 -- ==== Demand 2
 
@@ -135,12 +125,13 @@ coordinates-behind b p bytes _ _ (claims.CoordinatesOf.by-library limit z coordi
     }
 coordinates-behind b p bytes _ _ (claims.CoordinatesOf.by-host chain coordinates e) =
     let d = host-coordinated b bytes p chain coordinates e in
+    let R = d .behind in
     record {
-      rows = d .rows;
-      rank = d .rank;
-      state = d .state;
-      reductions = d .reductions;
-      right = d .right;
+      rows = R .rows;
+      rank = R .rank;
+      state = R .state;
+      reductions = R .reductions;
+      right = R .right;
       chain = chainFrom (count (sectionsOf b) p) chain;
       agrees = given-coefficient (count (sectionsOf b) p) chain (d .chain-passed .size);
       cycle = d .chain-passed .cycle;
@@ -183,7 +174,9 @@ report-behind b p bytes _ (claims.ReportOf.by-library limit report work counts e
       reads = report-reads limit b p report work bytes e;
     }
 report-behind b p bytes _ (claims.ReportOf.by-host report e) =
-    let d = host-reported b bytes p report e in record { rows = d .rows; rank = d .rank; state = d .state; reductions = d .reductions; reads = d .reads }
+    let d = host-reported b bytes p report e in
+    let R = d .behind in
+    record { rows = R .rows; rank = R .rank; state = R .state; reductions = R .reductions; reads = d .reads }
 
 pub coordinatesCombine : CoordinatesCombine
 coordinatesCombine b p bytes z c report of-z of-report f t counts =
@@ -228,10 +221,11 @@ pub hostReports : HostReports
 unfolding chainCells
 hostReports b p report bytes e =
     let d = host-reported b bytes p report e in
+    let R = d .behind in
     record {
-      free = freeRank (d .rows) (d .rank);
-      torsion = torsionCount (d .rank) (d .state);
-      is-right = report-is-right (d .right) (d .reads);
+      free = freeRank (R .rows) (R .rank);
+      torsion = torsionCount (R .rank) (R .state);
+      is-right = report-is-right (R .right) (d .reads);
       past = d .kept;
     }
 
@@ -239,7 +233,8 @@ pub hostCoordinateCounts : HostCoordinateCounts
 unfolding chainCells
 hostCoordinateCounts b p chain coordinates bytes e =
     let d = host-coordinated b bytes p chain coordinates e in
-    record { free = freeRank (d .rows) (d .rank); torsion = torsionCount (d .rank) (d .state); counts = has-counts (d .right); past = d .kept }
+    let R = d .behind in
+    record { free = freeRank (R .rows) (R .rank); torsion = torsionCount (R .rank) (R .state); counts = has-counts (R .right); past = d .kept }
 
 -- ==== The program
 

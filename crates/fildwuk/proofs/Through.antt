@@ -1,11 +1,11 @@
 -- From the library's calls to the host calls: what is answered and written where the library's call refused (report-refuses, coordinates-refuse) and
--- where it is done (report-writes, coordinates-write), and that the numbers have room (report-room, coordinates-room).
+-- where it is done (report-writes, coordinates-write), and that the numbers have room (report-room, coordinates-sizes, writable).
 use mathlib.Core.Path.{_≡_, sym, _∙_, ap}
 use mathlib.Core.List.{List, _++_}
-use Prim.Native.Nat.{ℕ, _+_, _*_, _≤_, min}
+use Prim.Native.Nat.{ℕ, _+_, _*_, _≤_, _<_, min}
 use native.Mathlib.Omega.{arith}
-use lib.ListN.{length, take, drop}
-use lib.Seq.{take-append-le}
+use lib.ListN.{length, getD, take, drop, length-append}
+use lib.Seq.{take-append-le, length-take-le}
 use lib.IntN.{ℤ}
 use Rattle.complexes.specs.Complex.{count}
 use Rattle.sheet_format.specs.Check.{chainCells, countField}
@@ -13,17 +13,76 @@ use Rattle.sheet_format.specs.Sheet.{Bytes}
 use Rattle.sheet_format.specs.SheetLaws.{count-chainCells}
 use Rattle.refusal.specs.declared.Refusal.{Refusal}
 use Rattle.refusal.specs.Number.{numberOf}
-use Rattle.reports.specs.Call.{reportCall, coordinateCall}
+use Rattle.reports.specs.Call.{Called, reportCall, coordinateCall}
 use Rattle.limits.specs.Limits.{hostLimit}
 use Rattle.reports.specs.Host.{HostCalled, numbersBytes, chainFrom, slotsIn, hostReport, hostCoordinates}
 use Rattle.reports.specs.HostCallLaws.{HostRefused, HostDone, reportRoom, coordinateRoom, workRoom, report-refused, report-done, coordinates-refused, coordinates-done}
 use Rattle.answers.specs.HostSizes.{ReportSized, CoordinatesSized, report-sized, coordinates-sized}
 use Rattle.writers.specs.declared.reduced.Counts.{Counts}
+use Rattle.calls.specs.declared.answer.Answer as library
 use Rattle.calls.specs.declared.answer.Answer.the-variants.{Done, Refused}
-use Rattle.calls.specs.Answer.{countsIn, CallAnswers}
+use Rattle.calls.specs.Answer.{countsIn, answered, CallAnswers}
 use Rattle.fildwuk.specs.Answer.{HostAnswers}
 
+-- ---- the slots that are lent
+
+-- a library's call at the host's limit, with the first `many` slots of the numbers lent for what the host's output is to hold
+pub record Lent (room : ℕ) : Type 0 where
+  pub limit : ℕ
+  pub sheet : List ℕ
+  pub dimension : ℕ
+  pub output : List ℕ
+  pub numbers : List ℤ
+  pub work : List ℤ
+  pub many : ℕ
+  pub host : limit ≡ hostLimit
+  pub bytes : Bytes sheet
+  pub lent : many ≡ min (slotsIn output) room
+  pub full : length numbers ≡ room
+  pub space : length work ≡ workRoom
+
+abbrev pub lend : (room : ℕ) {limit many : ℕ} (sheet : List ℕ) (dimension : ℕ) (output : List ℕ) (numbers work : List ℤ) → limit ≡ hostLimit
+    → ((i : ℕ) → getD sheet i 0 < 256) → many ≡ min (slotsIn output) room → length numbers ≡ room → length work ≡ workRoom → Lent room
+lend room {limit} {many} sheet dimension output numbers work host small lent full space = record {
+  limit = limit;
+  sheet = sheet;
+  dimension = dimension;
+  output = output;
+  numbers = numbers;
+  work = work;
+  many = many;
+  host = host;
+  bytes = record { small = small };
+  lent = lent;
+  full = full;
+  space = space;
+}
+
+pub lent-length : {room many : ℕ} (output : List ℕ) (numbers : List ℤ) → many ≡ min (slotsIn output) room → length numbers ≡ room
+    → length (take many numbers) ≡ many
+lent-length {many = many} output numbers lent full = length-take-le many numbers (omega (arith, lent, full))
+
+abbrev pub slots : {room : ℕ} → Lent room → List ℤ
+slots l = take (l .many) (l .numbers)
+
+-- the numbers after the call: what it left in the slots, before what follows them
+abbrev pub left : {room : ℕ} → Lent room → List ℤ → List ℤ
+left l after = after ++ drop (l .many) (l .numbers)
+
+pub size : {room : ℕ} (l : Lent room) → length (slots l) ≡ min (slotsIn (l .output)) room
+size l = lent-length (l .output) (l .numbers) (l .lent) (l .full) ∙ l .lent
+
+-- so many numbers of the slots can be written
+pub writable : {room : ℕ} (l : Lent room) (after : List ℤ) {n : ℕ} → n ≤ length (slots l) → length after ≡ length (slots l)
+    → (n ≤ length (left l after)) × (8 * n ≤ length (l .output))
+writable l after fits same = (omega (arith, fits, same, length-append after (drop (l .many) (l .numbers))), omega (arith, fits, size l))
+
 -- ---- either call
+
+-- what the library's call answers at the host's limit
+told : {limit : ℕ} (call : ℕ → Called) {r x : library.Answer} {after work : List ℤ} → limit ≡ hostLimit → CallAnswers (call limit) r after work → r ≡ x
+    → call hostLimit .answer ≡ answered x
+told call host a e = ap (λ (n : ℕ). call n .answer) (sym host) ∙ sym (a .answer) ∙ ap answered e
 
 refuses : {called : HostCalled} {k n : ℕ} {output : List ℕ} → HostRefused called k output → n ≡ k → HostAnswers called n output
 refuses h e = record { number-is = e ∙ sym (h .number-is); output-is = sym (h .output-is) }
@@ -40,55 +99,67 @@ writes {output = output} many numbers rest fits h e =
 
 -- ---- the report
 
-module _ (limit : ℕ) (host : limit ≡ hostLimit) (b : List ℕ) (p : ℕ) (output : List ℕ) (slots work : List ℤ)
-    (size : length slots ≡ min (slotsIn output) reportRoom) (space : length work ≡ workRoom) where
-  pub report-refuses : (x : Refusal) (after work′ : List ℤ) (n : ℕ) → CallAnswers (reportCall limit b p slots work) (Refused x) after work′ → n ≡ numberOf x
-      → HostAnswers (hostReport b p output) n output
-  report-refuses x after work′ n a e = refuses (report-refused b p output slots work size space (numberOf x) (rw host at (sym (a .answer)))) e
+module _ (l : Lent reportRoom) {r : library.Answer} {after work′ : List ℤ}
+    (a : CallAnswers (reportCall (l .limit) (l .sheet) (l .dimension) (slots l) (l .work)) r after work′) where
+  at-host : {x : library.Answer} → r ≡ x → reportCall hostLimit (l .sheet) (l .dimension) (slots l) (l .work) .answer ≡ answered x
+  at-host e = told (λ n. reportCall n (l .sheet) (l .dimension) (slots l) (l .work)) (l .host) a e
 
-  module _ (bytes : Bytes b) (x : Counts) (after work′ : List ℤ) (a : CallAnswers (reportCall limit b p slots work) (Done x) after work′) where
-    pub report-sizes : ReportSized b p slots (countsIn x)
-    report-sizes = report-sized b bytes p slots work (countsIn x) (rw host at (sym (a .answer)))
+  pub report-refuses : {x : Refusal} {n : ℕ} → r ≡ Refused x → n ≡ numberOf x → HostAnswers (hostReport (l .sheet) (l .dimension) (l .output)) n (l .output)
+  report-refuses {x} e is = refuses (report-refused (l .sheet) (l .dimension) (l .output) (slots l) (l .work) (size l) (l .space) (numberOf x) (at-host e)) is
 
-    module _ (cells many : ℕ) (is : cells ≡ countField b p) (all : many ≡ 2 + x .torsion + (x .torsion + x .free) * cells) where
-      cells-is : many ≡ 2 + x .torsion + (x .torsion + x .free) * count (chainCells b) p
-      cells-is = cc (all, is, count-chainCells b p)
+  module _ {x : Counts} (e : r ≡ Done x) where
+    pub report-sizes : ReportSized (l .sheet) (l .dimension) (slots l) (countsIn x)
+    report-sizes = report-sized (l .sheet) (l .bytes) (l .dimension) (slots l) (l .work) (countsIn x) (at-host e)
 
-      pub report-room : many ≤ length slots
-      report-room = omega (arith, cells-is, report-sizes .fits)
+    module _ {cells : ℕ} (is : cells ≡ countField (l .sheet) (l .dimension)) where
+      abbrev numbers-of : ℕ
+      numbers-of = 2 + x .torsion + (x .torsion + x .free) * cells
 
-      pub report-writes : (rest : List ℤ) (output′ : List ℕ) → length after ≡ length slots
-          → output′ ≡ numbersBytes (take many (after ++ rest)) ++ drop (8 * many) output → HostAnswers (hostReport b p output) 0 output′
-      report-writes rest output′ long e = writes many after rest (omega (arith, report-room)) done e
+      cells-are : numbers-of ≡ 2 + x .torsion + (x .torsion + x .free) * count (chainCells (l .sheet)) (l .dimension)
+      cells-are = cc (is, count-chainCells (l .sheet) (l .dimension))
+
+      pub report-room : 2 + x .torsion + (x .torsion + x .free) * cells ≤ length (slots l)
+      report-room = omega (arith, cells-are, report-sizes .fits)
+
+      pub report-writes : {output′ : List ℕ} → length after ≡ length (slots l)
+          → output′ ≡ numbersBytes (take numbers-of (left l after)) ++ drop (8 * numbers-of) (l .output)
+          → HostAnswers (hostReport (l .sheet) (l .dimension) (l .output)) 0 output′
+      report-writes same e′ = writes numbers-of after (drop (l .many) (l .numbers)) (omega (arith, report-room, same)) written e′
         where
-          done : HostDone (hostReport b p output) many after output
-          done =
-              rw (a .output-is, host)
-              (report-done b p output slots work size space many (rw host at (sym (a .answer))) (report-sizes .is-sized .counted)
-              (report-sizes .is-sized .report-size ∙ sym cells-is))
+          written : HostDone (hostReport (l .sheet) (l .dimension) (l .output)) numbers-of after (l .output)
+          written =
+              rw (a .output-is, l .host)
+              (report-done (l .sheet) (l .dimension) (l .output) (slots l) (l .work) (size l) (l .space) numbers-of (at-host e)
+              (report-sizes .is-sized .counted) (report-sizes .is-sized .report-size ∙ sym cells-are))
 
 -- ---- the coordinates
 
-module _ (limit : ℕ) (host : limit ≡ hostLimit) (b : List ℕ) (p : ℕ) (output : List ℕ) (z slots work : List ℤ)
-    (size : length slots ≡ min (slotsIn output) coordinateRoom) (space : length work ≡ workRoom) where
-  module _ (chain : List ℕ) (read : count (chainCells b) p ≤ hostLimit → z ≡ chainFrom (count (chainCells b) p) chain) where
-    pub coordinates-refuse : (x : Refusal) (after work′ : List ℤ) (n : ℕ) → CallAnswers (coordinateCall limit b p z slots work) (Refused x) after work′
-        → n ≡ numberOf x → HostAnswers (hostCoordinates b p chain output) n output
-    coordinates-refuse x after work′ n a e =
-        refuses (coordinates-refused b p chain output z slots work size space read (numberOf x) (rw host at (sym (a .answer)))) e
+-- z was read from the bytes of the chain
+abbrev pub ReadFrom : List ℕ → ℕ → List ℤ → List ℕ → Type 0
+ReadFrom b p z chain = count (chainCells b) p ≤ hostLimit → z ≡ chainFrom (count (chainCells b) p) chain
 
-  module _ (bytes : Bytes b) (x : Counts) (after work′ : List ℤ) (a : CallAnswers (coordinateCall limit b p z slots work) (Done x) after work′) where
-    pub coordinates-sizes : CoordinatesSized b p slots (countsIn x)
-    coordinates-sizes = coordinates-sized b bytes p z slots work (countsIn x) (rw host at (sym (a .answer)))
+module _ (l : Lent coordinateRoom) (z : List ℤ) {r : library.Answer} {after work′ : List ℤ}
+    (a : CallAnswers (coordinateCall (l .limit) (l .sheet) (l .dimension) z (slots l) (l .work)) r after work′) where
+  given : {x : library.Answer} → r ≡ x → coordinateCall hostLimit (l .sheet) (l .dimension) z (slots l) (l .work) .answer ≡ answered x
+  given e = told (λ n. coordinateCall n (l .sheet) (l .dimension) z (slots l) (l .work)) (l .host) a e
 
-    module _ (chain : List ℕ) (read : count (chainCells b) p ≤ hostLimit → z ≡ chainFrom (count (chainCells b) p) chain) where
-      pub coordinates-write : (rest : List ℤ) (output′ : List ℕ) → length after ≡ length slots
-          → output′ ≡ numbersBytes (take (x .torsion + x .free) (after ++ rest)) ++ drop (8 * (x .torsion + x .free)) output
-          → HostAnswers (hostCoordinates b p chain output) 0 output′
-      coordinates-write rest output′ long e = writes (x .torsion + x .free) after rest (omega (arith, coordinates-sizes .fits)) done e
-        where
-          done : HostDone (hostCoordinates b p chain output) (x .torsion + x .free) after output
-          done =
-              rw (a .output-is, host)
-              (coordinates-done b p chain output z slots work size space read (x .torsion + x .free) (rw host at (sym (a .answer)))
-              (coordinates-sizes .is-sized .counted) (coordinates-sizes .is-sized .coordinates-size z))
+  pub coordinates-refuse : {x : Refusal} {n : ℕ} → r ≡ Refused x → n ≡ numberOf x → (chain : List ℕ) → ReadFrom (l .sheet) (l .dimension) z chain
+      → HostAnswers (hostCoordinates (l .sheet) (l .dimension) chain (l .output)) n (l .output)
+  coordinates-refuse {x} e is chain read =
+      refuses (coordinates-refused (l .sheet) (l .dimension) chain (l .output) z (slots l) (l .work) (size l) (l .space) read (numberOf x) (given e)) is
+
+  module _ {x : Counts} (e : r ≡ Done x) where
+    pub coordinates-sizes : CoordinatesSized (l .sheet) (l .dimension) (slots l) (countsIn x)
+    coordinates-sizes = coordinates-sized (l .sheet) (l .bytes) (l .dimension) z (slots l) (l .work) (countsIn x) (given e)
+
+    pub coordinates-write : {output′ : List ℕ} → length after ≡ length (slots l)
+        → output′ ≡ numbersBytes (take (x .torsion + x .free) (left l after)) ++ drop (8 * (x .torsion + x .free)) (l .output)
+        → (chain : List ℕ) → ReadFrom (l .sheet) (l .dimension) z chain → HostAnswers (hostCoordinates (l .sheet) (l .dimension) chain (l .output)) 0 output′
+    coordinates-write same e′ chain read =
+        writes (x .torsion + x .free) after (drop (l .many) (l .numbers)) (omega (arith, coordinates-sizes .fits, same)) written e′
+      where
+        written : HostDone (hostCoordinates (l .sheet) (l .dimension) chain (l .output)) (x .torsion + x .free) after (l .output)
+        written =
+            rw (a .output-is, l .host)
+            (coordinates-done (l .sheet) (l .dimension) chain (l .output) z (slots l) (l .work) (size l) (l .space) read (x .torsion + x .free) (given e)
+            (coordinates-sizes .is-sized .counted) (coordinates-sizes .is-sized .coordinates-size z))

@@ -28,7 +28,10 @@ fn report_through(
     report: &mut [u8],
 ) -> u32
     requires { ⌜ (length (now numbers) ≡ reportRoom) × (length (now work) ≡ workRoom) ⌝ }
-    ensures { λ r. ⌜ HostAnswers (hostReport (now (sheet .entry)) dimension (now (report .entry))) r (now (report .exit)) ⌝ }
+    ensures { λ r.
+        let left = now (report .exit) in ⌜
+        HostAnswers (hostReport (now (sheet .entry)) dimension (now (report .entry))) r left
+        ⌝ }
 {
     let slots = smaller(report.len() / 8, REPORT_SLOTS);
     match report_at(Sheet::host(), sheet, dimension, &mut numbers[..slots], work) {
@@ -45,7 +48,10 @@ fn report_through(
 // The report of a dimension.
 #[no_mangle]
 pub extern "C" fn fildwuk_report(sheet: &[u8], dimension: u32, report: &mut [u8]) -> u32
-    ensures { λ r. ⌜ HostAnswers (hostReport (now (sheet .entry)) dimension (now (report .entry))) r (now (report .exit)) ⌝ }
+    ensures { λ r.
+        let left = now (report .exit) in ⌜
+        HostAnswers (hostReport (now (sheet .entry)) dimension (now (report .entry))) r left
+        ⌝ }
 {
     let mut work = [0i32; WORK_SLOTS];
     let mut numbers = [0i64; REPORT_SLOTS];
@@ -62,9 +68,9 @@ fn coordinates_through(
     coordinates: &mut [u8],
 ) -> u32
     requires { ⌜ (length (now numbers) ≡ coordinateRoom) × (length (now work) ≡ workRoom) ⌝ }
-    ensures { λ r. ⌜
-        AnswersChain (now (sheet .entry)) dimension (now (coefficients .entry)) (now (coordinates .entry)) r
-        (now (coordinates .exit))
+    ensures { λ r.
+        let left = now (coordinates .exit) in ⌜
+        AnswersChain (now (sheet .entry)) dimension (now (coefficients .entry)) (now (coordinates .entry)) r left
         ⌝ }
 {
     let slots = smaller(coordinates.len() / 8, CELLS);
@@ -92,9 +98,9 @@ pub extern "C" fn fildwuk_coordinates(
     chain: &[u8],
     coordinates: &mut [u8],
 ) -> u32
-    ensures { λ r. ⌜
-        HostAnswers (hostCoordinates (now (sheet .entry)) dimension (now (chain .entry)) (now (coordinates .entry))) r
-        (now (coordinates .exit))
+    ensures { λ r.
+        let left = now (coordinates .exit) in ⌜
+        HostAnswers (hostCoordinates (now (sheet .entry)) dimension (now (chain .entry)) (now (coordinates .entry))) r left
         ⌝ }
 {
     let mut work = [0i32; WORK_SLOTS];

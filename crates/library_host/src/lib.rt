@@ -23,10 +23,11 @@ pub extern "C" fn library_report(
     report: &mut [i64],
     work: &mut [i32],
 ) -> u32
-    ensures { λ r. ⌜
+    ensures { λ r.
+        let left = now (report .exit) in
+        let work-left = now (work .exit) in ⌜
         LibraryAnswers
-        (reportCall libraryLimit (now (sheet .entry)) dimension (now (report .entry)) (now (work .entry))) r
-        (now (report .exit)) (now (work .exit))
+        (reportCall libraryLimit (now (sheet .entry)) dimension (now (report .entry)) (now (work .entry))) r left work-left
         ⌝ }
 {
     number(calls::report::report(sheet, dimension, report, work))
@@ -41,10 +42,12 @@ pub extern "C" fn library_coordinates(
     coordinates: &mut [i64],
     work: &mut [i32],
 ) -> u32
-    ensures { λ r. ⌜
+    ensures { λ r.
+        let left = now (coordinates .exit) in
+        let work-left = now (work .exit) in ⌜
         LibraryAnswers
         (coordinateCall libraryLimit (now (sheet .entry)) dimension (now (chain .entry)) (now (coordinates .entry)) (now (work .entry)))
-        r (now (coordinates .exit)) (now (work .exit))
+        r left work-left
         ⌝ }
 {
     number(calls::coordinates::coordinates(sheet, dimension, chain, coordinates, work))

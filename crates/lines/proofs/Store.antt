@@ -83,16 +83,6 @@ module _ (w : List ℤ) (a b : ℕ) (a-inside : a < length w) (b-inside : b < le
   pub small-exchange : Small w → Small (exchange w a b)
   small-exchange s = small-set (set w a (at w b)) b (at w a) b-inside′ (small-set w a (at w b) a-inside s (s .bound b)) (s .bound a)
 
--- a line exchanged with itself
-pub swapped-one : (w : List ℤ) (first second width : ℕ) → first ≡ second → Small w → LinesSwapped w first second width w
-swapped-one w first second width e s = record {
-  same-length = refl;
-  on-first = λ t l. ap (λ (a : ℕ). at w (a + t)) e;
-  on-second = λ t l. ap (λ (a : ℕ). at w (a + t)) (sym e);
-  off = λ i o p. refl;
-  small = s;
-}
-
 pub swapped-none : (w : List ℤ) (first second : ℕ) → Small w → LinesSwapped w first second 0 w
 swapped-none w first second s = record {
   same-length = refl;

@@ -39,9 +39,3 @@ abbrev pub Alone : Matrix → List ℤ → theory.Operation → Type 0
 Alone M w (theory.subtract j k q) = AloneAt M w k
 Alone M w (theory.swap j k) = Unit {0}
 Alone M w (theory.negate k) = Unit {0}
-
--- 0 times a line is subtracted
-abbrev pub Identity : theory.Operation → Type 0
-Identity (theory.subtract i k q) = q ≡ pos 0
-Identity (theory.swap i k) = ⊥
-Identity (theory.negate k) = ⊥

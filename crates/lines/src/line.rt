@@ -127,9 +127,6 @@ pub fn swap(w: &mut [i32], first: usize, second: usize, width: usize) -> Effect
     requires { ⌜ Small (now w) ⌝ }
     ensures { λ r. ⌜ Swapped (now (w .entry)) first second width r (now (w .exit)) ⌝ }
 {
-    if first == second {
-        return Effect::Done;
-    }
     let mut t: usize = 0;
     while t < width {
         let x = w[first + t];

@@ -7,6 +7,7 @@ ghost use lib.IntN.{ℤ, pos};
 ghost use Rattle.limits.specs.Limits.{hostLimit};
 ghost use Rattle.reports.specs.Host.{numberBytes, numbersBytes, coefficientAt};
 ghost use Rattle.little_endian.specs.Bytes.{SameBits, ReadsChain};
+use fields::field::field;
 use sheet::reader::Sheet;
 
 // A chain has at most this many coefficients.
@@ -60,8 +61,8 @@ fn read_coefficient(b: &[u8], at: usize) -> i32
     requires { ⌜ at + 4 ≤ length (now b) ⌝ }
     ensures { λ r. ⌜ r ≡ coefficientAt (now (b .entry)) at ⌝ }
 {
-    let low = b[at] as u32 + 256 * b[at + 1] as u32;
-    let high = b[at + 2] as u32 + 256 * b[at + 3] as u32;
+    let low = field(b, at) as u32;
+    let high = field(b, at + 2) as u32;
     let n = low + 65536 * high;
     if n < 2147483648 {
         n as i32

@@ -1,20 +1,20 @@
--- An operation that subtracts 0 times a line leaves the matrix and its companions as they are: `unchanged`, and so `rows-unchanged`,
--- `columns-unchanged`.
+-- An operation that subtracts 0 times a line, or exchanges a line with itself, leaves the matrix and its companions as they are: `unchanged`, and so
+-- `rows-unchanged`, `columns-unchanged`.
 use mathlib.Core.Path.{_≡_, refl, sym, ap, _∙_}
 use mathlib.Core.List.{List}
-use Prim.Native.Nat.{ℕ}
+use Prim.Native.Nat.{ℕ, _<_}
 use native.Mathlib.Decide.{ℕ-discrete}
-use lib.IntN.{ℤ, negℤ}
+use lib.IntN.{ℤ, pos, negℤ}
 use Rattle.integers.specs.Ring.{zero-mul, add-zero}
 use Rattle.matrices.specs.Matrix.{transpose}
 use Rattle.matrices.specs.Matrix as theory
 use Rattle.matrices.specs.Operation.{Operation, subtract, swap, negate, onRows, onColumns, inverse}
-use Rattle.matrices.specs.OperationLaws.{onRows-subtract-at, onRows-subtract-other}
+use Rattle.matrices.specs.OperationLaws.{onRows-subtract-at, onRows-subtract-other, onRows-swap-first, onRows-swap-other}
 use lib.ListN.{length}
 use Rattle.reduction_steps.specs.State.{made, onRow, onColumn}
 use Rattle.lines.specs.Slice.{limit, Small}
 use Rattle.lines.specs.Matrices.{contents, Holds}
-use Rattle.lines.specs.Operations.{Identity, Fits}
+use Rattle.lines.specs.Operations.{Fits}
 use Rattle.lines.specs.declared.matrix.Matrix.{Matrix}
 use Rattle.lines.specs.declared.line.Effect.the-variants.{Done}
 use Rattle.operations.specs.Laid.{Laid, sizesOf, stateOf}
@@ -22,13 +22,23 @@ use Rattle.operations.specs.declared.layout.Layout.{Layout}
 use Rattle.operations.proofs.Side.{Side, rows, columns, follower, undone, onSide}
 use Rattle.operations.proofs.Operate.{ends, Task, Comes}
 
+-- it changes nothing
+abbrev pub Identity : Operation → Type 0
+Identity (subtract i k q) = q ≡ pos 0
+Identity (swap i k) = i ≡ k
+Identity (negate k) = ⊥
+
 onRows-identity : (op : Operation) → Identity op → (A : theory.Matrix) (a b : ℕ) → onRows op A a b ≡ A a b
 onRows-identity (subtract i k q) e A a b = pick (ℕ-discrete a i)
   where
     pick : Dec (a ≡ i) → onRows (subtract i k q) A a b ≡ A a b
     pick (yes same) = rw same (onRows-subtract-at i k q A b ∙ rw (e, zero-mul (A k b), add-zero (A i b)))
     pick (no d) = onRows-subtract-other i k q A a b d
-onRows-identity (swap i k) e A a b = absurd e
+onRows-identity (swap i k) e A a b = pick (ℕ-discrete a i)
+  where
+    pick : Dec (a ≡ i) → onRows (swap i k) A a b ≡ A a b
+    pick (yes same) = rw same (onRows-swap-first i k A b ∙ ap (λ (x : ℕ). A x b) (sym e))
+    pick (no d) = onRows-swap-other i k A a b d (λ f. d (f ∙ sym e))
 onRows-identity (negate k) e A a b = absurd e
 
 onSide-identity : (x : Side) (op : Operation) → Identity op → (A : theory.Matrix) (a b : ℕ) → onSide x op A a b ≡ A a b
@@ -55,7 +65,7 @@ unchanged t s e =
     Done
     (holds-same (undone x W) w (onRows (inverse op) (contents (undone x W) w)) s (onRows-identity (inverse op) (identity-inverse op e) (contents (undone x W) w)))
 
--- ---- what the passes need: no operation is called where the quotient is 0
+-- ---- what the passes need: no operation is called where it would change nothing
 
 module _ (W : Layout) (w : List ℤ) (laid : Laid (length w) W) (small : Small w) (op : Operation) (identity : Identity op) where
   pub rows-unchanged : Fits (W .matrix .lines) op → onRow limit (sizesOf W) op (stateOf W w) ≡ made (stateOf W w)
@@ -63,3 +73,7 @@ module _ (W : Layout) (w : List ℤ) (laid : Laid (length w) W) (small : Small w
 
   pub columns-unchanged : Fits (W .matrix .width) op → onColumn limit (sizesOf W) op (stateOf W w) ≡ made (stateOf W w)
   columns-unchanged fits = sym (unchanged (record { side = columns; operation = op; layout = W; slice = w; laid = laid; fits = fits }) small identity .outcome)
+
+-- an exchange of two of n lines
+pub swap-fits : {n : ℕ} (i k : ℕ) → (i < n) × (k < n) → Fits n (swap i k)
+swap-fits i k bounds = record { within = record { first = bounds .0; second = bounds .1 }; factor = tt }

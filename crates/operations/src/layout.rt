@@ -2,6 +2,7 @@
 ghost use mathlib.Core.Path.{_≡_};
 ghost use Prim.Native.Nat.{_+_, _*_, _<_, _≤_, max};
 ghost use lib.ListN.{length};
+ghost use Rattle.matrices.specs.Operation.{swap};
 ghost use Rattle.reduction_steps.specs.State.{onRow, onColumn};
 ghost use Rattle.lines.specs.Slice.{limit, Small};
 ghost use Rattle.lines.specs.Operations.{operationOf, Fits, Alone};
@@ -143,5 +144,31 @@ impl Layout {
             return Effect::TooWide;
         };
         self.column_inverse.on_lines(w, inverse)
+    }
+
+    // Exchanges rows i and k. A row is not exchanged with itself.
+    pub fn swap_rows(self, w: &mut [i32], i: usize, k: usize) -> Effect
+        requires { ⌜ Laid (length (now w)) self ⌝ }
+        requires { ⌜ Small (now w) ⌝ }
+        requires { ⌜ (i < self .matrix .lines) × (k < self .matrix .lines) ⌝ }
+        ensures { λ r. ⌜ Operated self (onRow limit (sizesOf self) (swap i k) (stateOf self (now (w .entry)))) r (now (w .exit)) ⌝ }
+    {
+        if i == k {
+            return Effect::Done;
+        }
+        self.on_rows(w, Operation::Swap(i, k))
+    }
+
+    // The same on columns.
+    pub fn swap_columns(self, w: &mut [i32], j: usize, k: usize) -> Effect
+        requires { ⌜ Laid (length (now w)) self ⌝ }
+        requires { ⌜ Small (now w) ⌝ }
+        requires { ⌜ (j < self .matrix .width) × (k < self .matrix .width) ⌝ }
+        ensures { λ r. ⌜ Operated self (onColumn limit (sizesOf self) (swap j k) (stateOf self (now (w .entry)))) r (now (w .exit)) ⌝ }
+    {
+        if j == k {
+            return Effect::Done;
+        }
+        self.on_columns(w, Operation::Swap(j, k))
     }
 }

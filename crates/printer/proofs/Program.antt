@@ -1,35 +1,24 @@
 -- The text of a sheet: the line of its refusal (refused-text), or the texts of its dimensions (accepted-text).
 use mathlib.Core.Path.{_≡_, refl, sym, _∙_, ap, subst}
 use mathlib.Core.List.{List}
-use Prim.Native.Nat.{ℕ, zero, suc}
+use Prim.Native.Nat.{ℕ, zero, suc, _<_}
 use native.Mathlib.Omega.{arith}
 use Rattle.sheet_format.specs.Layout.{top}
 use Rattle.sheet_format.specs.Check.{refusal}
 use Rattle.refusal.specs.declared.Refusal.{Refusal}
-use Rattle.refusal.specs.declared.Refusal.the-variants.{SheetTooShort, CountExceedsLimit, OffsetDiffers, LengthDiffers, VerticesDoNotRise, CellsDoNotRise, FaceMissing, DimensionExceedsTop, SliceTooShort, ChainLengthDiffers, CoefficientExceedsLimit, BoundaryNotZero, TooWide}
 use Rattle.refusal.specs.Number.{numberOf}
+use Rattle.refusal.specs.NumberLaws.{number-positive}
 use Rattle.limits.specs.Limits.{hostLimit}
 use Rattle.reports.specs.Text.{refusalLine, dimensionsText, textFor, programText}
 use Rattle.text.specs.Put.{PutsWithin}
 use Rattle.text.specs.Room.{lineRoom, textRoom}
 use Rattle.text.specs.PutLaws.{within-more}
 
--- the text for the number of a refusal is its line
-textFor-number : (b : List ℕ) (x : Refusal) → textFor (numberOf x) b ≡ refusalLine (numberOf x)
+-- the text for a number other than 0 is the line of a refusal
+textFor-positive : (b : List ℕ) (n : ℕ) → 0 < n → textFor n b ≡ refusalLine n
 unfolding textFor
-textFor-number b SheetTooShort = refl
-textFor-number b CountExceedsLimit = refl
-textFor-number b OffsetDiffers = refl
-textFor-number b LengthDiffers = refl
-textFor-number b VerticesDoNotRise = refl
-textFor-number b CellsDoNotRise = refl
-textFor-number b FaceMissing = refl
-textFor-number b DimensionExceedsTop = refl
-textFor-number b SliceTooShort = refl
-textFor-number b ChainLengthDiffers = refl
-textFor-number b CoefficientExceedsLimit = refl
-textFor-number b BoundaryNotZero = refl
-textFor-number b TooWide = refl
+textFor-positive b zero h = absurd (omega arith)
+textFor-positive b (suc n) h = refl
 
 module _ (b : List ℕ) {at r : ℕ} {out out′ : List ℕ} where
   pub refused-text : (x : Refusal) → refusal hostLimit b ≡ numberOf x → PutsWithin (lineRoom 1) (refusalLine (numberOf x)) at out r out′
@@ -38,7 +27,7 @@ module _ (b : List ℕ) {at r : ℕ} {out out′ : List ℕ} where
   refused-text x e puts = subst (λ (text : List ℕ). PutsWithin textRoom text at out r out′) same (within-more (omega arith) puts)
     where
       same : refusalLine (numberOf x) ≡ textFor (refusal hostLimit b) b
-      same = sym (textFor-number b x) ∙ ap (λ (n : ℕ). textFor n b) (sym e)
+      same = sym (textFor-positive b (numberOf x) (number-positive x)) ∙ ap (λ (n : ℕ). textFor n b) (sym e)
 
   pub accepted-text : refusal hostLimit b ≡ 0 → PutsWithin textRoom (dimensionsText b (suc top) 0) at out r out′ → PutsWithin textRoom (programText b) at out r out′
   unfolding programText textFor

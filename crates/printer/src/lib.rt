@@ -104,8 +104,10 @@ fn print_first(bytes: &[u8], n: usize, out: &mut [u8; TEXT_ROOM]) -> usize
 // Writes what the program prints for an input b. The first n bytes of `input` are those of b: all of b where it is shorter than the array, and as
 // many as the array has where it is not.
 pub fn print_input(input: &[u8; INPUT_ROOM], n: usize, out: &mut [u8; TEXT_ROOM]) -> usize
-    ensures { λ r. ⌜
-        ((b : List ℕ) → take (length (now (input .entry))) b ≡ take n (now (input .entry)) → PutsWithin textRoom (programText b) 0 (now (out .entry)) r (now (out .exit)))
+    ensures { λ r.
+        let held = now (input .entry) in
+        let left = now (out .exit) in ⌜
+        ((b : List ℕ) → take (length held) b ≡ take n held → PutsWithin textRoom (programText b) 0 (now (out .entry)) r left)
         ⌝ }
 {
     print_first(input, n, out)

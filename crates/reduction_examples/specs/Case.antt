@@ -35,16 +35,33 @@ good-eq c t = sameMachine-eq (reduce (c .limit) (c .sizes) release1 (c .start)) 
 abbrev pub minus : ℕ → ℤ
 minus n = negℤ (pos n)
 
--- m rows and n columns with four square companions, which start as identities
+-- m rows and n columns with four square companions, with those of the rows, with those of the columns, and without any
 abbrev pub withAll : ℕ → ℕ → Sizes
 withAll m n = record { rows = m; columns = n; rowFollower = m; rowInverse = m; columnFollower = n; columnInverse = n }
 
-abbrev pub identities : ℕ → ℕ → Table → State
-identities m n A = record { matrix = A; rowFollower = table m m identity; rowInverse = table m m identity; columnFollower = table n n identity; columnInverse = table n n identity }
+abbrev pub withRows : ℕ → ℕ → Sizes
+withRows m n = record { rows = m; columns = n; rowFollower = m; rowInverse = m; columnFollower = 0; columnInverse = 0 }
 
--- m rows and n columns without companions
+abbrev pub withColumns : ℕ → ℕ → Sizes
+withColumns m n = record { rows = m; columns = n; rowFollower = 0; rowInverse = 0; columnFollower = n; columnInverse = n }
+
 abbrev pub alone : ℕ → ℕ → Sizes
 alone m n = record { rows = m; columns = n; rowFollower = 0; rowInverse = 0; columnFollower = 0; columnInverse = 0 }
 
+-- a matrix whose companions, of these sizes, are identities
+abbrev pub identities : Sizes → Table → State
+identities z A = record {
+  matrix = A;
+  rowFollower = table (z .rows) (z .rowFollower) identity;
+  rowInverse = table (z .rows) (z .rowInverse) identity;
+  columnFollower = table (z .columns) (z .columnFollower) identity;
+  columnInverse = table (z .columns) (z .columnInverse) identity;
+}
+
+-- a case that starts so
+abbrev pub fromIdentities : ℕ → Sizes → Table → Machine → Case
+fromIdentities limit z A expected = record { limit = limit; sizes = z; start = identities z A; expected = expected }
+
+-- m rows and n columns without companions
 abbrev pub bare : ℕ → ℕ → Table → State
-bare m n A = record { matrix = A; rowFollower = table m 0 identity; rowInverse = table m 0 identity; columnFollower = table n 0 identity; columnInverse = table n 0 identity }
+bare m n A = identities (alone m n) A

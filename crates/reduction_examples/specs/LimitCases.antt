@@ -3,171 +3,78 @@
 use mathlib.Core.List.{List, [], _∷_}
 use lib.IntN.{pos}
 use Rattle.reduction_steps.specs.Step.{done, wide}
-use Rattle.reduction_examples.specs.Case.{Case, minus, withAll, identities, alone, bare}
+use Rattle.reduction_examples.specs.Case.{Case, minus, alone, fromIdentities, bare}
 
 abbrev pub limits : List Case
 limits =
     -- at the limit
-    record {
-      limit = 20;
-      sizes = alone 2 2;
-      start = bare 2 2 ((pos 1 ∷ pos 1 ∷ []) ∷ (minus 1 ∷ pos 19 ∷ []) ∷ []);
-      expected = done 2 (bare 2 2 ((pos 1 ∷ pos 0 ∷ []) ∷ (pos 0 ∷ pos 20 ∷ []) ∷ []));
-    }
+    fromIdentities 20 (alone 2 2)
+    ((pos 1 ∷ pos 1 ∷ []) ∷ (minus 1 ∷ pos 19 ∷ []) ∷ [])
+    (done 2 (bare 2 2 ((pos 1 ∷ pos 0 ∷ []) ∷ (pos 0 ∷ pos 20 ∷ []) ∷ [])))
     -- beyond the limit in the matrix
-    ∷ record {
-      limit = 20;
-      sizes = alone 2 2;
-      start = bare 2 2 ((pos 1 ∷ pos 1 ∷ []) ∷ (minus 1 ∷ pos 20 ∷ []) ∷ []);
-      expected = wide;
-    }
+    ∷ fromIdentities 20 (alone 2 2) ((pos 1 ∷ pos 1 ∷ []) ∷ (minus 1 ∷ pos 20 ∷ []) ∷ []) wide
     -- at the limit below 0
-    ∷ record {
-      limit = 20;
-      sizes = alone 2 2;
-      start = bare 2 2 ((pos 1 ∷ pos 1 ∷ []) ∷ (pos 1 ∷ minus 19 ∷ []) ∷ []);
-      expected = done 2 (bare 2 2 ((pos 1 ∷ pos 0 ∷ []) ∷ (pos 0 ∷ pos 20 ∷ []) ∷ []));
-    }
+    ∷ fromIdentities 20 (alone 2 2)
+    ((pos 1 ∷ pos 1 ∷ []) ∷ (pos 1 ∷ minus 19 ∷ []) ∷ [])
+    (done 2 (bare 2 2 ((pos 1 ∷ pos 0 ∷ []) ∷ (pos 0 ∷ pos 20 ∷ []) ∷ [])))
     -- beyond the limit below 0
-    ∷ record {
-      limit = 20;
-      sizes = alone 2 2;
-      start = bare 2 2 ((pos 1 ∷ pos 1 ∷ []) ∷ (pos 1 ∷ minus 20 ∷ []) ∷ []);
-      expected = wide;
-    }
+    ∷ fromIdentities 20 (alone 2 2) ((pos 1 ∷ pos 1 ∷ []) ∷ (pos 1 ∷ minus 20 ∷ []) ∷ []) wide
     -- beyond the limit on the way alone
-    ∷ record {
-      limit = 20;
-      sizes = alone 3 2;
-      start = bare 3 2 ((pos 1 ∷ pos 15 ∷ []) ∷ (minus 1 ∷ pos 10 ∷ []) ∷ (pos 0 ∷ pos 1 ∷ []) ∷ []);
-      expected = wide;
-    }
+    ∷ fromIdentities 20 (alone 3 2) ((pos 1 ∷ pos 15 ∷ []) ∷ (minus 1 ∷ pos 10 ∷ []) ∷ (pos 0 ∷ pos 1 ∷ []) ∷ []) wide
     -- beyond the limit in the row follower
-    ∷ record {
-      limit = 9;
-      sizes = record { rows = 3; columns = 1; rowFollower = 3; rowInverse = 0; columnFollower = 0; columnInverse = 0 };
-      start = record {
-        matrix = (pos 9 ∷ []) ∷ (pos 6 ∷ []) ∷ (minus 7 ∷ []) ∷ [];
-        rowFollower = (pos 1 ∷ pos 0 ∷ pos 0 ∷ []) ∷ (pos 0 ∷ pos 1 ∷ pos 0 ∷ []) ∷ (pos 0 ∷ pos 0 ∷ pos 1 ∷ []) ∷ [];
-        rowInverse = [] ∷ [] ∷ [] ∷ [];
-        columnFollower = [] ∷ [];
-        columnInverse = [] ∷ [];
-      };
-      expected = wide;
-    }
+    ∷ fromIdentities 9 (record { rows = 3; columns = 1; rowFollower = 3; rowInverse = 0; columnFollower = 0; columnInverse = 0 })
+    ((pos 9 ∷ []) ∷ (pos 6 ∷ []) ∷ (minus 7 ∷ []) ∷ [])
+    wide
     -- the same matrix with the other companions
-    ∷ record {
-      limit = 9;
-      sizes = record { rows = 3; columns = 1; rowFollower = 0; rowInverse = 3; columnFollower = 1; columnInverse = 1 };
-      start = record {
-        matrix = (pos 9 ∷ []) ∷ (pos 6 ∷ []) ∷ (minus 7 ∷ []) ∷ [];
-        rowFollower = [] ∷ [] ∷ [] ∷ [];
-        rowInverse = (pos 1 ∷ pos 0 ∷ pos 0 ∷ []) ∷ (pos 0 ∷ pos 1 ∷ pos 0 ∷ []) ∷ (pos 0 ∷ pos 0 ∷ pos 1 ∷ []) ∷ [];
-        columnFollower = (pos 1 ∷ []) ∷ [];
-        columnInverse = (pos 1 ∷ []) ∷ [];
-      };
-      expected = done 1 (record {
-        matrix = (pos 1 ∷ []) ∷ (pos 0 ∷ []) ∷ (pos 0 ∷ []) ∷ [];
-        rowFollower = [] ∷ [] ∷ [] ∷ [];
-        rowInverse = (pos 9 ∷ pos 6 ∷ minus 7 ∷ []) ∷ (pos 1 ∷ pos 1 ∷ minus 2 ∷ []) ∷ (pos 3 ∷ pos 2 ∷ minus 2 ∷ []) ∷ [];
-        columnFollower = (pos 1 ∷ []) ∷ [];
-        columnInverse = (pos 1 ∷ []) ∷ [];
-      });
-    }
+    ∷ fromIdentities 9 (record { rows = 3; columns = 1; rowFollower = 0; rowInverse = 3; columnFollower = 1; columnInverse = 1 })
+    ((pos 9 ∷ []) ∷ (pos 6 ∷ []) ∷ (minus 7 ∷ []) ∷ [])
+    (done 1 (record {
+      matrix = (pos 1 ∷ []) ∷ (pos 0 ∷ []) ∷ (pos 0 ∷ []) ∷ [];
+      rowFollower = [] ∷ [] ∷ [] ∷ [];
+      rowInverse = (pos 9 ∷ pos 6 ∷ minus 7 ∷ []) ∷ (pos 1 ∷ pos 1 ∷ minus 2 ∷ []) ∷ (pos 3 ∷ pos 2 ∷ minus 2 ∷ []) ∷ [];
+      columnFollower = (pos 1 ∷ []) ∷ [];
+      columnInverse = (pos 1 ∷ []) ∷ [];
+    }))
     -- beyond the limit in the inverse of the row follower
-    ∷ record {
-      limit = 9;
-      sizes = record { rows = 4; columns = 1; rowFollower = 0; rowInverse = 4; columnFollower = 0; columnInverse = 0 };
-      start = record {
-        matrix = (minus 5 ∷ []) ∷ (pos 0 ∷ []) ∷ (pos 6 ∷ []) ∷ (minus 6 ∷ []) ∷ [];
-        rowFollower = [] ∷ [] ∷ [] ∷ [] ∷ [];
-        rowInverse = (pos 1 ∷ pos 0 ∷ pos 0 ∷ pos 0 ∷ []) ∷ (pos 0 ∷ pos 1 ∷ pos 0 ∷ pos 0 ∷ []) ∷ (pos 0 ∷ pos 0 ∷ pos 1 ∷ pos 0 ∷ []) ∷ (pos 0 ∷ pos 0 ∷ pos 0 ∷ pos 1 ∷ []) ∷ [];
-        columnFollower = [] ∷ [];
-        columnInverse = [] ∷ [];
-      };
-      expected = wide;
-    }
+    ∷ fromIdentities 9 (record { rows = 4; columns = 1; rowFollower = 0; rowInverse = 4; columnFollower = 0; columnInverse = 0 })
+    ((minus 5 ∷ []) ∷ (pos 0 ∷ []) ∷ (pos 6 ∷ []) ∷ (minus 6 ∷ []) ∷ [])
+    wide
     -- the same matrix with the other companions
-    ∷ record {
-      limit = 9;
-      sizes = record { rows = 4; columns = 1; rowFollower = 4; rowInverse = 0; columnFollower = 1; columnInverse = 1 };
-      start = record {
-        matrix = (minus 5 ∷ []) ∷ (pos 0 ∷ []) ∷ (pos 6 ∷ []) ∷ (minus 6 ∷ []) ∷ [];
-        rowFollower = (pos 1 ∷ pos 0 ∷ pos 0 ∷ pos 0 ∷ []) ∷ (pos 0 ∷ pos 1 ∷ pos 0 ∷ pos 0 ∷ []) ∷ (pos 0 ∷ pos 0 ∷ pos 1 ∷ pos 0 ∷ []) ∷ (pos 0 ∷ pos 0 ∷ pos 0 ∷ pos 1 ∷ []) ∷ [];
-        rowInverse = [] ∷ [] ∷ [] ∷ [] ∷ [];
-        columnFollower = (pos 1 ∷ []) ∷ [];
-        columnInverse = (pos 1 ∷ []) ∷ [];
-      };
-      expected = done 1 (record {
-        matrix = (pos 1 ∷ []) ∷ (pos 0 ∷ []) ∷ (pos 0 ∷ []) ∷ (pos 0 ∷ []) ∷ [];
-        rowFollower = (pos 1 ∷ pos 0 ∷ pos 1 ∷ pos 0 ∷ []) ∷ (pos 0 ∷ pos 1 ∷ pos 0 ∷ pos 0 ∷ []) ∷ (minus 6 ∷ pos 0 ∷ minus 5 ∷ pos 0 ∷ []) ∷ (minus 6 ∷ pos 0 ∷ minus 4 ∷ pos 1 ∷ []) ∷ [];
-        rowInverse = [] ∷ [] ∷ [] ∷ [] ∷ [];
-        columnFollower = (pos 1 ∷ []) ∷ [];
-        columnInverse = (pos 1 ∷ []) ∷ [];
-      });
-    }
+    ∷ fromIdentities 9 (record { rows = 4; columns = 1; rowFollower = 4; rowInverse = 0; columnFollower = 1; columnInverse = 1 })
+    ((minus 5 ∷ []) ∷ (pos 0 ∷ []) ∷ (pos 6 ∷ []) ∷ (minus 6 ∷ []) ∷ [])
+    (done 1 (record {
+      matrix = (pos 1 ∷ []) ∷ (pos 0 ∷ []) ∷ (pos 0 ∷ []) ∷ (pos 0 ∷ []) ∷ [];
+      rowFollower = (pos 1 ∷ pos 0 ∷ pos 1 ∷ pos 0 ∷ []) ∷ (pos 0 ∷ pos 1 ∷ pos 0 ∷ pos 0 ∷ []) ∷ (minus 6 ∷ pos 0 ∷ minus 5 ∷ pos 0 ∷ []) ∷ (minus 6 ∷ pos 0 ∷ minus 4 ∷ pos 1 ∷ []) ∷ [];
+      rowInverse = [] ∷ [] ∷ [] ∷ [] ∷ [];
+      columnFollower = (pos 1 ∷ []) ∷ [];
+      columnInverse = (pos 1 ∷ []) ∷ [];
+    }))
     -- beyond the limit in the column follower
-    ∷ record {
-      limit = 9;
-      sizes = record { rows = 2; columns = 4; rowFollower = 0; rowInverse = 0; columnFollower = 4; columnInverse = 0 };
-      start = record {
-        matrix = (minus 1 ∷ pos 9 ∷ pos 7 ∷ pos 0 ∷ []) ∷ (pos 0 ∷ minus 7 ∷ pos 0 ∷ minus 6 ∷ []) ∷ [];
-        rowFollower = [] ∷ [] ∷ [];
-        rowInverse = [] ∷ [] ∷ [];
-        columnFollower = (pos 1 ∷ pos 0 ∷ pos 0 ∷ pos 0 ∷ []) ∷ (pos 0 ∷ pos 1 ∷ pos 0 ∷ pos 0 ∷ []) ∷ (pos 0 ∷ pos 0 ∷ pos 1 ∷ pos 0 ∷ []) ∷ (pos 0 ∷ pos 0 ∷ pos 0 ∷ pos 1 ∷ []) ∷ [];
-        columnInverse = [] ∷ [] ∷ [] ∷ [] ∷ [];
-      };
-      expected = wide;
-    }
+    ∷ fromIdentities 9 (record { rows = 2; columns = 4; rowFollower = 0; rowInverse = 0; columnFollower = 4; columnInverse = 0 })
+    ((minus 1 ∷ pos 9 ∷ pos 7 ∷ pos 0 ∷ []) ∷ (pos 0 ∷ minus 7 ∷ pos 0 ∷ minus 6 ∷ []) ∷ [])
+    wide
     -- the same matrix with the other companions
-    ∷ record {
-      limit = 9;
-      sizes = record { rows = 2; columns = 4; rowFollower = 2; rowInverse = 2; columnFollower = 0; columnInverse = 4 };
-      start = record {
-        matrix = (minus 1 ∷ pos 9 ∷ pos 7 ∷ pos 0 ∷ []) ∷ (pos 0 ∷ minus 7 ∷ pos 0 ∷ minus 6 ∷ []) ∷ [];
-        rowFollower = (pos 1 ∷ pos 0 ∷ []) ∷ (pos 0 ∷ pos 1 ∷ []) ∷ [];
-        rowInverse = (pos 1 ∷ pos 0 ∷ []) ∷ (pos 0 ∷ pos 1 ∷ []) ∷ [];
-        columnFollower = [] ∷ [] ∷ [] ∷ [] ∷ [];
-        columnInverse = (pos 1 ∷ pos 0 ∷ pos 0 ∷ pos 0 ∷ []) ∷ (pos 0 ∷ pos 1 ∷ pos 0 ∷ pos 0 ∷ []) ∷ (pos 0 ∷ pos 0 ∷ pos 1 ∷ pos 0 ∷ []) ∷ (pos 0 ∷ pos 0 ∷ pos 0 ∷ pos 1 ∷ []) ∷ [];
-      };
-      expected = done 2 (record {
-        matrix = (pos 1 ∷ pos 0 ∷ pos 0 ∷ pos 0 ∷ []) ∷ (pos 0 ∷ pos 1 ∷ pos 0 ∷ pos 0 ∷ []) ∷ [];
-        rowFollower = (minus 1 ∷ pos 0 ∷ []) ∷ (pos 0 ∷ minus 1 ∷ []) ∷ [];
-        rowInverse = (minus 1 ∷ pos 0 ∷ []) ∷ (pos 0 ∷ minus 1 ∷ []) ∷ [];
-        columnFollower = [] ∷ [] ∷ [] ∷ [] ∷ [];
-        columnInverse = (pos 1 ∷ minus 9 ∷ minus 7 ∷ pos 0 ∷ []) ∷ (pos 0 ∷ pos 7 ∷ pos 0 ∷ pos 6 ∷ []) ∷ (pos 0 ∷ pos 0 ∷ pos 1 ∷ pos 0 ∷ []) ∷ (pos 0 ∷ pos 1 ∷ pos 0 ∷ pos 1 ∷ []) ∷ [];
-      });
-    }
+    ∷ fromIdentities 9 (record { rows = 2; columns = 4; rowFollower = 2; rowInverse = 2; columnFollower = 0; columnInverse = 4 })
+    ((minus 1 ∷ pos 9 ∷ pos 7 ∷ pos 0 ∷ []) ∷ (pos 0 ∷ minus 7 ∷ pos 0 ∷ minus 6 ∷ []) ∷ [])
+    (done 2 (record {
+      matrix = (pos 1 ∷ pos 0 ∷ pos 0 ∷ pos 0 ∷ []) ∷ (pos 0 ∷ pos 1 ∷ pos 0 ∷ pos 0 ∷ []) ∷ [];
+      rowFollower = (minus 1 ∷ pos 0 ∷ []) ∷ (pos 0 ∷ minus 1 ∷ []) ∷ [];
+      rowInverse = (minus 1 ∷ pos 0 ∷ []) ∷ (pos 0 ∷ minus 1 ∷ []) ∷ [];
+      columnFollower = [] ∷ [] ∷ [] ∷ [] ∷ [];
+      columnInverse = (pos 1 ∷ minus 9 ∷ minus 7 ∷ pos 0 ∷ []) ∷ (pos 0 ∷ pos 7 ∷ pos 0 ∷ pos 6 ∷ []) ∷ (pos 0 ∷ pos 0 ∷ pos 1 ∷ pos 0 ∷ []) ∷ (pos 0 ∷ pos 1 ∷ pos 0 ∷ pos 1 ∷ []) ∷ [];
+    }))
     -- beyond the limit in the inverse of the column follower
-    ∷ record {
-      limit = 9;
-      sizes = record { rows = 1; columns = 4; rowFollower = 0; rowInverse = 0; columnFollower = 0; columnInverse = 4 };
-      start = record {
-        matrix = (pos 9 ∷ minus 9 ∷ pos 5 ∷ minus 6 ∷ []) ∷ [];
-        rowFollower = [] ∷ [];
-        rowInverse = [] ∷ [];
-        columnFollower = [] ∷ [] ∷ [] ∷ [] ∷ [];
-        columnInverse = (pos 1 ∷ pos 0 ∷ pos 0 ∷ pos 0 ∷ []) ∷ (pos 0 ∷ pos 1 ∷ pos 0 ∷ pos 0 ∷ []) ∷ (pos 0 ∷ pos 0 ∷ pos 1 ∷ pos 0 ∷ []) ∷ (pos 0 ∷ pos 0 ∷ pos 0 ∷ pos 1 ∷ []) ∷ [];
-      };
-      expected = wide;
-    }
+    ∷ fromIdentities 9 (record { rows = 1; columns = 4; rowFollower = 0; rowInverse = 0; columnFollower = 0; columnInverse = 4 })
+    ((pos 9 ∷ minus 9 ∷ pos 5 ∷ minus 6 ∷ []) ∷ [])
+    wide
     -- the same matrix with the other companions
-    ∷ record {
-      limit = 9;
-      sizes = record { rows = 1; columns = 4; rowFollower = 1; rowInverse = 1; columnFollower = 4; columnInverse = 0 };
-      start = record {
-        matrix = (pos 9 ∷ minus 9 ∷ pos 5 ∷ minus 6 ∷ []) ∷ [];
-        rowFollower = (pos 1 ∷ []) ∷ [];
-        rowInverse = (pos 1 ∷ []) ∷ [];
-        columnFollower = (pos 1 ∷ pos 0 ∷ pos 0 ∷ pos 0 ∷ []) ∷ (pos 0 ∷ pos 1 ∷ pos 0 ∷ pos 0 ∷ []) ∷ (pos 0 ∷ pos 0 ∷ pos 1 ∷ pos 0 ∷ []) ∷ (pos 0 ∷ pos 0 ∷ pos 0 ∷ pos 1 ∷ []) ∷ [];
-        columnInverse = [] ∷ [] ∷ [] ∷ [] ∷ [];
-      };
-      expected = done 1 (record {
-        matrix = (pos 1 ∷ pos 0 ∷ pos 0 ∷ pos 0 ∷ []) ∷ [];
-        rowFollower = (pos 1 ∷ []) ∷ [];
-        rowInverse = (pos 1 ∷ []) ∷ [];
-        columnFollower = (pos 0 ∷ pos 1 ∷ pos 2 ∷ pos 0 ∷ []) ∷ (pos 0 ∷ minus 5 ∷ minus 9 ∷ pos 0 ∷ []) ∷ (pos 1 ∷ minus 4 ∷ minus 9 ∷ pos 0 ∷ []) ∷ (pos 0 ∷ minus 4 ∷ minus 6 ∷ pos 1 ∷ []) ∷ [];
-        columnInverse = [] ∷ [] ∷ [] ∷ [] ∷ [];
-      });
-    }
+    ∷ fromIdentities 9 (record { rows = 1; columns = 4; rowFollower = 1; rowInverse = 1; columnFollower = 4; columnInverse = 0 })
+    ((pos 9 ∷ minus 9 ∷ pos 5 ∷ minus 6 ∷ []) ∷ [])
+    (done 1 (record {
+      matrix = (pos 1 ∷ pos 0 ∷ pos 0 ∷ pos 0 ∷ []) ∷ [];
+      rowFollower = (pos 1 ∷ []) ∷ [];
+      rowInverse = (pos 1 ∷ []) ∷ [];
+      columnFollower = (pos 0 ∷ pos 1 ∷ pos 2 ∷ pos 0 ∷ []) ∷ (pos 0 ∷ minus 5 ∷ minus 9 ∷ pos 0 ∷ []) ∷ (pos 1 ∷ minus 4 ∷ minus 9 ∷ pos 0 ∷ []) ∷ (pos 0 ∷ minus 4 ∷ minus 6 ∷ pos 1 ∷ []) ∷ [];
+      columnInverse = [] ∷ [] ∷ [] ∷ [] ∷ [];
+    }))
     ∷ []

@@ -90,6 +90,31 @@ module _ (limit : ℕ) (z : Sizes) (k : ℕ) where
         size = b .size;
       }
 
+  -- moves that leave the pivot
+  ready-led : {s t : State} {B : Matrix} → ReadyC z k s → Led limit z k s t B → entry (t .matrix) k k ≡ entry (s .matrix) k k → ReadyC z k t
+  ready-led h l pivot = record {
+    shaped = led-shaped limit z k (h .shaped) l;
+    row = h .row;
+    column = h .column;
+    positive = subst (λ (x : ℤ). pos 0 <ℤ x) (sym pivot) (h .positive);
+  }
+
+  -- a nonzero remainder by the pivot is smaller than it
+  remainder-smaller :
+      (s t : State) → ReadyC z k s → (i j : ℕ) → k ≤ i → i < z .rows → k ≤ j → j < z .columns → entry (t .matrix) i j ≢ pos 0
+      → entry (t .matrix) i j ≡ modulo (entry (s .matrix) i j) (entry (s .matrix) k k)
+      → Smaller (z .rows) (z .columns) k (natAbs (entry (s .matrix) k k)) (entry (t .matrix))
+  remainder-smaller s t h i j a b c d nonzero is = record {
+    row = i;
+    column = j;
+    row-from = a;
+    row-below = b;
+    column-from = c;
+    column-below = d;
+    nonzero = nonzero;
+    less = subst (λ (x : ℤ). natAbs x < natAbs (entry (s .matrix) k k)) (sym is) (natAbs-modulo (entry (s .matrix) i j) (entry (s .matrix) k k) (h .positive));
+  }
+
   -- ---- step c
 
   -- the pivot stays, and column k keeps the remainders
@@ -102,7 +127,7 @@ module _ (limit : ℕ) (z : Sizes) (k : ℕ) where
   pub after-c : (s t : State) → ReadyC z k s → rowPass limit z k (z .rows - suc k) (suc k) s ≡ made t → AfterC s t
   after-c s t h e = record {
     moves = l .moves;
-    ready = record { shaped = led-shaped limit z k (h .shaped) l; row = h .row; column = h .column; positive = subst (λ (x : ℤ). pos 0 <ℤ x) (sym pivot) (h .positive) };
+    ready = ready-led h l pivot;
     pivot = pivot;
     remainder = λ i a b. at i k ∙ pass-remainder k (z .rows - suc k) (suc k) A i (omega arith) a (omega (arith, h .row));
   }
@@ -125,17 +150,8 @@ module _ (limit : ℕ) (z : Sizes) (k : ℕ) where
       → Smaller (z .rows) (z .columns) k (natAbs (entry (s .matrix) k k)) (entry (t .matrix))
   after-c-keeps s t h c e =
       let f = columnKeeps-true (entry (t .matrix)) k (z .rows - suc k) (suc k) e in
-      record {
-        row = f .place;
-        column = k;
-        row-from = omega arith;
-        row-below = omega (arith, h .row);
-        column-from = omega arith;
-        column-below = h .column;
-        nonzero = f .nonzero;
-        less = subst (λ (x : ℤ). natAbs x < natAbs (entry (s .matrix) k k)) (sym (c .remainder (f .place) (f .from) (omega (arith, h .row, f .below))))
-            (natAbs-modulo (entry (s .matrix) (f .place) k) (entry (s .matrix) k k) (h .positive));
-      }
+      remainder-smaller s t h (f .place) k (omega arith) (omega (arith, h .row)) (omega arith) (h .column) (f .nonzero)
+      (c .remainder (f .place) (f .from) (omega (arith, h .row, f .below)))
 
   pub after-c-clear : (s t : State) → AfterC s t → columnKeeps (entry (t .matrix)) k (z .rows - suc k) (suc k) ≡ false → ReadyD z k t
   after-c-clear s t c e = record {
@@ -156,7 +172,7 @@ module _ (limit : ℕ) (z : Sizes) (k : ℕ) where
   after-d s t h e = record {
     moves = l .moves;
     ready = record {
-      ready = record { shaped = led-shaped limit z k (c .shaped) l; row = c .row; column = c .column; positive = subst (λ (x : ℤ). pos 0 <ℤ x) (sym (stays k)) (c .positive) };
+      ready = ready-led c l (stays k);
       below = λ i a b. stays i ∙ h .below i a b;
     };
     pivot = stays k;
@@ -184,17 +200,8 @@ module _ (limit : ℕ) (z : Sizes) (k : ℕ) where
       → Smaller (z .rows) (z .columns) k (natAbs (entry (s .matrix) k k)) (entry (t .matrix))
   after-d-keeps s t h c e =
       let f = rowKeeps-true (entry (t .matrix)) k (z .columns - suc k) (suc k) e in
-      record {
-        row = k;
-        column = f .place;
-        row-from = omega arith;
-        row-below = h .ready .row;
-        column-from = omega arith;
-        column-below = omega (arith, h .ready .column);
-        nonzero = f .nonzero;
-        less = subst (λ (x : ℤ). natAbs x < natAbs (entry (s .matrix) k k)) (sym (c .remainder (f .place) (f .from) (omega (arith, h .ready .column, f .below))))
-            (natAbs-modulo (entry (s .matrix) k (f .place)) (entry (s .matrix) k k) (h .ready .positive));
-      }
+      remainder-smaller s t (h .ready) k (f .place) (omega arith) (h .ready .row) (omega arith) (omega (arith, h .ready .column)) (f .nonzero)
+      (c .remainder (f .place) (f .from) (omega (arith, h .ready .column, f .below)))
 
   pub after-d-clear : (s t : State) → AfterD s t → rowKeeps (entry (t .matrix)) k (z .columns - suc k) (suc k) ≡ false → ReadyE z k t
   after-d-clear s t c e = record {
@@ -215,7 +222,7 @@ module _ (limit : ℕ) (z : Sizes) (k : ℕ) where
   after-e i s t h e m = record {
     moves = l .moves;
     ready = record {
-      ready = record { shaped = led-shaped limit z k (c .shaped) l; row = c .row; column = c .column; positive = subst (λ (x : ℤ). pos 0 <ℤ x) (sym pivot) (c .positive) };
+      ready = ready-led c l pivot;
       below = λ a p q. at a k ∙ onRows-subtract-other k i (negsuc 0) A a k (omega arith) ∙ h .ready .below a p q;
     };
     pivot = pivot;

@@ -28,24 +28,24 @@ module _ (limit : ℕ) (z : Sizes) (s₀ : State) (k : ℕ) where
     pub rows-bound : k ≤ z .rows
     pub columns-bound : k ≤ z .columns
 
+  -- a state with the matrix A, made from one in stage k
+  stays : {s t : State} {A : Matrix} → Stage s → Shaped z t → within limit t ≡ true → Tracked z s₀ t → entry (t .matrix) ≡ A
+      → Leading (z .rows) (z .columns) k A → Stage t
+  stays p h w tracked is leading = record {
+    shaped = h;
+    within = w;
+    tracked = tracked;
+    leading = subst (λ (A : Matrix). Leading (z .rows) (z .columns) k A) (sym is) leading;
+    rows-bound = p .rows-bound;
+    columns-bound = p .columns-bound;
+  }
+
   stage-keeps : Keeps limit z k Stage
   stage-keeps = record {
-    onRows = λ op t f w h p. record {
-      shaped = shaped-rows op (p .shaped);
-      within = h;
-      tracked = tracked-rows op (p .tracked) w;
-      leading = subst (λ (A : Matrix). Leading (z .rows) (z .columns) k A) (sym (matrix-rows op (p .shaped) w)) (leading-rows op f w (p .leading));
-      rows-bound = p .rows-bound;
-      columns-bound = p .columns-bound;
-    };
-    onColumns = λ op t f w h p. record {
-      shaped = shaped-columns op (p .shaped);
-      within = h;
-      tracked = tracked-columns op (p .tracked) w;
-      leading = subst (λ (A : Matrix). Leading (z .rows) (z .columns) k A) (sym (matrix-columns op (p .shaped) w)) (leading-columns op f w (p .leading));
-      rows-bound = p .rows-bound;
-      columns-bound = p .columns-bound;
-    };
+    onRows = λ op t f w h p.
+        stays p (shaped-rows op (p .shaped)) h (tracked-rows op (p .tracked) w) (matrix-rows op (p .shaped) w) (leading-rows op f w (p .leading));
+    onColumns = λ op t f w h p.
+        stays p (shaped-columns op (p .shaped)) h (tracked-columns op (p .tracked) w) (matrix-columns op (p .shaped) w) (leading-columns op f w (p .leading));
   }
 
   pub stage-moves : {s t : State} → Moves limit z k s t → Stage s → Stage t

@@ -1,6 +1,6 @@
 -- Where one step leads, with what holds there: view-a, view-c, view-d, view-e, for a state in stage k that is ready for the letter.
 use mathlib.Core.Path.{_≡_, refl, sym, _∙_, subst}
-use mathlib.Core.Bool.{Bool, true, false}
+use mathlib.Core.Bool.{Bool, true, false, cond}
 use Prim.Native.Nat.{ℕ, suc, _-_, _<_}
 use lib.IntN.{negsuc, natAbs}
 use Rattle.integers.specs.Division.{_∣ℤ_}
@@ -64,32 +64,36 @@ module _ (limit : ℕ) (z : Sizes) (s₀ : State) (k : ℕ) (s : State) where
         go none r = subst AfterChoice (sym (step-a-none limit z rule k s r)) (exhausted (record { stage = stage; zeros = is .empty (z .rows) (z .columns) k (entry (s .matrix)) r }))
         go (place i j) r = bringing i j r (bring limit z k i j s) refl
 
-    pub view-c : ReadyC z k s → AfterPass Letter.d (ReadyD z k) (step limit z rule (at Letter.c k s))
-    view-c h = go (rowPass limit z k (z .rows - suc k) (suc k) s) refl
+    -- a pass that comes to o leads to the machine m: `keeps` tells whether it leaves a remainder
+    passing : {to : Letter} {Cleared : State → Type 0} {m : Machine} (o : Outcome) (keeps : State → Bool) → (o ≡ tooWide → m ≡ wide)
+        → ((t : State) (kept : Bool) → o ≡ made t → keeps t ≡ kept → m ≡ at (cond kept Letter.a to) k t)
+        → ((t : State) → o ≡ made t → Moves limit z k s t)
+        → ((t : State) → o ≡ made t → keeps t ≡ true → Smaller (z .rows) (z .columns) k (natAbs (entry (s .matrix) k k)) (entry (t .matrix)))
+        → ((t : State) → o ≡ made t → keeps t ≡ false → Cleared t × (entry (t .matrix) k k ≡ entry (s .matrix) k k)) → AfterPass to Cleared m
+    passing {to} {Cleared} {m} o keeps over on moves less clear = go o refl
       where
-        After : Machine → Type 0
-        After = AfterPass Letter.d (ReadyD z k)
+        made-it : (t : State) → o ≡ made t → (kept : Bool) → keeps t ≡ kept → AfterPass to Cleared m
+        made-it t e true r = subst (AfterPass to Cleared) (sym (on t true e r)) (smaller t (moved (moves t e)) (less t e r))
+        made-it t e false r = let w = clear t e r in subst (AfterPass to Cleared) (sym (on t false e r)) (cleared t (moved (moves t e)) (w .0) (w .1))
 
-        made-it :
-            (t : State) → rowPass limit z k (z .rows - suc k) (suc k) s ≡ made t
-            → (keeps : Bool) → columnKeeps (entry (t .matrix)) k (z .rows - suc k) (suc k) ≡ keeps → After (step limit z rule (at Letter.c k s))
-        made-it t m true r =
-            let w = after-c limit z k s t h m in
-            subst After (sym (step-c-made limit z rule k s t true m r)) (smaller t (moved (w .moves)) (after-c-keeps limit z k s t h w r))
-        made-it t m false r =
-            let w = after-c limit z k s t h m in
-            subst After (sym (step-c-made limit z rule k s t false m r)) (cleared t (moved (w .moves)) (after-c-clear limit z k s t w r) (w .pivot))
+        go : (x : Outcome) → o ≡ x → AfterPass to Cleared m
+        go tooWide e = subst (AfterPass to Cleared) (sym (over e)) AfterPass.overflow
+        go (made t) e = made-it t e (keeps t) refl
 
-        go : (o : Outcome) → rowPass limit z k (z .rows - suc k) (suc k) s ≡ o → After (step limit z rule (at Letter.c k s))
-        go tooWide m = subst After (sym (step-c-wide limit z rule k s m)) AfterPass.overflow
-        go (made t) m = made-it t m (columnKeeps (entry (t .matrix)) k (z .rows - suc k) (suc k)) refl
+    pub view-c : ReadyC z k s → AfterPass Letter.d (ReadyD z k) (step limit z rule (at Letter.c k s))
+    view-c h =
+        passing (rowPass limit z k (z .rows - suc k) (suc k) s) (λ t. columnKeeps (entry (t .matrix)) k (z .rows - suc k) (suc k))
+        (step-c-wide limit z rule k s) (step-c-made limit z rule k s) (λ t e. after-c limit z k s t h e .moves)
+        (λ t e r. after-c-keeps limit z k s t h (after-c limit z k s t h e) r)
+        (λ t e r. let w = after-c limit z k s t h e in (after-c-clear limit z k s t w r, w .pivot))
 
     pub view-d : ReadyD z k s → AfterPass Letter.e ClearedRow (step limit z rule (at Letter.d k s))
-    view-d h = go (columnPass limit z k (z .columns - suc k) (suc k) s) refl
+    view-d h =
+        passing (columnPass limit z k (z .columns - suc k) (suc k) s) (λ t. rowKeeps (entry (t .matrix)) k (z .columns - suc k) (suc k))
+        (step-d-wide limit z rule k s) (step-d-made limit z rule k s) (λ t e. after-d limit z k s t h e .moves)
+        (λ t e r. after-d-keeps limit z k s t h (after-d limit z k s t h e) r)
+        (λ t e r. let w = after-d limit z k s t h e in (clearedRow t w r, w .pivot))
       where
-        After : Machine → Type 0
-        After = AfterPass Letter.e ClearedRow
-
         clearedRow : (t : State) → AfterD limit z k s t → rowKeeps (entry (t .matrix)) k (z .columns - suc k) (suc k) ≡ false → ClearedRow t
         clearedRow t w r = record {
           ready = ready;
@@ -98,20 +102,6 @@ module _ (limit : ℕ) (z : Sizes) (s₀ : State) (k : ℕ) (s : State) where
           where
             ready : ReadyE z k t
             ready = after-d-clear limit z k s t w r
-
-        made-it :
-            (t : State) → columnPass limit z k (z .columns - suc k) (suc k) s ≡ made t
-            → (keeps : Bool) → rowKeeps (entry (t .matrix)) k (z .columns - suc k) (suc k) ≡ keeps → After (step limit z rule (at Letter.d k s))
-        made-it t m true r =
-            let w = after-d limit z k s t h m in
-            subst After (sym (step-d-made limit z rule k s t true m r)) (smaller t (moved (w .moves)) (after-d-keeps limit z k s t h w r))
-        made-it t m false r =
-            let w = after-d limit z k s t h m in
-            subst After (sym (step-d-made limit z rule k s t false m r)) (cleared t (moved (w .moves)) (clearedRow t w r) (w .pivot))
-
-        go : (o : Outcome) → columnPass limit z k (z .columns - suc k) (suc k) s ≡ o → After (step limit z rule (at Letter.d k s))
-        go tooWide m = subst After (sym (step-d-wide limit z rule k s m)) AfterPass.overflow
-        go (made t) m = made-it t m (rowKeeps (entry (t .matrix)) k (z .columns - suc k) (suc k)) refl
 
     pub view-e : ReadyE z k s → AfterCheck (step limit z rule (at Letter.e k s))
     view-e h = go (indivisibleRow z k s) refl

@@ -23,11 +23,11 @@ pub record Fields (numbers : List ℤ) (from to : ℕ) (out₀ : List ℕ) (at n
   pub put : PutsWithin (fieldRoom * (i - from)) (spaced (take (i - from) (drop from numbers))) at out₀ next out
   pub kept : length out ≡ length out₀
 
-module _ (numbers : List ℤ) (from to : ℕ) (out₀ : List ℕ) (at : ℕ) where
+module _ {numbers : List ℤ} {from to : ℕ} {out₀ : List ℕ} {at : ℕ} where
   -- the room is enough for a space and a number where one is left
-  pub fields-room : (next i : ℕ) (out : List ℕ) → Fields numbers from to out₀ at next i out
+  fields-room : {next i : ℕ} {out : List ℕ} → Fields numbers from to out₀ at next i out
       → i < to → at + fieldRoom * (to - from) ≤ length out₀ → next + fieldRoom ≤ length out
-  fields-room next i out h l room = omega (arith, within-next (h .put))
+  fields-room h l room = omega (arith, within-next (h .put))
 
   pub fields-none : from ≤ to → Fields numbers from to out₀ at at from out₀
   unfolding spaced
@@ -40,20 +40,20 @@ module _ (numbers : List ℤ) (from to : ℕ) (out₀ : List ℕ) (at : ℕ) whe
         kept = refl;
       }
 
-  pub fields-more : (next i : ℕ) (out : List ℕ) → Fields numbers from to out₀ at next i out
+  pub fields-more : {next i : ℕ} {out : List ℕ} → Fields numbers from to out₀ at next i out
       → i < to → to ≤ length numbers → at + fieldRoom * (to - from) ≤ length out₀
-      → (r r′ : ℕ) (out′ out″ : List ℕ)
+      → {r r′ : ℕ} {out′ out″ : List ℕ}
       → mag (getD numbers i (pos 0)) < 2 ^ 63
       → Puts (32 ∷ []) next out r out′ → PutsWithin numberRoom (decimal (read (getD numbers i (pos 0)))) r out′ r′ out″ → length out″ ≡ length out
       → Fields numbers from to out₀ at r′ (i + 1) out″
-  fields-more next i out h l to-in room r r′ out′ out″ f a b e =
+  fields-more {next} {i} {out} h l to-in room {r} {r′} {out′} {out″} f a b e =
       record {
         low = omega arith;
         high = omega arith;
         put =
             subst (λ (text : List ℕ). PutsWithin (fieldRoom * (i + 1 - from)) text at out₀ r′ out″)
             (sym text-is)
-            (within-more (omega arith) (within-append (omega arith) (h .put) (within-append (omega (arith, fields-room next i out h l room)) (within-length a) field)));
+            (within-more (omega arith) (within-append (omega arith) (h .put) (within-append (omega (arith, fields-room h l room)) (within-length a) field)));
         kept = e ∙ h .kept;
       }
     where
@@ -75,6 +75,6 @@ module _ (numbers : List ℤ) (from to : ℕ) (out₀ : List ℕ) (at : ℕ) whe
           ∙ spaced-suc (i - from) (drop from numbers) (omega (arith, length-drop from numbers))
           ∙ ap (λ (z : ℤ). spaced (take (i - from) (drop from numbers)) ++ (32 ∷ decimal z)) number-is
 
-  pub fields-all : (next i : ℕ) (out : List ℕ) → Fields numbers from to out₀ at next i out → to ≤ i
+  pub fields-all : {next i : ℕ} {out : List ℕ} → Fields numbers from to out₀ at next i out → to ≤ i
       → PutsWithin (fieldRoom * (to - from)) (spaced (take (to - from) (drop from numbers))) at out₀ next out
-  fields-all next i out h l = rw (le-antisymm l (h .high)) (h .put)
+  fields-all h l = rw (le-antisymm l (h .high)) (h .put)

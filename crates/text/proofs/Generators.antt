@@ -22,28 +22,28 @@ pub record Generators (n t k : ℕ) (report : List ℤ) (out₀ : List ℕ) (at 
   pub put : PutsWithin (generatorRoom * i) (generatorsText n i (drop (2 + t) report)) at out₀ next out
   pub kept : length out ≡ length out₀
 
-module _ (n t k : ℕ) (report : List ℤ) (out₀ : List ℕ) (at : ℕ) where
+-- the coefficients of generator i stand within the report
+pub generators-inside : (n t k i : ℕ) (report : List ℤ) → i < k → 2 + t + k * n ≤ length report → 2 + t + i * n + n ≤ length report
+generators-inside n t k i report l h = omega (arith, mul-le-mul-right n l, suc-mul i n)
+
+module _ {n t k : ℕ} {report : List ℤ} {out₀ : List ℕ} {at : ℕ} where
   pub generators-none : Generators n t k report out₀ at at 0 out₀
   unfolding generatorsText
   generators-none = record { high = omega arith; put = within-nothing at out₀; kept = refl }
 
-  -- the coefficients of generator i stand within the report
-  pub generators-inside : (i : ℕ) → i < k → 2 + t + k * n ≤ length report → 2 + t + i * n + n ≤ length report
-  generators-inside i l h = omega (arith, mul-le-mul-right n l, suc-mul i n)
-
   -- the room is enough for a line where one is left
-  pub generators-room : (next i : ℕ) (out : List ℕ) → Generators n t k report out₀ at next i out
+  pub generators-room : {next i : ℕ} {out : List ℕ} → Generators n t k report out₀ at next i out
       → i < k → k ≤ hostLimit → at + generatorRoom * hostLimit ≤ length out₀ → next + generatorRoom ≤ length out
-  generators-room next i out h l small room = omega (arith, within-next (h .put))
+  generators-room h l small room = omega (arith, within-next (h .put))
 
-  pub generators-more : (next i : ℕ) (out : List ℕ) → Generators n t k report out₀ at next i out
+  pub generators-more : {next i : ℕ} {out : List ℕ} → Generators n t k report out₀ at next i out
       → i < k → n ≤ hostLimit → at ≤ length out₀
-      → (r : ℕ) (out′ : List ℕ)
+      → {r : ℕ} {out′ : List ℕ}
       → PutsWithin (lineRoom (2 + t + i * n + n - (2 + t + i * n)))
       (line 71 (take (2 + t + i * n + n - (2 + t + i * n)) (drop (2 + t + i * n) report))) next out r out′
       → length out′ ≡ length out
       → Generators n t k report out₀ at r (i + 1) out′
-  generators-more next i out h l small room r out′ a e =
+  generators-more {next} {i} {out} h l small room {r} {out′} a e =
       record {
         high = omega arith;
         put =
@@ -67,12 +67,12 @@ module _ (n t k : ℕ) (report : List ℤ) (out₀ : List ℕ) (at : ℕ) where
           ∙ ap (λ (from : List ℤ). generatorsText n i (drop (2 + t) report) ++ line 71 (take n from)) (drop-drop (i * n) (2 + t) report)
 
   -- the first line, put before the loop, and the others
-  pub report-put : (p next i start : ℕ) (entry out : List ℕ) → start ≤ length entry
+  pub report-put : (p : ℕ) {next i start : ℕ} {entry out : List ℕ} → start ≤ length entry
       → PutsWithin headingRoom (line 72 (pos p ∷ take (2 + t) report)) start entry at out₀
       → Generators n t k report out₀ at next i out → k ≤ i → k ≤ hostLimit
       → PutsWithin dimensionRoom (reportText p n t k report) start entry next out
   unfolding reportText
-  report-put p next i start entry out room a h l small =
+  report-put p {next} {i} {start} {entry} {out} room a h l small =
       subst (λ (m : ℕ). PutsWithin dimensionRoom (line 72 (pos p ∷ take (2 + t) report) ++ generatorsText n m (drop (2 + t) report)) start entry next out)
       (le-antisymm (h .high) l)
       (within-more (omega arith) (within-append room a (h .put)))

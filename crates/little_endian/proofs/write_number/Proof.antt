@@ -89,9 +89,6 @@ unsigned-requires c κs = tt
 loop-holds : tie.Need-loop-holds Inv-loop μ-loop
 loop-holds c = none-written _ _ _
 
-add-out : tie.Need-add-out Inv-loop μ-loop
-add-out c = omega (arith, c .before .before .before .before .pre)
-
 slice-write-out : tie.Need-slice-write-out Inv-loop μ-loop
 slice-write-out c = omega (arith, c .before .before .before .before .pre, length-written _ _ _ _ _ _ (c .before .before .before .before .pre) (c .before .loop .inv))
 
@@ -109,5 +106,5 @@ returns c =
 pub write-number-spec : {M : Type 1} → statement M
 write-number-spec =
     tie.close
-    (tie.spec Inv-loop μ-loop unsigned-requires loop-holds (λ c. omega arith) add-out slice-write-out (λ c. omega arith) (λ c. omega arith) loop-again
-    same-length returns)
+    (tie.spec Inv-loop μ-loop unsigned-requires loop-holds (λ c. omega arith) (λ c. omega arith) slice-write-out (λ c. omega arith) (λ c. omega arith)
+    loop-again same-length returns)

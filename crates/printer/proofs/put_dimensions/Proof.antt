@@ -21,19 +21,6 @@ loop-holds c =
     let start = c .before .before in
     printed-none (now (start .args .s)) (now (start .args .out)) (now (start .args .report)) (now (start .args .work)) (start .pre .1 .0) (start .pre .1 .1)
 
-put-dimension-requires : tie.Need-put-dimension-requires Inv-loop μ-loop
-put-dimension-requires c κs =
-    let turn = c .before .before .before in
-    let start = turn .before .before .before .before in
-    let inv = turn .before .loop .inv in
-    ((start .pre .0 .0, omega (arith, turn .loop-test .taken), printed-room inv (omega (arith, turn .loop-test .taken)) (start .pre .0 .1)), (inv .report-size, inv .work-size))
-
-add-p : tie.Need-add-p Inv-loop μ-loop
-add-p c = let turn = c .before .before .before .before .before .before .before .before in omega (arith, turn .loop-test .taken)
-
-loop-less : tie.Need-loop-less Inv-loop μ-loop
-loop-less c = let turn = c .before .before .before .before .before .before .before .before in omega (arith, turn .loop-test .taken)
-
 loop-again : tie.Need-loop-again Inv-loop μ-loop
 loop-again c =
     let called = c .before .before .before .before in
@@ -57,15 +44,5 @@ returns c = printed-all (c .before .loop .inv) (omega (arith, c .loop-test .left
 pub put-dimensions-spec : {M : Type 1} → statement M
 put-dimensions-spec =
     tie.close
-    (tie.spec
-    Inv-loop
-    μ-loop
-    loop-holds
-    put-dimension-requires
-    add-p
-    loop-less
-    loop-again
-    same-length
-    same-length-2
-    same-length-3
-    returns)
+    (tie.spec Inv-loop μ-loop loop-holds (λ c κs. omega arith) (λ c. omega arith) (λ c. omega arith) loop-again same-length same-length-2
+    same-length-3 returns)

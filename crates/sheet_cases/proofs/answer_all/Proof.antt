@@ -12,11 +12,8 @@ Inv-loop sheets at₀ at = at ≤ length sheets
 abbrev μ-loop : tie.MeasureT-loop
 μ-loop sheets at₀ at = length sheets - at
 
-add-to : tie.Need-add-to Inv-loop μ-loop
-add-to c = omega (arith, c .field .ensures .below)
-
 pub answer-all-spec : {M : Type 1} → statement M
 answer-all-spec =
     tie.close
-    (tie.spec Inv-loop μ-loop (λ c. omega arith) (λ c. omega arith) (λ c κs. search needs) add-to (λ c. search needs) (λ c. omega arith)
+    (tie.spec Inv-loop μ-loop (λ c. omega arith) (λ c. omega arith) (λ c κs. search needs) (λ c. omega arith) (λ c. search needs) (λ c. omega arith)
     (λ c. omega arith) (λ c. omega arith) (λ c κs. search needs) (λ c. omega arith) (λ c. omega arith) (λ c. search needs))

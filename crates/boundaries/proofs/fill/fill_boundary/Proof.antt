@@ -42,12 +42,6 @@ fill-column-requires c κs =
       ),
     )
 
-add-j : tie.Need-add-j Inv-loop μ-loop
-add-j c = omega (arith, c .before .before .before .loop-test .taken, c .before .before .before .before .before .before .fits)
-
-loop-less : tie.Need-loop-less Inv-loop μ-loop
-loop-less c = omega (arith, c .before .before .before .loop-test .taken)
-
 loop-again : tie.Need-loop-again Inv-loop μ-loop
 loop-again c =
     let start = c .before .before .before .before .before .before in let turn = c .before .before .before .before .loop in (
@@ -65,13 +59,4 @@ returns c =
 pub fill-boundary-spec : {M : Type 1} → statement M
 fill-boundary-spec =
     tie.close
-    (tie.spec
-    Inv-loop
-    μ-loop
-    loop-holds
-    fill-column-requires
-    add-j
-    loop-less
-    loop-again
-    same-length
-    returns)
+    (tie.spec Inv-loop μ-loop loop-holds fill-column-requires (λ c. omega arith) (λ c. omega arith) loop-again same-length returns)

@@ -115,17 +115,6 @@ given c =
 loop-holds : tie.Need-loop-holds Inv-loop μ-loop
 loop-holds c = begun (given c)
 
-add-loop : tie.Need-add-loop Inv-loop μ-loop
-add-loop c = omega (arith, c .before .before .pre .0 .1)
-
-face-place-requires : tie.Need-face-place-requires Inv-loop μ-loop
-face-place-requires c κs =
-    let pre = c .before .before .before .pre in (pre .0 .0, (pre .0 .1, cell-below (given (c .before .before)), omega (arith, c .loop-test .taken)))
-
-line-requires : tie.Need-line-requires Inv-loop μ-loop
-line-requires c κs =
-    let g = given (c .before .before .before) in omega (arith, g .held .ends, c .face-place .ensures .below, g .lines)
-
 module _ (c : tie.After-line Inv-loop μ-loop) where
   abbrev known : tie.After-shared-slice-known Inv-loop μ-loop
   known = c .before .before .before .before
@@ -149,12 +138,6 @@ mul-t9 c = omega (arith, place-inside (place (c .before)))
 slice-set-from-w : tie.Need-slice-set-from-w Inv-loop μ-loop
 slice-set-from-w c = omega (arith, place-inside (place (c .before)), c .before .before .before .before .loop .inv .so-far .same-length)
 
-add-t : tie.Need-add-t Inv-loop μ-loop
-add-t c = omega (arith, c .before .before .before .loop-test .taken, known (c .before) .before .pre .0 .1)
-
-loop-less : tie.Need-loop-less Inv-loop μ-loop
-loop-less c = omega (arith, c .before .before .before .loop-test .taken)
-
 loop-again : tie.Need-loop-again Inv-loop μ-loop
 loop-again c =
     let turn = c .before .before .before in let args = known (c .before) .before .args in let place-of = c .before .line .result + args .j in
@@ -168,23 +151,16 @@ same-length c = c .before .loop .inv .so-far .same-length
 returns : tie.Need-returns Inv-loop μ-loop
 returns c = ended (given (c .before .before)) (c .before .loop .inv) (c .loop-test .left)
 
+face-place-requires : tie.Need-face-place-requires Inv-loop μ-loop
+face-place-requires c κs =
+    let pre = c .before .before .before .pre in (pre .0 .0, (pre .0 .1, cell-below (given (c .before .before)), omega (arith, c .loop-test .taken)))
+
+line-requires : tie.Need-line-requires Inv-loop μ-loop
+line-requires c κs =
+    let g = given (c .before .before .before) in omega (arith, g .held .ends, c .face-place .ensures .below, g .lines)
+
 pub fill-column-spec : {M : Type 1} → statement M
 fill-column-spec =
     tie.close
-    (tie.spec
-    Inv-loop
-    μ-loop
-    loop-holds
-    add-loop
-    face-place-requires
-    line-requires
-    add-at
-    sign-requires
-    cast-w
-    mul-t9
-    slice-set-from-w
-    add-t
-    loop-less
-    loop-again
-    same-length
-    returns)
+    (tie.spec Inv-loop μ-loop loop-holds (λ c. omega arith) face-place-requires line-requires add-at sign-requires cast-w mul-t9
+    slice-set-from-w (λ c. omega arith) (λ c. omega arith) loop-again same-length returns)

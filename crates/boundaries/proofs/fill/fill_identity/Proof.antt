@@ -74,9 +74,6 @@ abbrev μ-loop : tie.MeasureT-loop
 loop-holds : tie.Need-loop-holds Inv-loop μ-loop
 loop-holds c = begun (c .args .m) (c .args .w .now) (c .pre .1)
 
-line-requires : tie.Need-line-requires Inv-loop μ-loop
-line-requires c κs = omega (arith, c .before .before .pre .0 .ends)
-
 entry-place : (c : tie.After-line Inv-loop μ-loop) →
     let args = c .before .before .before .args in
     Place (args .m) (length (args .w .now)) (c .before .before .loop .i) (c .before .before .loop .i) (c .line .result + c .before .before .loop .i)
@@ -98,12 +95,6 @@ mul-w c = omega (arith, place-inside (entry-place c))
 slice-set-of-w : tie.Need-slice-set-of-w Inv-loop μ-loop
 slice-set-of-w c = omega (arith, place-inside (entry-place c), c .before .before .loop .inv .so-far .same-length)
 
-add-i : tie.Need-add-i Inv-loop μ-loop
-add-i c = omega (arith, place-inside (entry-place c))
-
-loop-less : tie.Need-loop-less Inv-loop μ-loop
-loop-less c = omega (arith, c .before .loop-test .taken)
-
 loop-again : tie.Need-loop-again Inv-loop μ-loop
 loop-again c =
     more (c .before .before .loop .inv) (c .before .before .before .pre .3) (c .line .result + c .before .before .loop .i) (entry-place c)
@@ -117,16 +108,5 @@ returns c = ended (c .before .loop .inv) (c .loop-test .left)
 pub fill-identity-spec : {M : Type 1} → statement M
 fill-identity-spec =
     tie.close
-    (tie.spec
-    Inv-loop
-    μ-loop
-    loop-holds
-    line-requires
-    add-at
-    mul-w
-    slice-set-of-w
-    add-i
-    loop-less
-    loop-again
-    same-length
-    returns)
+    (tie.spec Inv-loop μ-loop loop-holds (λ c κs. omega arith) add-at mul-w slice-set-of-w (λ c. omega arith) (λ c. omega arith) loop-again
+    same-length returns)

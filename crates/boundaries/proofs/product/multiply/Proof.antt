@@ -111,12 +111,6 @@ returns c =
     let called = c .before .before .before in
     too-wide (turn called .before .loop .inv) (start called .pre .1 .1 .1) (turn called .loop-test .taken) (became called TooWide (c .enum-told2 .given .1))
 
-add-j : tie.Need-add-j Inv-loop μ-loop
-add-j c = let called = c .before .before .before in omega (arith, turn called .loop-test .taken, start called .good .1 .1 .1 .0)
-
-loop-less : tie.Need-loop-less Inv-loop μ-loop
-loop-less c = omega (arith, turn (c .before .before .before) .loop-test .taken)
-
 loop-again : tie.Need-loop-again Inv-loop μ-loop
 loop-again c =
     let called = c .before .before .before in
@@ -134,17 +128,5 @@ returns-2 c =
 pub multiply-spec : {M : Type 1} → statement M
 multiply-spec =
     tie.close
-    (tie.spec
-    Inv-loop
-    μ-loop
-    loop-holds
-    multiply-column-requires
-    enum-told
-    enum-told-2
-    same-length
-    returns
-    add-j
-    loop-less
-    loop-again
-    same-length-2
-    returns-2)
+    (tie.spec Inv-loop μ-loop loop-holds multiply-column-requires enum-told enum-told-2 same-length returns (λ c. omega arith) (λ c. omega arith)
+    loop-again same-length-2 returns-2)

@@ -114,10 +114,6 @@ Inv-loop s p q m w₀ j places lines width i₀ w i = Invariant s p q m w₀ j w
 abbrev μ-loop : tie.MeasureT-loop
 μ-loop s p q m w₀ j places lines width i₀ w i = m .lines - i
 
-face-places-requires : tie.Need-face-places-requires Inv-loop μ-loop
-unfolding chainCells
-face-places-requires c κs = let pre = c .before .pre in (pre .0 .0, (pre .0 .1, omega (arith, pre .1 .0 .1, pre .1 .0 .3)))
-
 given : (c : tie.After-face-places Inv-loop μ-loop) →
     let args = c .before .before .args in Given (args .s .now) (args .p) (args .q) (args .m) (args .w .now) (args .j) (c .face-places .result)
 unfolding chainCells
@@ -137,13 +133,6 @@ given c =
 
 loop-holds : tie.Need-loop-holds Inv-loop μ-loop
 loop-holds c = begun (given c)
-
-line-requires : tie.Need-line-requires Inv-loop μ-loop
-line-requires c κs =
-    let g = given (c .before .before .before) in omega (arith, g .held .ends, c .before .loop-test .taken)
-
-add-line-product : tie.Need-add-line-product Inv-loop μ-loop
-add-line-product c = omega (arith, c .before .before .before .before .before .before .pre .0 .1)
 
 line-product-requires : tie.Need-line-product-requires Inv-loop μ-loop
 line-product-requires c κs =
@@ -204,10 +193,6 @@ stays : (c : tie.Else2 Inv-loop μ-loop) → natAbs (v (c .before .before)) ≤ 
 stays c =
     subst (λ (z : ℤ). natAbs z ≤ limit) (read-v (c .before .before)) (within (read w64 (v (c .before .before))) (c .before .if1 .left) (c .if2 .left))
 
-line-requires-2 : tie.Need-line-requires-2 Inv-loop μ-loop
-line-requires-2 c κs =
-    let product = c .before .before in omega (arith, held-before (given (facing product)) .ends, line-below product, start product .good .1 .1 .1 .1 .0 .1)
-
 module _ (c : tie.After-line2 Inv-loop μ-loop) where
   abbrev made : tie.After-line-product Inv-loop μ-loop
   made = c .before .before .before
@@ -237,12 +222,6 @@ mul-t16 c = omega (arith, place-inside (place c))
 slice-set-from-w : tie.Need-slice-set-from-w Inv-loop μ-loop
 slice-set-from-w c = omega (arith, place-inside (place c), turn (made c) .before .loop .inv .so-far .same-length)
 
-add-i : tie.Need-add-i Inv-loop μ-loop
-add-i c = omega (arith, turn (made c) .loop-test .taken, start (made c) .fits)
-
-loop-less : tie.Need-loop-less Inv-loop μ-loop
-loop-less c = omega (arith, line-below (made c))
-
 loop-again : tie.Need-loop-again Inv-loop μ-loop
 loop-again c =
     let args = start (made c) .args in let head = turn (made c) .before .loop in
@@ -256,29 +235,13 @@ same-length-3 c = c .before .loop .inv .so-far .same-length
 returns-3 : tie.Need-returns-3 Inv-loop μ-loop
 returns-3 c = ended (given (c .before .before)) (c .before .loop .inv) (omega (arith, c .loop-test .left, given (c .before .before) .lines))
 
+face-places-requires : tie.Need-face-places-requires Inv-loop μ-loop
+unfolding chainCells
+face-places-requires c κs = let pre = c .before .pre in (pre .0 .0, (pre .0 .1, omega (arith, pre .1 .0 .1, pre .1 .0 .3)))
+
 pub multiply-column-spec : {M : Type 1} → statement M
 multiply-column-spec =
     tie.close
-    (tie.spec
-    Inv-loop
-    μ-loop
-    face-places-requires
-    loop-holds
-    line-requires
-    add-line-product
-    line-product-requires
-    sub-if1
-    same-length
-    returns
-    same-length-2
-    returns-2
-    line-requires-2
-    add-at
-    cast-w
-    mul-t16
-    slice-set-from-w
-    add-i
-    loop-less
-    loop-again
-    same-length-3
-    returns-3)
+    (tie.spec Inv-loop μ-loop face-places-requires loop-holds (λ c κs. omega arith) (λ c. omega arith) line-product-requires sub-if1 same-length
+    returns same-length-2 returns-2 (λ c κs. omega arith) add-at cast-w mul-t16 slice-set-from-w (λ c. omega arith) (λ c. omega arith) loop-again
+    same-length-3 returns-3)

@@ -3,23 +3,18 @@
 use mathlib.Core.Path.{_∙_}
 use borrow.Author.Needs.{needs}
 use denote.Ref.{now}
-use lib.ListN.{length}
-use Rattle.complexes.specs.ChainComplex.{ChainComplex}
-use Rattle.sheet_format.specs.Check.{chainCells}
-use Rattle.reduction_steps.specs.Pivot.{pivotRule}
 use Rattle.reduction_steps.specs.PivotLaws.{pivotRule-is-rule}
-use Rattle.reports.specs.Call.{reductionsOf}
-use Rattle.limits.specs.Limits.{libraryLimit}
-use Rattle.faces.specs.Face.{Accepted}
-use Rattle.calls.specs.Slices.{ReducedTwice}
 use Rattle.calls.specs.declared.admission.Request.the-variants.{Report}
-use Rattle.calls.proofs.Sheet.{sheet-chains, accepted-library}
-use Rattle.calls.proofs.Outcomes.{twice-done, twice-refused}
-use Rattle.calls.proofs.Admitting.{admit-refused, Granted, admit-granted}
+use Rattle.calls.proofs.Admitting.{Lent, admit-refused, Granted, admit-granted, Reduces, twice-done, twice-refused}
 use Rattle.calls.proofs.Writing.{can-report}
 use Rattle.calls.proofs.ReportAnswers.{report-refuses, report-wide, report-done}
 use Rattle.calls.proofs.report.report_at.Statement.{statement}
 use Rattle.calls.proofs.report.report_at.Tie as tie
+
+abbrev lent : tie.Start → Lent
+lent s =
+    let a = s .args in
+    record { limit = a .sheet .limit; sheet = now (a .s); dimension = a .dimension; output = now (a .report); work = now (a .work) }
 
 -- ---- the checks 1 to 9
 
@@ -29,38 +24,28 @@ enum-known-refusal c = c .match .keys1
 returns : tie.Need-returns
 returns c =
     let called = c .before .before .before in
-    let a = called .before .before .args in
-    report-refuses (a .sheet .limit) (now (a .s)) (a .dimension) (now (a .report)) (now (a .work))
-    (admit-refused (a .sheet .limit) (now (a .s)) (a .dimension) Report (length (now (a .report))) (length (now (a .work))) (called .admit .result)
-    (called .admit .ensures) (c .before .refusal .given .1))
+    let l = lent (called .before .before) in
+    report-refuses l (admit-refused l Report (called .admit .result) (called .admit .ensures) (c .before .refusal .given .1))
 
 enum-known-sizes : tie.Need-enum-known-sizes
 enum-known-sizes c = c .match .keys2
 
 module _ (c : tie.After-sizes) where
-  abbrev entered : tie.Start
-  entered = c .before .before .before .before
+  abbrev given : Lent
+  given = lent (c .before .before .before .before)
 
-  granted : let a = entered .args in
-      Granted (a .sheet .limit) (now (a .s)) (a .dimension) Report (length (now (a .report))) (length (now (a .work))) (c .sizes .given .0 .0)
+  granted : Granted given Report (c .sizes .given .0 .0)
   granted =
       let called = c .before .before in
-      let a = entered .args in
-      admit-granted (a .sheet .limit) (now (a .s)) (a .dimension) Report (length (now (a .report))) (length (now (a .work))) (called .admit .result)
-      (called .admit .ensures) (c .sizes .given .1)
-
-  library : Accepted (now (entered .args .s))
-  library = accepted-library (entered .pre) (granted .passed .accepted)
-
-  chains : ChainComplex libraryLimit (chainCells (now (entered .args .s)))
-  chains = sheet-chains (record { small = λ i. c .before .before .before .shared-slice-known .given i .fits }) library
+      admit-granted given Report (called .admit .result) (called .admit .ensures) (called .before .before .pre)
+      (record { small = λ i. called .before .shared-slice-known .given i .fits }) (c .sizes .given .1)
 
 -- ---- the reductions
 
 reduce-twice-requires : tie.Need-reduce-twice-requires
 reduce-twice-requires c κs =
     let s = c .before .before in
-    let g = granted s in ((library s, g .passed .dimension), (g .passed .work-slots, g .sizes))
+    let g = granted s in ((g .library, g .passed .dimension), (g .passed .work-slots, g .sizes))
 
 enum-known-reduced : tie.Need-enum-known-reduced
 enum-known-reduced c = c .match2 .keys1
@@ -74,10 +59,8 @@ admitted c = c .before .before .before
 returns-2 : tie.Need-returns-2
 returns-2 c =
     let called = c .before .before .before in
-    let a = entered (admitted called) .args in
-    report-wide (a .sheet .limit) (now (a .s)) (a .dimension) (now (a .report)) (now (a .work)) (granted (admitted called) .passed)
-    (twice-refused (chainCells (now (a .s))) (a .dimension) (reductionsOf pivotRule (chainCells (now (a .s))) (a .dimension)) (called .reduce-twice .result) (c .enum-told .given .1)
-    (called .reduce-twice .ensures))
+    let l = given (admitted called) in
+    report-wide l (granted (admitted called)) (twice-refused l (called .reduce-twice .result) (c .enum-told .given .1) (called .reduce-twice .ensures))
 
 same-length : tie.Need-same-length
 same-length c = c .before .before .before .reduce-twice .kept .1 .1 .1 .0
@@ -91,27 +74,20 @@ module _ (c : tie.After-known-told3) where
   abbrev sized : tie.After-sizes
   sized = admitted called
 
-  twice : let a = entered sized .args in
-      ReducedTwice (chainCells (now (a .s))) (a .dimension) (reductionsOf pivotRule (chainCells (now (a .s))) (a .dimension)) (length (now (a .work))) (c .before .reduced .given .0 .0)
-      (called .reduce-twice .last .1 .1 .1 .0)
-  twice =
-      let a = entered sized .args in
-      twice-done (chainCells (now (a .s))) (a .dimension) (reductionsOf pivotRule (chainCells (now (a .s))) (a .dimension)) (called .reduce-twice .result) (c .before .reduced .given .1)
-      (called .reduce-twice .ensures)
+  reduced : Reduces (given sized) (c .before .reduced .given .0 .0) (called .reduce-twice .last .1 .1 .1 .0)
+  reduced = twice-done (given sized) (called .reduce-twice .result) (c .before .reduced .given .1) (called .reduce-twice .ensures)
 
 write-report-requires : tie.Need-write-report-requires
 write-report-requires c κs =
     let told = c .before .before in
-    let p = granted (sized told) .passed in
-    can-report pivotRule-is-rule (chains (sized told)) (p .work-slots) (twice told) (p .output-slots)
+    let g = granted (sized told) in
+    can-report pivotRule-is-rule (g .chains) (g .passed .work-slots) (reduced told) (g .passed .output-slots)
 
 returns-3 : tie.Need-returns-3
 returns-3 c =
     let wrote = c .before .before .before .before in
     let told = wrote .before .before .before in
-    let a = entered (sized told) .args in
-    report-done (a .sheet .limit) (now (a .s)) (a .dimension) (now (a .report)) (now (a .work)) (granted (sized told) .passed) (chains (sized told))
-    (twice told) (wrote .write-report .ensures) (c .before .clear .ensures)
+    report-done (given (sized told)) (granted (sized told)) (reduced told) (wrote .write-report .ensures) (c .before .clear .ensures)
 
 same-length-2 : tie.Need-same-length-2
 same-length-2 c = c .before .before .before .before .write-report .kept .1 .1 .0

@@ -158,14 +158,6 @@ given c =
 loop-holds : tie.Need-loop-holds Inv-loop μ-loop
 loop-holds c = let args = c .before .args in begun (args .s .now) (args .p) (args .j) (read w64 (args .x)) (args .sums .now)
 
-add-loop : tie.Need-add-loop Inv-loop μ-loop
-add-loop c = omega (arith, c .before .before .pre .1 .0 .0)
-
-face-place-requires : tie.Need-face-place-requires Inv-loop μ-loop
-unfolding chainCells
-face-place-requires c κs =
-    let pre = c .before .before .before .pre in (pre .0, (pre .1 .0 .0, pre .1 .0 .1, omega (arith, c .loop-test .taken)))
-
 -- the place of a face is one of the sums
 inside : (c : tie.After-face-place Inv-loop μ-loop) → c .face-place .result < libraryLimit
 inside c =
@@ -207,12 +199,6 @@ mul-t16 c = omega (arith, inside (called c))
 element-set-from-sums : tie.Need-element-set-from-sums Inv-loop μ-loop
 element-set-from-sums c = inside (called c)
 
-add-t : tie.Need-add-t Inv-loop μ-loop
-add-t c = omega (arith, called c .before .loop-test .taken, known c .before .pre .1 .0 .0)
-
-loop-less : tie.Need-loop-less Inv-loop μ-loop
-loop-less c = omega (arith, called c .before .loop-test .taken)
-
 loop-again : tie.Need-loop-again Inv-loop μ-loop
 loop-again c =
     with-factor (sym (read-x (known c .before)))
@@ -222,23 +208,13 @@ loop-again c =
 returns : tie.Need-returns Inv-loop μ-loop
 returns c = ended (given (c .before .before)) (with-factor (read-x (c .before .before .before)) (c .before .loop .inv)) (c .loop-test .left)
 
+face-place-requires : tie.Need-face-place-requires Inv-loop μ-loop
+unfolding chainCells
+face-place-requires c κs =
+    let pre = c .before .before .before .pre in (pre .0, (pre .1 .0 .0, pre .1 .0 .1, omega (arith, c .loop-test .taken)))
+
 pub add-faces-spec : {M : Type 1} → statement M
 add-faces-spec =
     tie.close
-    (tie.spec
-    Inv-loop
-    μ-loop
-    loop-holds
-    add-loop
-    face-place-requires
-    mul-sums
-    element-copy-out-sums
-    sign-requires
-    mul-sums-2
-    add-sums
-    mul-t16
-    element-set-from-sums
-    add-t
-    loop-less
-    loop-again
-    returns)
+    (tie.spec Inv-loop μ-loop loop-holds (λ c. omega arith) face-place-requires mul-sums element-copy-out-sums sign-requires mul-sums-2 add-sums
+    mul-t16 element-set-from-sums (λ c. omega arith) (λ c. omega arith) loop-again returns)

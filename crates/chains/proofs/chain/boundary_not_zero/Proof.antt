@@ -183,9 +183,6 @@ module _ (c : tie.After-x Inv-loop μ-loop Inv-loop2 μ-loop2) where
 cast-x : tie.Need-cast-x Inv-loop μ-loop Inv-loop2 μ-loop2
 cast-x c = cast-fits (x c) (x-fits c)
 
-sub-add-faces : tie.Need-sub-add-faces Inv-loop μ-loop Inv-loop2 μ-loop2
-sub-add-faces c = omega (arith, positive (head (c .before) .before))
-
 add-faces-requires : tie.Need-add-faces-requires Inv-loop μ-loop Inv-loop2 μ-loop2
 add-faces-requires c κs =
     let at = c .before .before in let g = given (head at .before) in (
@@ -195,9 +192,6 @@ add-faces-requires c κs =
         (subst (λ (z : ℤ). natAbs z ≤ coefficientLimit) (sym (x-is at)) (g .small (head at .loop .j)), sums-small g (head at .loop .inv)),
       ),
     )
-
-loop-less : tie.Need-loop-less Inv-loop μ-loop Inv-loop2 μ-loop2
-loop-less c = omega (arith, c .before .before .loop-test .taken)
 
 loop-again : tie.Need-loop-again Inv-loop μ-loop Inv-loop2 μ-loop2
 loop-again c =
@@ -212,9 +206,6 @@ loop-again c =
     subst (λ (sums : List ℤ). Summed (chainCells (args .s .now)) (args .p - 1) (args .chain .now) (j + 1) sums) (sym (way .1))
     (skipped g inv more (sym (toZ-ofZ (x-fits at)) ∙ zero-of-bits (cast-x at) (way .0 .left))))
     (c .if2 .came)
-
-sub-count : tie.Need-sub-count Inv-loop μ-loop Inv-loop2 μ-loop2
-sub-count c = omega (arith, positive (c .before .before))
 
 count-requires : tie.Need-count-requires Inv-loop μ-loop Inv-loop2 μ-loop2
 count-requires c κs = tt
@@ -232,9 +223,6 @@ row-below c =
     let counted = c .before .before in let first = counted .before .before .before in
     omega (arith, c .loop2-test .taken, rows counted, given first .sheet .within (first .before .before .args .p - 1))
 
-mul-if3 : tie.Need-mul-if3 Inv-loop μ-loop Inv-loop2 μ-loop2
-mul-if3 c = omega (arith, row-below c)
-
 array-copy-out-if3 : tie.Need-array-copy-out-if3 Inv-loop μ-loop Inv-loop2 μ-loop2
 array-copy-out-if3 c = row-below c
 
@@ -246,12 +234,6 @@ returns-2 c =
     (found (given first) (counted .before .before .loop .inv) (counted .before .loop-test .left) (turn .before .loop2 .row)
     (omega (arith, turn .loop2-test .taken, rows counted))
     (λ e. c .if3 .taken (ap (ofZ w64) e)))
-
-add-row : tie.Need-add-row Inv-loop μ-loop Inv-loop2 μ-loop2
-add-row c = omega (arith, row-below (c .before .before))
-
-loop2-less : tie.Need-loop2-less Inv-loop μ-loop Inv-loop2 μ-loop2
-loop2-less c = omega (arith, c .before .before .loop2-test .taken)
 
 sum-fits : (c : tie.After-if32 Inv-loop μ-loop Inv-loop2 μ-loop2)
     → SFits w64 (getD (c .before .before .before .before .before .loop .sums) (c .before .before .loop2 .row) (pos 0))
@@ -275,6 +257,6 @@ returns-3 c =
 pub boundary-not-zero-spec : {M : Type 1} → statement M
 boundary-not-zero-spec =
     tie.close
-    (tie.spec Inv-loop μ-loop Inv-loop2 μ-loop2 returns loop-holds (λ c. omega arith) shared-slice-copy-out-x cast-x sub-add-faces add-faces-requires
-    (λ c. omega arith) loop-less loop-again sub-count count-requires loop2-holds mul-if3 array-copy-out-if3 returns-2 add-row loop2-less loop2-again
-    returns-3)
+    (tie.spec Inv-loop μ-loop Inv-loop2 μ-loop2 returns loop-holds (λ c. omega arith) shared-slice-copy-out-x cast-x (λ c. omega arith)
+    add-faces-requires (λ c. omega arith) (λ c. omega arith) loop-again (λ c. omega arith) count-requires loop2-holds (λ c. omega arith)
+    array-copy-out-if3 returns-2 (λ c. omega arith) (λ c. omega arith) loop2-again returns-3)

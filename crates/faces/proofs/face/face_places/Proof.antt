@@ -38,24 +38,8 @@ abbrev μ-loop : tie.MeasureT-loop
 loop-holds : tie.Need-loop-holds Inv-loop μ-loop
 loop-holds c = record { within = omega arith; sized = refl; so-far = λ k l. absurd (omega arith) }
 
-add-loop : tie.Need-add-loop Inv-loop μ-loop
-add-loop c = omega (arith, c .before .before .pre .1 .0)
-
-face-place-requires : tie.Need-face-place-requires Inv-loop μ-loop
-face-place-requires c κs =
-    let pre = c .before .before .before .pre in (pre .0, (pre .1 .0, pre .1 .1, omega (arith, c .loop-test .taken)))
-
-mul-places : tie.Need-mul-places Inv-loop μ-loop
-mul-places c = omega (arith, c .before .before .before .before .pre .1 .0)
-
 array-write-places : tie.Need-array-write-places Inv-loop μ-loop
-array-write-places c = omega (arith, c .before .before .before .before .pre .1 .0)
-
-add-t : tie.Need-add-t Inv-loop μ-loop
-add-t c = omega (arith, c .before .before .before .before .pre .1 .0)
-
-loop-less : tie.Need-loop-less Inv-loop μ-loop
-loop-less c = omega (arith, c .before .loop-test .taken)
+array-write-places c = omega arith
 
 loop-again : tie.Need-loop-again Inv-loop μ-loop
 loop-again c = more (c .before .before .loop .inv) (c .before .loop-test .taken) (array-write-places c) (c .face-place .result) (c .face-place .ensures)
@@ -66,15 +50,5 @@ returns c = record { face = λ t l. c .before .loop .inv .so-far t (omega (arith
 pub face-places-spec : {M : Type 1} → statement M
 face-places-spec =
     tie.close
-    (tie.spec
-    Inv-loop
-    μ-loop
-    loop-holds
-    add-loop
-    face-place-requires
-    mul-places
-    array-write-places
-    add-t
-    loop-less
-    loop-again
-    returns)
+    (tie.spec Inv-loop μ-loop loop-holds (λ c. omega arith) (λ c κs. omega arith) (λ c. omega arith) array-write-places (λ c. omega arith)
+    (λ c. omega arith) loop-again returns)

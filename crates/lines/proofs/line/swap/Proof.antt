@@ -10,7 +10,7 @@ use lib.ListN.{length, set, length-set}
 use mir.Syntax.{w32}
 use lib.IntN.{ℤ}
 use Rattle.lines.specs.Slice.{at, Apart, LinesSwapped}
-use Rattle.lines.proofs.Store.{swapped-one, swapped-none, swapped-more}
+use Rattle.lines.proofs.Store.{swapped-none, swapped-more}
 use Rattle.lines.proofs.Words.{read, read-entry}
 use Rattle.lines.proofs.line.swap.Statement.{statement}
 use Rattle.lines.proofs.line.swap.Tie as tie
@@ -43,16 +43,13 @@ Inv-loop w₀ first second width t₀ w t = Invariant w₀ first second width t 
 abbrev μ-loop : tie.MeasureT-loop
 μ-loop w₀ first second width t₀ w t = width - t
 
-returns : tie.Need-returns Inv-loop μ-loop
-returns c = swapped-one (c .before .args .w .now) (c .before .args .first) (c .before .args .second) (c .before .args .width) (c .if1 .taken) (c .before .pre .1 .1)
-
 loop-holds : tie.Need-loop-holds Inv-loop μ-loop
 loop-holds c = record {
   below = omega arith;
-  first-inside = c .before .pre .0 .0;
-  second-inside = c .before .pre .0 .1;
-  apart = c .before .pre .1 .0;
-  swapped = swapped-none (c .before .args .w .now) (c .before .args .first) (c .before .args .second) (c .before .pre .1 .1);
+  first-inside = c .pre .0 .0;
+  second-inside = c .pre .0 .1;
+  apart = c .pre .1 .0;
+  swapped = swapped-none (c .args .w .now) (c .args .first) (c .args .second) (c .pre .1 .1);
 }
 
 slice-set-from-x : tie.Need-slice-set-from-x Inv-loop μ-loop
@@ -65,12 +62,12 @@ loop-again c =
 same-length : tie.Need-same-length Inv-loop μ-loop
 same-length c = c .before .loop .inv .swapped .same-length
 
-returns-2 : tie.Need-returns-2 Inv-loop μ-loop
-returns-2 c = ended (c .before .loop .inv) (c .loop-test .left)
+returns : tie.Need-returns Inv-loop μ-loop
+returns c = ended (c .before .loop .inv) (c .loop-test .left)
 
 pub swap-spec : {M : Type 1} → statement M
 swap-spec =
     tie.close
-    (tie.spec Inv-loop μ-loop returns loop-holds (λ c. omega arith) (λ c. omega arith) (λ c. omega arith) (λ c. omega arith) (λ c. omega arith)
+    (tie.spec Inv-loop μ-loop loop-holds (λ c. omega arith) (λ c. omega arith) (λ c. omega arith) (λ c. omega arith) (λ c. omega arith)
     (λ c. omega arith) (λ c. omega arith) (λ c. omega arith) (λ c. omega arith) (λ c. omega arith) (λ c. omega arith) slice-set-from-x
-    (λ c. omega arith) (λ c. omega arith) loop-again same-length returns-2)
+    (λ c. omega arith) (λ c. omega arith) loop-again same-length returns)

@@ -17,12 +17,6 @@ Inv-loop p cells torsion generators report out₀ at first next₀ i₀ out next
 abbrev μ-loop : tie.MeasureT-loop
 μ-loop p cells torsion generators report out₀ at first next₀ i₀ out next i = generators - i
 
-add-first : tie.Need-add-first Inv-loop μ-loop
-add-first c = omega (arith, c .before .pre)
-
-put-heading-requires : tie.Need-put-heading-requires Inv-loop μ-loop
-put-heading-requires c κs = omega (arith, c .before .before .pre)
-
 -- the room that is left where the loop begins
 left : (c : tie.After-slice-known2 Inv-loop μ-loop)
     → c .before .before .put-heading .result + generatorRoom * hostLimit ≤ length (c .before .before .put-heading .last .1 .1 .1 .0)
@@ -31,10 +25,7 @@ left c =
     omega (arith, c .before .before .before .before .before .pre, within-next (h .ensures), h .kept .1 .1 .1 .0)
 
 loop-holds : tie.Need-loop-holds Inv-loop μ-loop
-loop-holds c =
-    let a = c .before .before .before .before .before .args in
-    let h = c .before .before .put-heading in
-    generators-none (a .cells) (a .torsion) (a .generators) (a .report .now) (h .last .1 .1 .1 .0) (h .result)
+loop-holds c = generators-none
 
 -- the coefficients of the line that a turn writes stand within the report
 inside : (c : tie.In-loop Inv-loop μ-loop)
@@ -45,22 +36,13 @@ inside : (c : tie.In-loop Inv-loop μ-loop)
 inside c =
     let s = c .before .before .before .before .before .before .before in
     let a = s .args in
-    let h = c .before .before .before .before .put-heading in
-    generators-inside (a .cells) (a .torsion) (a .generators) (a .report .now) (h .last .1 .1 .1 .0) (h .result) (c .before .loop .i)
-    (omega arith)
-    (omega (arith, s .pre))
+    generators-inside (a .cells) (a .torsion) (a .generators) (c .before .loop .i) (a .report .now) (omega arith) (omega (arith, s .pre))
 
 -- and the line fits
 room : (c : tie.In-loop Inv-loop μ-loop) → c .before .loop .next + generatorRoom ≤ length (c .before .loop .out)
 room c =
     let s = c .before .before .before .before .before .before .before in
-    let a = s .args in
-    let h = c .before .before .before .before .put-heading in
-    let l = c .before .loop in
-    generators-room (a .cells) (a .torsion) (a .generators) (a .report .now) (h .last .1 .1 .1 .0) (h .result) (l .next) (l .i) (l .out) (l .inv)
-    (omega arith)
-    (omega (arith, s .pre))
-    (left (c .before .before))
+    generators-room (c .before .loop .inv) (omega arith) (omega (arith, s .pre)) (left (c .before .before))
 
 mul-from : tie.Need-mul-from Inv-loop μ-loop
 mul-from c = omega (arith, inside c, c .before .before .before .before .before .before .before .good)
@@ -75,29 +57,12 @@ put-line-requires : tie.Need-put-line-requires Inv-loop μ-loop
 put-line-requires c κs =
     omega (arith, inside (c .before), room (c .before), c .before .before .before .before .before .before .before .before .pre)
 
-add-i : tie.Need-add-i Inv-loop μ-loop
-add-i c =
-    let t = c .before .before .before .before in
-    omega (arith, t .loop-test, t .before .before .before .before .before .before .before .pre)
-
-loop-less : tie.Need-loop-less Inv-loop μ-loop
-loop-less c = omega (arith, c .before .before .before .before .loop-test)
-
 loop-again : tie.Need-loop-again Inv-loop μ-loop
 loop-again c =
     let t = c .before .before .before .before in
-    let l = t .before .loop in
     let s = t .before .before .before .before .before .before .before in
-    let a = s .args in
-    let h = t .before .before .before .before .put-heading in
     let q = c .before .before .put-line in
-    generators-more (a .cells) (a .torsion) (a .generators) (a .report .now) (h .last .1 .1 .1 .0) (h .result) (l .next) (l .i) (l .out) (l .inv)
-    (omega (arith, t .loop-test))
-    (omega (arith, s .pre))
-    (omega (arith, left (t .before .before)))
-    (q .result)
-    (q .last .1 .1 .1 .1 .0)
-    (q .ensures)
+    generators-more (t .before .loop .inv) (omega (arith, t .loop-test)) (omega (arith, s .pre)) (omega (arith, left (t .before .before))) (q .ensures)
     (q .kept .1 .1 .1 .1 .0)
 
 same-length : tie.Need-same-length Inv-loop μ-loop
@@ -106,33 +71,10 @@ same-length c = c .before .loop .inv .kept ∙ c .before .before .before .before
 returns : tie.Need-returns Inv-loop μ-loop
 returns c =
     let s = c .before .before .before .before .before .before .before in
-    let a = s .args in
-    let h = c .before .before .before .before .put-heading in
-    let l = c .before .loop in
-    report-put (a .cells) (a .torsion) (a .generators) (a .report .now) (h .last .1 .1 .1 .0) (h .result) (a .p) (l .next) (l .i) (a .at)
-    (a .out .now)
-    (l .out)
-    (omega (arith, s .pre))
-    (h .ensures)
-    (l .inv)
-    (omega arith)
-    (omega (arith, s .pre))
+    report-put (s .args .p) (omega (arith, s .pre)) (c .before .before .before .before .put-heading .ensures) (c .before .loop .inv) (omega arith) (omega (arith, s .pre))
 
 pub put-report-spec : {M : Type 1} → statement M
 put-report-spec =
     tie.close
-    (tie.spec
-    Inv-loop
-    μ-loop
-    add-first
-    put-heading-requires
-    loop-holds
-    mul-from
-    add-from
-    add-put-line
-    put-line-requires
-    add-i
-    loop-less
-    loop-again
-    same-length
-    returns)
+    (tie.spec Inv-loop μ-loop (λ c. omega arith) (λ c κs. omega arith) loop-holds mul-from add-from add-put-line put-line-requires (λ c. omega arith)
+    (λ c. omega arith) loop-again same-length returns)

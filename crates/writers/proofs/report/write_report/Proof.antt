@@ -99,9 +99,6 @@ sub-free c = c .before .before .before .before .pre .rank-below
 cast-report : tie.Need-cast-report
 cast-report c = free-fits (known-after (c .before))
 
-slice-set-from-report : tie.Need-slice-set-from-report
-slice-set-from-report c = omega (arith, c .before .before .before .before .pre .room)
-
 cast-report-2 : tie.Need-cast-report-2
 cast-report-2 c = torsion-fits (known-after (c .before))
 
@@ -137,14 +134,5 @@ returns c =
 pub write-report-spec : {M : Type 1} → statement M
 write-report-spec =
     tie.close
-    (tie.spec
-    reported-count-requires
-    sub-free
-    cast-report
-    slice-set-from-report
-    cast-report-2
-    slice-set-from-report-2
-    write-orders-requires
-    write-generators-requires
-    same-length
-    returns)
+    (tie.spec reported-count-requires sub-free cast-report (λ c. omega arith) cast-report-2 slice-set-from-report-2 write-orders-requires
+    write-generators-requires same-length returns)

@@ -5,8 +5,8 @@ use Rattle.sheet_format.specs.Check.{cellOf}
 use Rattle.complexes.specs.Cell.{Cell, precedes}
 use Rattle.cells.proofs.Cells.{isBefore, compares-precedes, face-last}
 use borrow.Author.Needs.{needs}
-use Rattle.checks.proofs.check.stands_before.Statement.{statement}
-use Rattle.checks.proofs.check.stands_before.Tie as tie
+use Rattle.checks.proofs.rise.stands_before.Statement.{statement}
+use Rattle.checks.proofs.rise.stands_before.Tie as tie
 
 -- the two cells
 abbrev First : tie.Start → Cell

@@ -1,0 +1,25 @@
+-- `operations::layout::Layout::swap_rows` meets its contract: a row exchanged with itself leaves all as it is. Assumes nothing.
+use mathlib.Core.Path.{sym}
+use borrow.Author.Needs.{needs}
+use Rattle.matrices.specs.Operation.{swap}
+use Rattle.operations.proofs.Unchanged.{swap-fits, rows-unchanged}
+use Rattle.operations.proofs.layout.Layout.swap_rows.Statement.{statement}
+use Rattle.operations.proofs.layout.Layout.swap_rows.Tie as tie
+
+returns : tie.Need-returns
+returns c =
+    let start = c .before in
+    record {
+      outcome =
+          sym (rows-unchanged (start .args .self) (start .args .w .now) (start .pre .0) (start .pre .1 .0) (swap (start .args .i) (start .args .k)) (c .if1 .taken)
+          (swap-fits (start .args .i) (start .args .k) (start .pre .1 .1)));
+      small = start .pre .1 .0;
+    }
+
+on-rows-requires : tie.Need-on-rows-requires
+on-rows-requires c κs =
+    let start = c .before .before in let fits = swap-fits (start .args .i) (start .args .k) (start .pre .1 .1) in
+    (start .pre .0, (start .pre .1 .0, fits))
+
+pub swap-rows-spec : {M : Type 1} → statement M
+swap-rows-spec = tie.close (tie.spec returns on-rows-requires (λ c. search needs) (λ c. search needs))
