@@ -7,7 +7,7 @@ use mathlib.Core.List.{List}
 use Prim.Native.Nat.{ℕ, suc, _+_, _*_, _-_, _≤_}
 use denote.Ref.{now}
 use Rattle.sheet_format.specs.Check.{cellOf}
-use Rattle.fields.proofs.Offset.{few}
+use Rattle.fields.proofs.Offset.{most, few}
 use Rattle.checks.specs.Rise.{tested, fails}
 use Rattle.checks.specs.declared.rise.Rise.{Rise}
 use Rattle.checks.proofs.Scan.{Passed, passed-none, passed-more, passed-all, some-found}
@@ -33,7 +33,7 @@ abbrev Test : tie.Start Inv-loop μ-loop → ℕ → Bool
 Test c = Fails (c .args .self) (now (c .args .s)) (c .args .at) (c .args .n)
 
 -- the vertex numbers before cell i
-passed : (c : tie.In-loop Inv-loop μ-loop) → c .before .before .before .before .args .n * c .before .loop .i ≤ 262144
+passed : (c : tie.In-loop Inv-loop μ-loop) → c .before .before .before .before .args .n * c .before .loop .i ≤ most
 passed c =
     let a = c .before .before .before .before .args in
     few (a .n) (c .before .loop .i) (omega arith) (omega (arith, tested-le (a .self) (a .many)))
