@@ -2,3 +2,4 @@
 pub mod line;
 pub mod matrix;
 pub mod operation;
+pub mod zero;

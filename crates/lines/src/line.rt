@@ -5,62 +5,15 @@ ghost use mathlib.Core.Logic.{_⊎_};
 ghost use Prim.Native.Nat.{_+_, _≤_};
 ghost use lib.ListN.{length, replicate};
 ghost use lib.IntN.{pos, natAbs};
-ghost use Rattle.lines.specs.Slice.{limit, block, Small, Apart, ZerosTold, ZerosTo, FirstNonzero, Subtracted, Swapped, Negated};
+ghost use Rattle.lines.specs.Slice.{limit, block, Small, Apart, Subtracted, Swapped, Negated};
 use crate::matrix::Matrix;
+use crate::zero::BLOCK;
+use crate::zero::is_zero_block;
 
 // What an operation answers.
 pub enum Effect {
     Done,
     TooWide,
-}
-
-// How many places are tested for 0 at once.
-const BLOCK: usize = 8;
-
-// Whether the BLOCK entries from `at` on are 0. The loop has no way out before its end, so that the compiler tests several entries at once.
-fn is_zero_block(w: &[i32], at: usize) -> bool
-    requires { ⌜ (at + block ≤ length (now w)) × Small (now w) ⌝ }
-    ensures { λ r. ⌜ ZerosTold (now (w .entry)) at block r ⌝ }
-{
-    let mut nonzero = false;
-    let mut t: usize = 0;
-    while t < BLOCK {
-        if w[at + t] != 0 {
-            nonzero = true;
-        }
-        t = t + 1;
-    }
-    !nonzero
-}
-
-// A place from `from` on before which the line at `at` is 0, found block by block.
-fn skip_zero_blocks(w: &[i32], at: usize, from: usize, width: usize) -> usize
-    requires { ⌜ (at + width ≤ length (now w)) × (from ≤ width) × Small (now w) ⌝ }
-    ensures { λ r. ⌜ ZerosTo (now (w .entry)) at from width r ⌝ }
-{
-    let mut t = from;
-    while t + BLOCK <= width {
-        if !is_zero_block(w, at + t) {
-            return t;
-        }
-        t = t + BLOCK;
-    }
-    t
-}
-
-// The first place from `from` on where the line at `at` is not 0, or its width.
-pub fn first_nonzero(w: &[i32], at: usize, from: usize, width: usize) -> usize
-    requires { ⌜ (at + width ≤ length (now w)) × (from ≤ width) × Small (now w) ⌝ }
-    ensures { λ r. ⌜ FirstNonzero (now (w .entry)) at from width r ⌝ }
-{
-    let mut t = skip_zero_blocks(w, at, from, width);
-    while t < width {
-        if w[at + t] != 0 {
-            return t;
-        }
-        t = t + 1;
-    }
-    width
 }
 
 // Takes q times the line at `source` from the line at `target`, place by place.

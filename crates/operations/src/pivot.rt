@@ -8,8 +8,8 @@ ghost use lib.IntN.{pos, natAbs};
 ghost use Rattle.lines.specs.Slice.{limit, Small};
 ghost use Rattle.lines.specs.Matrices.{Held, contents};
 ghost use Rattle.operations.specs.Scan.{noBest, IsBest, choiceOf, pivotChoice};
-use lines::line::first_nonzero;
 use lines::matrix::Matrix;
+use lines::zero::first_nonzero;
 
 // The entry chosen so far: its absolute value, 0 where there is none, and its place.
 pub struct Best {

@@ -8,8 +8,8 @@ ghost use Rattle.reduction_steps.specs.Step.{columnKeeps, rowKeeps, rowIndivisi
 ghost use Rattle.lines.specs.Slice.{Small};
 ghost use Rattle.lines.specs.Matrices.{Held, contents};
 ghost use Rattle.operations.specs.Scan.{ColumnReduced, indivisibleRow};
-use lines::line::first_nonzero;
 use lines::matrix::Matrix;
+use lines::zero::first_nonzero;
 
 // Step c: whether column k keeps a nonzero entry below row k, each of which is a remainder by the pivot. By 1 all remainders are 0.
 pub fn column_keeps(m: Matrix, w: &[i32], k: usize) -> bool

@@ -1,4 +1,4 @@
--- `line::first_nonzero` meets its contract. The invariant: the places passed are 0. The measure is what is left of the line. Assumes nothing.
+-- `zero::first_nonzero` meets its contract. The invariant: the places passed are 0. The measure is what is left of the line. Assumes nothing.
 use mathlib.Core.Path.{ap, subst, _∙_}
 use Prim.Native.Nat.{ℕ, _+_, _-_}
 use native.Mathlib.Omega.{arith}
@@ -9,8 +9,8 @@ use mir.Val.{ofZ}
 use Rattle.lines.specs.Slice.{at, ZerosTo}
 use Rattle.lines.proofs.Words.{entry-fits, zero-of-bits}
 use Rattle.lines.proofs.Zeros.{zeros-more}
-use Rattle.lines.proofs.line.first_nonzero.Statement.{statement}
-use Rattle.lines.proofs.line.first_nonzero.Tie as tie
+use Rattle.lines.proofs.zero.first_nonzero.Statement.{statement}
+use Rattle.lines.proofs.zero.first_nonzero.Tie as tie
 
 abbrev Inv-loop : tie.InvT-loop
 Inv-loop w a from width t₀ t = ZerosTo w a from width t

@@ -1,4 +1,4 @@
--- `line::is_zero_block` meets its contract. The invariant: unless one was noted, no entry passed differs from 0. Assumes nothing.
+-- `zero::is_zero_block` meets its contract. The invariant: unless one was noted, no entry passed differs from 0. Assumes nothing.
 use mathlib.Core.Path.{_≡_, sym, _∙_}
 use mathlib.Core.Logic.{⊎-elim}
 use mathlib.Core.Bool.{Bool, false, false≢true}
@@ -11,8 +11,8 @@ use borrow.Author.Tests.{not-true}
 use lib.IntN.{ℤ, pos}
 use Rattle.lines.specs.Slice.{block, at}
 use Rattle.lines.proofs.Words.{entry-fits, zero-of-bits}
-use Rattle.lines.proofs.line.is_zero_block.Statement.{statement}
-use Rattle.lines.proofs.line.is_zero_block.Tie as tie
+use Rattle.lines.proofs.zero.is_zero_block.Statement.{statement}
+use Rattle.lines.proofs.zero.is_zero_block.Tie as tie
 
 record Invariant (w : List ℤ) (a : ℕ) (nonzero : Bool) (t : ℕ) : Type 0 where
   below : t ≤ block

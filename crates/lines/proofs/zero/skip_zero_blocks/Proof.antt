@@ -1,4 +1,4 @@
--- `line::skip_zero_blocks` meets its contract. The invariant: the places passed are 0. The measure is what is left of the line.
+-- `zero::skip_zero_blocks` meets its contract. The invariant: the places passed are 0. The measure is what is left of the line.
 -- Assumes nothing.
 use Prim.Native.Nat.{ℕ, _-_}
 use native.Mathlib.Omega.{arith}
@@ -6,8 +6,8 @@ use borrow.Author.Needs.{needs}
 use borrow.Author.Tests.{not-false}
 use Rattle.lines.specs.Slice.{block, ZerosTo}
 use Rattle.lines.proofs.Zeros.{zeros-none, zeros-more}
-use Rattle.lines.proofs.line.skip_zero_blocks.Statement.{statement}
-use Rattle.lines.proofs.line.skip_zero_blocks.Tie as tie
+use Rattle.lines.proofs.zero.skip_zero_blocks.Statement.{statement}
+use Rattle.lines.proofs.zero.skip_zero_blocks.Tie as tie
 
 abbrev Inv-loop : tie.InvT-loop
 Inv-loop w a from width t₀ t = ZerosTo w a from width t
