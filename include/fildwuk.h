@@ -7,7 +7,7 @@
  * length is 0. The calls keep no state: they may run at the same time on several threads, each with its own output. They always return.
  *
  * Each call has its own work arrays on the caller's stack. 256 KiB of stack are enough for any sheet: how deep the calls go is bounded by proof,
- * whatever the sheet, and with the frames of the library as built they take about 58 KiB. docs/SOLVER.md, "Stack", has the figures.
+ * whatever the sheet, and with the frames of the library as built they take about 60 KiB. docs/SOLVER.md, "Stack", has the figures.
  *
  * Numbers stand in bytes, low byte first: 4 bytes for a coefficient of a chain, 8 for a number of a report and for a coordinate, all signed.
  */

@@ -93,9 +93,10 @@ module _ (numbers : ℕ → ℕ → State → List ℤ) (output work : List ℤ)
   work-left zero (reduced s r x) h = record { after-done = λ e. refl; after-wide = λ e. absurd (omega arith); otherwise = λ d e. absurd (d refl) }
   work-left (suc k) R h = record { after-done = λ e. absurd (omega arith); after-wide = λ e. absurd (h e); otherwise = λ d e. refl }
 
-  -- where done leaves what is past its first `many` numbers
+  -- where done with counts leaves what is past its first `many f t` numbers, of f free generators and t orders
   pub call-leaves : (before : ℕ) (R : Reductions) (many : ℕ → ℕ → ℕ) → before ≢ 13
-      → ((counts : Counts) → call before R numbers output work .answer ≡ done counts → KeptPast (pos 0) (many (counts .free) (counts .torsion)) output (call before R numbers output work .output))
+      → ((counts : Counts) → call before R numbers output work .answer ≡ done counts
+      → KeptPast (pos 0) (many (counts .free) (counts .torsion)) output (call before R numbers output work .output))
       → Leaves many output work (call before R numbers output work)
   call-leaves before R many narrow past = record {
     counted = call-counted before R;

@@ -21,7 +21,7 @@ use Rattle.lines.specs.Operations.{Fits}
 use Rattle.lines.specs.declared.matrix.Matrix.{Matrix}
 use Rattle.lines.specs.declared.line.Effect.{Effect}
 use Rattle.lines.specs.declared.line.Effect.the-variants.{Done, TooWide}
-use Rattle.operations.specs.Laid.{Laid, linesOf, stateOf, Operated}
+use Rattle.operations.specs.Laid.{Laid, linesOf, stateOf, Operated, Followed}
 use Rattle.operations.specs.declared.layout.Layout.{Layout}
 use Rattle.operations.proofs.Regions.{disjoint-sym, Kept, kept-refl, kept-trans, contents-off, lines-off, lines-on, shaped}
 use Rattle.operations.proofs.Side.{Side, rows, columns, across, count, follower, undone, onSide, outcomeOn, put, state-put, outcome-put, within-put, Separate, separate, follower-lines, undone-lines, follower-inside, undone-inside, follower-fits, undone-fits}
@@ -113,11 +113,13 @@ module _ (x : Side) (op : Operation) (W : Layout) where
   newState w w₁ w₂ =
       put x (newMatrix w) (newFollower w₁) (newUndone w₂) (linesOf (follower (across x) W) w) (linesOf (undone (across x) W) w)
 
--- what a companion's call asks
-pub record Ready (M : Matrix) (op : Operation) (w : List ℤ) : Type 0 where
-  pub held : Held (length w) M
+-- what the companions' call asks
+pub record Companions (F U : Matrix) (op : Operation) (w : List ℤ) : Type 0 where
+  pub follower-held : Held (length w) F
+  pub inverse-held : Held (length w) U
   pub small : Small w
-  pub fits : Fits (M .lines) op
+  pub follower-fits : Fits (F .lines) op
+  pub inverse-fits : Fits (U .lines) (inverse op)
 
 module _ (x : Side) (op : Operation) (W : Layout) (w : List ℤ) (l : Laid (length w) W) (f : Within (count x W) op) where
   apart : Separate (W .matrix) (follower x W) (undone x W) (follower (across x) W) (undone (across x) W)
@@ -218,37 +220,17 @@ module _ (t : Task) (w₁ : List ℤ) (r₁ : Effect) (b₁ : OnMatrix (t .side)
     done₁ : OnMatrix (t .side) (t .operation) (t .layout) (t .slice) Done w₁
     done₁ = subst (λ (r : Effect). OnMatrix (t .side) (t .operation) (t .layout) (t .slice) r w₁) e₁ b₁
 
-    pub follower-ready : Ready (follower (t .side) (t .layout)) (t .operation) w₁
-    follower-ready = record {
-      held = record { ends = rw (done₁ .same-length) (follower-inside (t .laid) (t .side)) };
+    -- what the companions' call asks
+    pub companions-ready : Companions (follower (t .side) (t .layout)) (undone (t .side) (t .layout)) (t .operation) w₁
+    companions-ready = record {
+      follower-held = record { ends = rw (done₁ .same-length) (follower-inside (t .laid) (t .side)) };
+      inverse-held = record { ends = rw (done₁ .same-length) (undone-inside (t .laid) (t .side)) };
       small = done₁ .small;
-      fits = follower-fits (t .laid) (t .side) (t .fits);
+      follower-fits = follower-fits (t .laid) (t .side) (t .fits);
+      inverse-fits = undone-fits (t .laid) (t .side) (t .fits);
     }
 
-    module _ (w₂ : List ℤ) (r₂ : Effect) (b₂ : OnFollower (t .side) (t .operation) (t .layout) w₁ r₂ w₂) where
-      -- the follower does
-      pub wide-follower : r₂ ≡ TooWide → Comes t TooWide w₂
-      wide-follower e =
-          wide-second (t .side) (t .operation) (t .layout) (t .slice) (t .laid) (t .fits .within) done₁
-          (subst (λ (r : Effect). OnFollower (t .side) (t .operation) (t .layout) w₁ r w₂) e b₂)
-
-      module _ (e₂ : r₂ ≡ Done) where
-        done₂ : OnFollower (t .side) (t .operation) (t .layout) w₁ Done w₂
-        done₂ = subst (λ (r : Effect). OnFollower (t .side) (t .operation) (t .layout) w₁ r w₂) e₂ b₂
-
-        -- the last call is of an operation o that is the inverse
-        module _ (o : Operation) (is-inverse : o ≡ inverse (t .operation)) where
-          pub undone-ready : Ready (undone (t .side) (t .layout)) o w₂
-          undone-ready = record {
-            held = record { ends = rw (done₂ .same-length, done₁ .same-length) (undone-inside (t .laid) (t .side)) };
-            small = done₂ .small;
-            fits = subst (λ (y : Operation). Fits (undone (t .side) (t .layout) .lines) y) (sym is-inverse) (undone-fits (t .laid) (t .side) (t .fits));
-          }
-
-          -- the inverse companion goes too wide, or all is done
-          pub operated :
-              (w₃ : List ℤ) (r : Effect) → Became (undone (t .side) (t .layout)) w₂ (onRows o (contents (undone (t .side) (t .layout)) w₂)) r w₃
-              → Comes t r w₃
-          operated w₃ r b₃ =
-              ends (t .side) (t .operation) (t .layout) (t .slice) (t .laid) (t .fits .within) done₁ done₂ r
-              (subst (λ (y : Operation). Became (undone (t .side) (t .layout)) w₂ (onRows y (contents (undone (t .side) (t .layout)) w₂)) r w₃) is-inverse b₃)
+    -- a companion goes too wide, or all is done
+    pub operated : {r : Effect} {w₃ : List ℤ} → Followed (follower (t .side) (t .layout)) (undone (t .side) (t .layout)) (t .operation) w₁ r w₃ → Comes t r w₃
+    operated (Followed.stopped h) = wide-second (t .side) (t .operation) (t .layout) (t .slice) (t .laid) (t .fits .within) done₁ h
+    operated (Followed.followed h r g) = ends (t .side) (t .operation) (t .layout) (t .slice) (t .laid) (t .fits .within) done₁ h r g

@@ -3,10 +3,11 @@ use mathlib.Core.Path.{_≡_}
 use mathlib.Core.List.{List}
 use Prim.Native.Nat.{ℕ, _≤_}
 use lib.IntN.{ℤ}
+use Rattle.matrices.specs.Operation.{Operation, onRows, inverse}
 use Rattle.reduction_steps.specs.Table.{Table, table}
 use Rattle.reduction_steps.specs.State.{Sizes, State, Outcome, made, tooWide}
 use Rattle.lines.specs.Slice.{Small}
-use Rattle.lines.specs.Matrices.{end, contents}
+use Rattle.lines.specs.Matrices.{end, contents, Became}
 use Rattle.lines.specs.declared.matrix.Matrix.{Matrix}
 use Rattle.lines.specs.declared.line.Effect.{Effect}
 use Rattle.lines.specs.declared.line.Effect.the-variants.{Done, TooWide}
@@ -61,3 +62,10 @@ outcomeOf TooWide s = tooWide
 pub record Operated (W : Layout) (o : Outcome) (r : Effect) (w′ : List ℤ) : Type 0 where
   pub outcome : outcomeOf r (stateOf W w′) ≡ o
   pub small : Small w′
+
+-- a follower F undergoes the operation and an inverse companion U its inverse: F goes too wide, or U comes to r after it
+pub data Followed (F U : Matrix) (op : Operation) (w : List ℤ) : Effect → List ℤ → Type 0 where
+  stopped : {w′ : List ℤ} → Became F w (onRows op (contents F w)) TooWide w′ → Followed F U op w TooWide w′
+  followed :
+      {w₁ : List ℤ} → Became F w (onRows op (contents F w)) Done w₁ → (r : Effect) {w′ : List ℤ} →
+      Became U w₁ (onRows (inverse op) (contents U w₁)) r w′ → Followed F U op w r w′

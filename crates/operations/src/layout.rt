@@ -2,11 +2,12 @@
 ghost use mathlib.Core.Path.{_≡_};
 ghost use Prim.Native.Nat.{_+_, _*_, _<_, _≤_, max};
 ghost use lib.ListN.{length};
-ghost use Rattle.matrices.specs.Operation.{swap};
+ghost use Rattle.matrices.specs.Operation.{swap, inverse as undoing};
 ghost use Rattle.reduction_steps.specs.State.{onRow, onColumn};
 ghost use Rattle.lines.specs.Slice.{limit, Small};
 ghost use Rattle.lines.specs.Operations.{operationOf, Fits, Alone};
-ghost use Rattle.operations.specs.Laid.{Laid, sizesOf, stateOf, Operated};
+ghost use Rattle.lines.specs.Matrices.{Held};
+ghost use Rattle.operations.specs.Laid.{Laid, sizesOf, stateOf, Operated, Followed};
 ghost use Rattle.operations.specs.Layouts.{firstLayout, secondLayout};
 use lines::line::Effect;
 use lines::matrix::Matrix;
@@ -111,6 +112,19 @@ impl Layout {
     }
 }
 
+// Does the operation to a follower, then its inverse to an inverse companion.
+fn follow(follower: Matrix, inverse: Matrix, w: &mut [i32], op: Operation) -> Effect
+    requires { ⌜ Held (length (now w)) follower × Held (length (now w)) inverse × Small (now w) ⌝ }
+    requires { ⌜ Fits (follower .lines) (operationOf op) × Fits (inverse .lines) (undoing (operationOf op)) ⌝ }
+    ensures { λ r. ⌜ Followed follower inverse (operationOf op) (now (w .entry)) r (now (w .exit)) ⌝ }
+{
+    let undone = op.inverse();
+    let Effect::Done = follower.on_lines(w, op) else {
+        return Effect::TooWide;
+    };
+    inverse.on_lines(w, undone)
+}
+
 impl Layout {
     // Does the operation to the rows of the matrix, and so to its companions.
     pub fn on_rows(self, w: &mut [i32], op: Operation) -> Effect
@@ -119,14 +133,10 @@ impl Layout {
         requires { ⌜ Fits (self .matrix .lines) (operationOf op) ⌝ }
         ensures { λ r. ⌜ Operated self (onRow limit (sizesOf self) (operationOf op) (stateOf self (now (w .entry)))) r (now (w .exit)) ⌝ }
     {
-        let inverse = op.inverse();
         let Effect::Done = self.matrix.on_lines(w, op) else {
             return Effect::TooWide;
         };
-        let Effect::Done = self.row_follower.on_lines(w, op) else {
-            return Effect::TooWide;
-        };
-        self.row_inverse.on_lines(w, inverse)
+        follow(self.row_follower, self.row_inverse, w, op)
     }
 
     // The same on columns. Where column k is subtracted, its one nonzero entry stands in row k: the matrix changes in that row alone.
@@ -136,14 +146,10 @@ impl Layout {
         requires { ⌜ Fits (self .matrix .width) (operationOf op) × Alone (self .matrix) (now w) (operationOf op) ⌝ }
         ensures { λ r. ⌜ Operated self (onColumn limit (sizesOf self) (operationOf op) (stateOf self (now (w .entry)))) r (now (w .exit)) ⌝ }
     {
-        let inverse = op.inverse();
         let Effect::Done = self.matrix.on_places(w, op) else {
             return Effect::TooWide;
         };
-        let Effect::Done = self.column_follower.on_lines(w, op) else {
-            return Effect::TooWide;
-        };
-        self.column_inverse.on_lines(w, inverse)
+        follow(self.column_follower, self.column_inverse, w, op)
     }
 
     // Exchanges rows i and k. A row is not exchanged with itself.
