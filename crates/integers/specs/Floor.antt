@@ -1,6 +1,6 @@
 -- Laws of division rounded towards minus infinity. `Division a d q r`: a = q·d + r with 0 ≤ r < d.
 -- For a positive divisor: `floor-division`, `natAbs-modulo`, `floor-unique`, `modulo-unique`, `dvd-iff-modulo`, `modulo-eq-iff`.
--- For every divisor: `modulo-zero`, `floor-modulo`, `natAbs-floor`, and `floor-neg`: floor (-a) (-d) is floor a d unless d is 0.
+-- For every divisor: `modulo-zero`, `floor-zero`, `floor-modulo`, `natAbs-floor`, and `floor-neg`: floor (-a) (-d) is floor a d unless d is 0.
 use mathlib.Core.Path.{_≡_, refl, sym, _∙_, ap, subst}
 use mathlib.Core.Logic.{_≢_, _↔_}
 use mathlib.Core.List.{[], _∷_}
@@ -21,6 +21,16 @@ modulo-is a d = refl
 
 pub modulo-zero : (a : ℤ) → modulo a (pos 0) ≡ a
 modulo-zero a = modulo-is a (pos 0) ∙ ap (λ (t : ℤ). a -ℤ t) (mul-zero (floor a (pos 0))) ∙ add-zero a
+
+pub floor-zero : (d : ℤ) → floor (pos 0) d ≡ pos 0
+unfolding floor
+floor-zero (pos d) = ap pos (NatL.zero-div d)
+floor-zero (negsuc d) = refl
+
+pub floor-one : (x : ℤ) → floor x (pos 1) ≡ x
+unfolding floor
+floor-one (pos x) = ap pos (NatL.div-one x)
+floor-one (negsuc x) = ap negsuc (NatL.div-one x)
 
 pub floor-modulo : (a d : ℤ) → a ≡ floor a d *ℤ d +ℤ modulo a d
 unfolding modulo

@@ -1,15 +1,15 @@
 -- The machine's division, `quotZ` and `remZ`, which round towards zero, and how it gives the division of `Floor`.
--- `quotZ-remZ`: a = quotZ a d · d + remZ a d; `natAbs-remZ`, `remZ-lt`: the remainder's size; `dvd-iff-remZ`: it is 0
+-- `quotZ-remZ`: a = quotZ a d · d + remZ a d; `natAbs-quotZ`, `mag-quotZ`: the quotient's size; `natAbs-remZ`, `remZ-lt`: the remainder's size; `dvd-iff-remZ`: it is 0
 -- exactly where d divides a; `remZ-of-nonneg`, `remZ-of-neg`: its sign is the dividend's.
 -- For a positive divisor: `floor-quotZ` where the remainder is not negative, `floor-quotZ-pred` where it is.
 use mathlib.Core.Path.{_≡_, refl, sym, _∙_, ap, subst}
 use mathlib.Core.Logic.{_≢_, _↔_}
 use mathlib.Core.List.{[], _∷_}
-use Prim.Native.Nat.{ℕ, zero, suc, _-_, _/_, _%_, _<_, zero-le}
+use Prim.Native.Nat.{ℕ, zero, suc, _-_, _/_, _%_, _≤_, _<_, zero-le}
 use native.Mathlib.Nat as NatL
 use native.Mathlib.Omega.{arith}
 use lib.IntN.{ℤ, pos, negsuc, negℤ, natAbs, _+ℤ_, _-ℤ_, _*ℤ_}
-use lib.Signed.{_≤ℤ_, _<ℤ_, <ℤ-irrefl, quotZ, remZ}
+use lib.Signed.{_≤ℤ_, _<ℤ_, <ℤ-irrefl, mag, quotZ, remZ}
 use Rattle.integers.specs.Solve.{solve, terms}
 use Rattle.integers.specs.Order.{natAbs-neg, natAbs-zero, le-pos, lt-pos, pos-lt}
 use Rattle.integers.specs.Divides.{dvd-iff-mod}
@@ -33,6 +33,23 @@ quotZ-remZ (pos a) (pos d) = quot-rem a d
 quotZ-remZ (pos a) (negsuc d) = quot-rem a (suc d) ∙ neg-mul-neg (pos (a / suc d)) (pos (suc d)) (pos (a % suc d))
 quotZ-remZ (negsuc a) (pos d) = ap negℤ (quot-rem (suc a) d) ∙ neg-dividend (pos (suc a / d)) (pos d) (pos (suc a % d))
 quotZ-remZ (negsuc a) (negsuc d) = ap negℤ (quot-rem (suc a) (suc d)) ∙ neg-divisor (pos (suc a / suc d)) (pos (suc d)) (pos (suc a % suc d))
+
+pub natAbs-quotZ : (a d : ℤ) → natAbs (quotZ a d) ≤ natAbs a
+natAbs-quotZ (pos a) (pos d) = NatL.div-le-self a d
+natAbs-quotZ (pos a) (negsuc d) = rw natAbs-neg (NatL.div-le-self a (suc d))
+natAbs-quotZ (negsuc a) (pos d) = rw natAbs-neg (NatL.div-le-self (suc a) d)
+natAbs-quotZ (negsuc a) (negsuc d) = NatL.div-le-self (suc a) (suc d)
+
+mag-neg : (r a : ℕ) → r ≤ suc a → mag (negℤ (pos r)) ≤ a
+mag-neg zero a h = zero-le
+mag-neg (suc r) a h = omega arith
+
+-- towards zero, a positive divisor makes nothing larger
+pub mag-quotZ : (a d : ℤ) → pos 0 <ℤ d → mag (quotZ a d) ≤ mag a
+mag-quotZ (pos a) (pos d) p = NatL.div-le-self a d
+mag-quotZ (negsuc a) (pos d) p = mag-neg (suc a / d) a (NatL.div-le-self (suc a) d)
+mag-quotZ (pos a) (negsuc d) p = absurd (p .lt)
+mag-quotZ (negsuc a) (negsuc d) p = absurd (p .lt)
 
 pub natAbs-remZ : (a d : ℤ) → natAbs (remZ a d) ≡ natAbs a % natAbs d
 natAbs-remZ (pos a) d = refl

@@ -13,7 +13,7 @@ use Rattle.lines.specs.Slice.{limit, at, Small, Apart, LineSet, Beyond, 
 use Rattle.lines.specs.declared.line.Effect.{Effect}
 use Rattle.lines.specs.declared.line.Effect.the-variants.{Done, TooWide}
 use Rattle.lines.proofs.Store.{lineSet-none}
-use Rattle.lines.proofs.Words.{read, read-wide}
+use Rattle.words.specs.Read.{read, read-wide}
 
 -- what a call asks, and what the slice holds
 pub record Partly (w₀ : List ℤ) (target source width : ℕ) (q : ℤ) (t : ℕ) (w : List ℤ) : Type 0 where

@@ -1,5 +1,4 @@
 -- What the proofs of the crate share.
-pub mod Words
 pub mod Store
 pub mod Blocks
 pub mod Zeros

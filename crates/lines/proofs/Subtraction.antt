@@ -14,7 +14,7 @@ use Rattle.lines.specs.declared.matrix.Matrix.{Matrix}
 use Rattle.lines.specs.declared.line.Effect.{Effect}
 use Rattle.lines.specs.declared.operation.Operation.{Operation}
 use Rattle.lines.specs.declared.operation.Operation.the-variants.{Subtract}
-use Rattle.lines.proofs.Words.{read, read-wide}
+use Rattle.words.specs.Read.{read, read-wide}
 use Rattle.lines.proofs.Spans.{Span, line-span, span-inside, spans-apart}
 use Rattle.lines.proofs.Operations.{subtract-lines, fits-case, became-case}
 

@@ -8,7 +8,8 @@ use lib.IntN.{ℤ, pos, negsuc, negℤ, natAbs, _-ℤ_}
 use lib.Signed.{ltZ}
 use mir.Syntax.{w64}
 use Rattle.lines.specs.Slice.{limit}
-use Rattle.lines.proofs.Words.{read, read-wide, negated-read}
+use Rattle.words.specs.Read.{read, read-wide}
+use Rattle.words.specs.Negate.{negated-read}
 
 module _ (q : ℤ) (small : natAbs q ≤ limit) where
   pub absolute-below : ltZ (read w64 q) (pos 0) ≡ true → read w64 (pos 0 -ℤ read w64 q) ≡ pos (natAbs q)

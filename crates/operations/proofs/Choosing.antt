@@ -17,8 +17,7 @@ use Rattle.reduction_steps.specs.Pivot.{Choice, none, place, better}
 use Rattle.lines.specs.Slice.{limit, lineAt, Small}
 use Rattle.lines.specs.Matrices.{contents}
 use Rattle.lines.specs.declared.matrix.Matrix as lines
-use Rattle.lines.proofs.Words.{read, read-wide, wide-fits}
-use Rattle.operations.proofs.Division.{of-bits}
+use Rattle.words.specs.Read.{read, read-wide, wide-fits, of-bits}
 use Rattle.operations.specs.Scan.{choiceAt, choiceOf, SizeOf, IsBest}
 use Rattle.operations.specs.declared.pivot.Best.{Best}
 

@@ -1,6 +1,5 @@
--- What the proofs of the crate share: whole numbers and words (`Division`, `AbsoluteValue`), products of counts (`Room`), the operations (`Regions`,
+-- What the proofs of the crate share: absolute values (`AbsoluteValue`), products of counts (`Room`), the operations (`Regions`,
 -- `Side`, `Operate`, `Unchanged`), the scans for a remainder (`Tests`) and for a pivot (`Choosing`, `Scanning`).
-pub mod Division
 mod AbsoluteValue
 pub mod Room
 pub mod Regions

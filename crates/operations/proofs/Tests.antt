@@ -23,9 +23,9 @@ use Rattle.matrices.specs.Matrix.{Matrix}
 use Rattle.lines.specs.Slice.{at, lineAt, FirstNonzero}
 use Rattle.lines.specs.Matrices.{contents}
 use Rattle.lines.specs.declared.matrix.Matrix as lines
-use Rattle.lines.proofs.Words.{read}
+use Rattle.words.specs.Read.{read, of-bits}
+use Rattle.words.specs.Division.{remainder-zero, zero-remainder}
 use Rattle.operations.specs.Scan.{ColumnReduced}
-use Rattle.operations.proofs.Division.{of-bits, remainder-zero, zero-remainder}
 use Rattle.reduction_steps.specs.Step.{columnKeeps, rowKeeps, rowIndivisible, noRow, row, firstIndivisible}
 
 -- ---- whether one of some places passes a test

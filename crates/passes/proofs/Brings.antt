@@ -14,7 +14,7 @@ use Rattle.reduction_steps.specs.State.{Sizes, State, tooWide, made, andThen, o
 use Rattle.reduction_steps.specs.Step.{positive, bring}
 use Rattle.lines.specs.Slice.{Small}
 use Rattle.lines.specs.Matrices.{contents}
-use Rattle.lines.proofs.Words.{read}
+use Rattle.words.specs.Read.{read}
 use Rattle.operations.specs.Laid.{stateOf}
 use Rattle.operations.specs.declared.layout.Layout.{Layout}
 use Rattle.passes.proofs.States.{entry-state}

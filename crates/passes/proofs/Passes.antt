@@ -24,7 +24,7 @@ use Rattle.lines.specs.Slice.{limit, at, lineAt, Small, FirstNonzero}
 use Rattle.lines.specs.Matrices.{contents}
 use Rattle.operations.specs.Laid.{Laid, sizesOf, stateOf}
 use Rattle.operations.specs.declared.layout.Layout.{Layout}
-use Rattle.operations.proofs.Division.{floor-zero}
+use Rattle.integers.specs.Floor.{floor-zero}
 use Rattle.operations.proofs.Unchanged.{columns-unchanged}
 use Rattle.refusal.specs.declared.Refusal.the-variants as Refusal
 use Rattle.passes.specs.Answer.{Placed, ColumnClear, rowPassOf, columnPassOf, PassMade, PassRefused}

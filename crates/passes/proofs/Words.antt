@@ -10,7 +10,7 @@ use Rattle.reduction_laws.specs.Letters.{ReadyC}
 use Rattle.lines.specs.Slice.{limit, lineAt, Small}
 use Rattle.lines.specs.Matrices.{contents}
 use Rattle.lines.specs.declared.matrix.Matrix.{Matrix}
-use Rattle.lines.proofs.Words.{read, read-wide}
+use Rattle.words.specs.Read.{read, read-wide}
 use Rattle.operations.specs.Laid.{sizesOf, stateOf}
 use Rattle.operations.specs.declared.layout.Layout.{Layout}
 use Rattle.passes.proofs.States.{entry-state}
@@ -24,10 +24,6 @@ read-entry M {w} h i j x e = ap (read w64) e ∙ read-wide (contents M w i j) (s
 
 pub pivot-positive : (W : Layout) (k : ℕ) (w : List ℤ) → ReadyC (sizesOf W) k (stateOf W w) → pos 0 <ℤ contents (W .matrix) w k k
 pivot-positive W k w h = subst (λ (x : ℤ). pos 0 <ℤ x) (entry-state W w k k (h .row) (h .column)) (h .positive)
-
--- a quotient as the machine reads it
-pub quotient-small : (q : ℤ) → natAbs q ≤ limit → natAbs (read w64 q) ≤ limit
-quotient-small q l = rw (read-wide q l) l
 
 -- x holds the entry at (i, j), and d the pivot
 module _ (W : Layout) (k : ℕ) (w : List ℤ) (small : Small w) (ready : ReadyC (sizesOf W) k (stateOf W w)) (i j : ℕ) {x d : ℤ} (x-is : x ≡ contents (W .matrix) w i j) (d-is : d ≡ contents (W .matrix) w k k) where

@@ -9,13 +9,14 @@ use lib.ListN.{length, getD, take, drop, length-drop}
 use lib.Seq.{getD-drop}
 use lib.IntN.{ℤ, pos}
 use lib.Signed.{mag}
+use mir.Syntax.{w64}
 use mir.Facts.{toZ-ofZ}
+use Rattle.words.specs.Read.{read}
 use Rattle.reports.specs.Text.{decimal, spaced}
 use Rattle.reports.specs.TextLaws.{spaced-suc}
 use Rattle.text.specs.Put.{Puts, PutsWithin}
 use Rattle.text.specs.Room.{numberRoom, fieldRoom}
 use Rattle.text.specs.PutLaws.{within-nothing, within-length, within-append, within-more, within-next}
-use Rattle.text.proofs.Size.{read}
 
 pub record Fields (numbers : List ℤ) (from to : ℕ) (out₀ : List ℕ) (at next i : ℕ) (out : List ℕ) : Type 0 where
   pub low : from ≤ i
@@ -44,7 +45,7 @@ module _ {numbers : List ℤ} {from to : ℕ} {out₀ : List ℕ} {at : ℕ} whe
       → i < to → to ≤ length numbers → at + fieldRoom * (to - from) ≤ length out₀
       → {r r′ : ℕ} {out′ out″ : List ℕ}
       → mag (getD numbers i (pos 0)) < 2 ^ 63
-      → Puts (32 ∷ []) next out r out′ → PutsWithin numberRoom (decimal (read (getD numbers i (pos 0)))) r out′ r′ out″ → length out″ ≡ length out
+      → Puts (32 ∷ []) next out r out′ → PutsWithin numberRoom (decimal (read w64 (getD numbers i (pos 0)))) r out′ r′ out″ → length out″ ≡ length out
       → Fields numbers from to out₀ at r′ (i + 1) out″
   fields-more {next} {i} {out} h l to-in room {r} {r′} {out′} {out″} f a b e =
       record {

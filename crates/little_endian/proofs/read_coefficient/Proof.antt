@@ -9,10 +9,12 @@ use borrow.Author.Needs.{needs}
 use borrow.Author.Tests.{le-ltb}
 use lib.Dec.{ltb}
 use lib.ListN.{getD}
-use lib.IntN.{ℤ, pos, negsuc, negℤ, _-ℤ_, +ℤ-idl, -ℤ-one}
+use lib.IntN.{ℤ, pos, negsuc, negℤ, _-ℤ_, -ℤ-one}
 use mir.Syntax.{w32}
-use mir.Val.{SFits, toZ, ofZ, sel}
+use mir.Val.{SFits, toZ, sel}
 use mir.Facts.{toZ-ofZ}
+use Rattle.words.specs.Read.{read}
+use Rattle.words.specs.Negate.{opposite-fits, opposite-read}
 use Rattle.sheet_format.specs.Check.{fieldAt}
 use Rattle.reports.specs.Host.{coefficientAt}
 use Rattle.little_endian.proofs.read_coefficient.Statement.{statement}
@@ -41,16 +43,12 @@ abbrev opposite : ℕ → ℤ
 opposite m = pos 0 -ℤ toZ w32 m
 
 abbrev less : ℕ → ℤ
-less m = toZ w32 (ofZ w32 (opposite m)) -ℤ pos 1
+less m = read w32 (opposite m) -ℤ pos 1
 
 record Down (m : ℕ) : Type 0 where
   opposite-fits : SFits w32 (opposite m)
   less-fits : SFits w32 (less m)
-  is : toZ w32 (ofZ w32 (less m)) ≡ negsuc m
-
-neg-fits : (m : ℕ) → m < 2 ^ 31 → SFits w32 (negℤ (pos m))
-neg-fits zero h = record { sfits = h }
-neg-fits (suc m) h = record { sfits = omega arith }
+  is : read w32 (less m) ≡ negsuc m
 
 neg-less : (m : ℕ) → negℤ (pos m) -ℤ pos 1 ≡ negsuc m
 neg-less zero = refl
@@ -59,22 +57,16 @@ neg-less (suc m) = -ℤ-one (negsuc m)
 down : (m : ℕ) → m < 2 ^ 31 → Down m
 down m h =
     record {
-      opposite-fits = rw o (neg-fits m h);
+      opposite-fits = opposite-fits w32 (pos m) h;
       less-fits = rw l fits;
-      is = ap (λ (z : ℤ). toZ w32 (ofZ w32 z)) l ∙ toZ-ofZ fits;
+      is = ap (read w32) l ∙ toZ-ofZ fits;
     }
   where
     fits : SFits w32 (negsuc m)
     fits = record { sfits = h }
 
-    positive : toZ w32 m ≡ pos m
-    positive = toZ-ofZ {w = w32} {z = pos m} (record { sfits = h })
-
-    o : opposite m ≡ negℤ (pos m)
-    o = ap (λ (z : ℤ). pos 0 -ℤ z) positive ∙ +ℤ-idl (negℤ (pos m))
-
     l : less m ≡ negsuc m
-    l = ap (λ (z : ℤ). toZ w32 (ofZ w32 z) -ℤ pos 1) o ∙ ap (λ (z : ℤ). z -ℤ pos 1) (toZ-ofZ (neg-fits m h)) ∙ neg-less m
+    l = ap (λ (z : ℤ). z -ℤ pos 1) (opposite-read w32 (pos m) h) ∙ neg-less m
 
 module _ (c : tie.After-field2) where
   abbrev word : ℕ

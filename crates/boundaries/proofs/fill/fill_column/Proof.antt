@@ -23,7 +23,7 @@ use Rattle.boundaries.specs.Column.{ColumnFilled}
 use Rattle.faces.proofs.Sheet.{complex}
 use Rattle.faces.proofs.Column.{entry, part-none, part-face, part-other, part-fresh, part-all}
 use Rattle.boundaries.proofs.Store.{Place, place-inside, entry-set, column-set}
-use Rattle.faces.proofs.Words.{sign-cast, sign-entry}
+use Rattle.faces.proofs.Signs.{sign-cast, sign-entry}
 use Rattle.boundaries.proofs.fill.fill_column.Statement.{statement}
 use Rattle.boundaries.proofs.fill.fill_column.Tie as tie
 

@@ -17,9 +17,10 @@ use Rattle.matrices.specs.Sum.{sum}
 use Rattle.complexes.specs.Boundary.{sign}
 use Rattle.complexes.specs.CoefficientLaws.{natAbs-sign}
 use Rattle.lines.specs.Slice.{limit, at, Small}
-use Rattle.lines.proofs.Words.{read, read-entry, entry-fits, cast-fits}
+use Rattle.words.specs.Read.{read, read-entry, entry-fits, cast-fits}
+use Rattle.words.specs.Sum.{term-fits, sum-fits, sum-is}
 use Rattle.matrices.specs.SumLaws.{natAbs-sum}
-use Rattle.faces.proofs.Words.{term-fits, sum-fits, sum-is}
+use Rattle.faces.proofs.Signs.{sign-unit}
 use Rattle.boundaries.proofs.product.line_product.Statement.{statement}
 use Rattle.boundaries.proofs.product.line_product.Tie as tie
 
@@ -53,14 +54,14 @@ module _ {w : List ℤ} {line : ℕ} {places : List ℕ} {faces t : ℕ} {total 
   cast-word = cast-fits x (entry-fits x x-small)
 
   term-word : SFits w64 (read w64 (read w32 x) *ℤ read w64 r)
-  term-word = term-fits total (read w32 x) r t r-is total-small read-small
+  term-word = term-fits total (read w32 x) r r-is (sign-unit t) total-small read-small
 
   sum-word : SFits w64 (total +ℤ read w64 (read w64 (read w32 x) *ℤ read w64 r))
-  sum-word = sum-fits total (read w32 x) r t r-is total-small read-small
+  sum-word = sum-fits total (read w32 x) r r-is (sign-unit t) total-small read-small
 
   added-is : read w64 (total +ℤ read w64 (read w64 (read w32 x) *ℤ read w64 r)) ≡ sum (t + 1) (signed w line places)
   unfolding sum
-  added-is = sum-is total (read w32 x) r t r-is total-small read-small ∙ rw (read-entry x x-small, inv .so-far (NatL.le-of-lt more), add-one t)
+  added-is = sum-is total (read w32 x) r r-is (sign-unit t) total-small read-small ∙ rw (read-entry x x-small, inv .so-far (NatL.le-of-lt more), add-one t)
 
 none-yet : (w : List ℤ) (line : ℕ) (places : List ℕ) (faces : ℕ) → Invariant w line places faces 0 (pos 0)
 unfolding sum

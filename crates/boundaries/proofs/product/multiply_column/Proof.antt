@@ -23,7 +23,8 @@ use Rattle.lines.specs.Matrices.{Held, contents, end}
 use Rattle.lines.specs.declared.matrix.Matrix.{Matrix}
 use Rattle.lines.proofs.Spans.{line-span, span-inside}
 use Rattle.lines.proofs.Operations.{upTo, upTo-below, upTo-from}
-use Rattle.lines.proofs.Words.{read, read-entry, entry-fits, beyond-low, beyond-high, within}
+use Rattle.words.specs.Read.{read, read-entry, entry-fits}
+use Rattle.words.specs.Tests.{beyond-low, beyond-high, within}
 use Rattle.faces.specs.Face.{AreFaces}
 use Rattle.boundaries.specs.Column.{ColumnFilled, ColumnExceeds}
 use Rattle.faces.proofs.Sheet.{complex}
@@ -181,17 +182,17 @@ same-length : tie.Need-same-length Inv-loop μ-loop
 same-length c = turn (c .before) .before .loop .inv .so-far .same-length
 
 returns : tie.Need-returns Inv-loop μ-loop
-returns c = exceeds (c .before) (beyond-low (read w64 (v (c .before))) (c .if1 .taken))
+returns c = exceeds (c .before) (beyond-low limit (read w64 (v (c .before))) (c .if1 .taken))
 
 same-length-2 : tie.Need-same-length-2 Inv-loop μ-loop
 same-length-2 c = turn (c .before .before) .before .loop .inv .so-far .same-length
 
 returns-2 : tie.Need-returns-2 Inv-loop μ-loop
-returns-2 c = exceeds (c .before .before) (beyond-high (read w64 (v (c .before .before))) (c .if2 .taken))
+returns-2 c = exceeds (c .before .before) (beyond-high limit (read w64 (v (c .before .before))) (c .if2 .taken))
 
 stays : (c : tie.Else2 Inv-loop μ-loop) → natAbs (v (c .before .before)) ≤ limit
 stays c =
-    subst (λ (z : ℤ). natAbs z ≤ limit) (read-v (c .before .before)) (within (read w64 (v (c .before .before))) (c .before .if1 .left) (c .if2 .left))
+    subst (λ (z : ℤ). natAbs z ≤ limit) (read-v (c .before .before)) (within limit (read w64 (v (c .before .before))) (c .before .if1 .left) (c .if2 .left))
 
 module _ (c : tie.After-line2 Inv-loop μ-loop) where
   abbrev made : tie.After-line-product Inv-loop μ-loop

@@ -21,13 +21,14 @@ use Rattle.sheet_format.specs.Layout.{top}
 use Rattle.sheet_format.specs.Check.{sectionsOf, chainCells}
 use Rattle.limits.specs.Limits.{libraryLimit, coefficientLimit}
 use Rattle.lines.specs.Slice.{limit}
-use Rattle.lines.proofs.Words.{read, sfits-below, read-wide}
+use Rattle.words.specs.Read.{read, sfits-below, read-wide}
+use Rattle.words.specs.Sum.{term-fits, sum-fits, sum-is}
 use Rattle.faces.specs.Face.{IsFace}
 use Rattle.chains.specs.Sums.{Sums, AddsFaces}
 use Rattle.faces.proofs.Sheet.{complex}
 use Rattle.faces.proofs.Column.{entry, part-none, part-face, part-other, part-all}
 use Rattle.faces.proofs.Sums.{natAbs-part}
-use Rattle.faces.proofs.Words.{term-fits, sum-fits, sum-is}
+use Rattle.faces.proofs.Signs.{sign-unit}
 use Rattle.chains.proofs.chain.add_faces.Statement.{statement}
 use Rattle.chains.proofs.chain.add_faces.Tie as tie
 
@@ -86,10 +87,10 @@ module _ {b : List ℕ} {p j : ℕ} {x : ℤ} {sums₀ : List ℤ} {t : ℕ} {su
   factor-small = omega (arith, given .factor)
 
   term-word : SFits w64 (read w64 x *ℤ read w64 r)
-  term-word = term-fits (read w64 old) x r t r-is read-small factor-small
+  term-word = term-fits (read w64 old) x r r-is (sign-unit t) read-small factor-small
 
   sum-word : SFits w64 (read w64 old +ℤ read w64 (read w64 x *ℤ read w64 r))
-  sum-word = sum-fits (read w64 old) x r t r-is read-small factor-small
+  sum-word = sum-fits (read w64 old) x r r-is (sign-unit t) read-small factor-small
 
   -- the new sum as the machine computes it
   abbrev new : ℤ
@@ -97,7 +98,7 @@ module _ {b : List ℕ} {p j : ℕ} {x : ℤ} {sums₀ : List ℤ} {t : ℕ} {su
 
   new-is : new ≡ getD sums₀ i (pos 0) +ℤ x *ℤ entry b p j (t + 1) i
   new-is =
-      sum-is (read w64 old) x r t r-is read-small factor-small
+      sum-is (read w64 old) x r r-is (sign-unit t) read-small factor-small
       ∙ rw (read-old, inv .so-far i (face .below), part-face b (given .sheet) p j (given .below) t i face, mul-add x (entry b p j t i) (sign t))
       (add-assoc (getD sums₀ i (pos 0)) (x *ℤ entry b p j t i) (x *ℤ sign t))
 

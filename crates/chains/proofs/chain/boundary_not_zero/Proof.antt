@@ -31,7 +31,7 @@ use Rattle.sheet_format.specs.SheetLaws.{count-chainCells}
 use Rattle.sheet_format.specs.Accept.{accepted-chains}
 use Rattle.reports.specs.Call.{boundaryNotZero}
 use Rattle.limits.specs.Limits.{libraryLimit, coefficientLimit}
-use Rattle.lines.proofs.Words.{read, cast-fits, cast-is, zero-of-bits}
+use Rattle.words.specs.Read.{read, cast-fits, cast-is, zero-of-bits}
 use Rattle.chains.specs.Sums.{Sums, AddsFaces}
 use Rattle.matrices.specs.SumLaws.{natAbs-sum}
 use Rattle.chains.proofs.chain.boundary_not_zero.Statement.{statement}

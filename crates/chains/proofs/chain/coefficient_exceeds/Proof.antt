@@ -16,7 +16,8 @@ use mir.Syntax.{w32}
 use mir.Val.{SFits}
 use Rattle.sheet_format.specs.CheckLaws.{some-at, some-false}
 use Rattle.reports.specs.Call.{coefficientExceeds}
-use Rattle.chains.proofs.Limits.{beyond-low, beyond-high, within, negated-fits}
+use Rattle.words.specs.Negate.{opposite-fits}
+use Rattle.words.specs.Tests.{word-beyond-low, word-beyond-high, word-within}
 use Rattle.chains.proofs.chain.coefficient_exceeds.Statement.{statement}
 use Rattle.chains.proofs.chain.coefficient_exceeds.Tie as tie
 
@@ -49,7 +50,7 @@ small : (s : tie.Start Inv-loop μ-loop) → s .args .limit < 2 ^ 31
 small s = omega (arith, s .fits .limit .fits)
 
 sub-if1 : tie.Need-sub-if1 Inv-loop μ-loop
-sub-if1 c = let s = c .before .before .before in negated-fits (s .args .limit) (small s)
+sub-if1 c = let s = c .before .before .before in opposite-fits w32 (pos (s .args .limit)) (small s)
 
 -- the coefficient that is read, beside the limit
 module _ (c : tie.After-x Inv-loop μ-loop) where
@@ -69,15 +70,15 @@ module _ (c : tie.After-x Inv-loop μ-loop) where
   beyond = found limit (now (entered .args .chain)) (c .before .before .loop .i) (c .before .loop-test .taken)
 
 returns : tie.Need-returns Inv-loop μ-loop
-returns c = let r = c .before in beyond r (beyond-low (limit r) (small (entered r)) (x r) (x-fits r) (c .if1 .taken))
+returns c = let r = c .before in beyond r (word-beyond-low (limit r) (small (entered r)) (x r) (x-fits r) (c .if1 .taken))
 
 returns-2 : tie.Need-returns-2 Inv-loop μ-loop
-returns-2 c = let r = c .before .before in beyond r (beyond-high (limit r) (small (entered r)) (x r) (x-fits r) (c .if2 .taken))
+returns-2 c = let r = c .before .before in beyond r (word-beyond-high (limit r) (small (entered r)) (x r) (x-fits r) (c .if2 .taken))
 
 loop-again : tie.Need-loop-again Inv-loop μ-loop
 loop-again c =
     let r = c .before .before in
-    let stays = within (limit r) (small (entered r)) (x r) (x-fits r) (c .before .if1 .left) (c .if2 .left) in (
+    let stays = word-within (limit r) (small (entered r)) (x r) (x-fits r) (c .before .if1 .left) (c .if2 .left) in (
       omega arith,
       below-more (λ k. exceeds (limit r) (entered r .args .chain .now) k ≡ false) (r .before .before .loop .i) (r .before .before .loop .inv .1)
           (le-ltb (limit r) (natAbs (x r)) stays),

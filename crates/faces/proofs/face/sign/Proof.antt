@@ -1,7 +1,7 @@
 -- `face::sign` meets its contract. Assumes nothing.
 use mathlib.Core.Path.{sym}
 use native.Mathlib.Omega.{arith}
-use Rattle.faces.proofs.Words.{signs}
+use Rattle.faces.proofs.Signs.{signs}
 use Rattle.faces.proofs.face.sign.Statement.{statement}
 use Rattle.faces.proofs.face.sign.Tie as tie
 

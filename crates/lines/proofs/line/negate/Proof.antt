@@ -13,7 +13,7 @@ use mir.Val.{SFits}
 use lib.IntN.{ℤ, pos, negℤ, natAbs, _-ℤ_}
 use Rattle.lines.specs.Slice.{limit, at, LineSet}
 use Rattle.lines.proofs.Store.{lineSet-none, lineSet-more, lineSet-next}
-use Rattle.lines.proofs.Words.{read, entry-fits, read-entry}
+use Rattle.words.specs.Read.{read, entry-fits, read-entry}
 use Rattle.lines.proofs.line.negate.Statement.{statement}
 use Rattle.lines.proofs.line.negate.Tie as tie
 

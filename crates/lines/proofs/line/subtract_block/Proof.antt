@@ -5,7 +5,7 @@ use borrow.Author.Needs.{needs}
 use Prim.Native.Nat.{_+_}
 use Rattle.lines.specs.Slice.{block, at, Subtracted, difference}
 use Rattle.integers.specs.Ring.{mul-zero, add-zero}
-use Rattle.lines.proofs.Words.{read-wide}
+use Rattle.words.specs.Read.{read-wide}
 use Rattle.lines.proofs.Store.{lineSet-same}
 use Rattle.lines.proofs.line.subtract_block.Statement.{statement}
 use Rattle.lines.proofs.line.subtract_block.Tie as tie

@@ -14,7 +14,9 @@ use Rattle.lines.specs.Slice.{limit, at, Apart, LineSet, Beyond, differe
 use mir.Facts.{sfits-lit}
 use Rattle.lines.proofs.Store.{lineSet-none, lineSet-more}
 use Rattle.lines.proofs.Blocks.{Partly, begun, ended}
-use Rattle.lines.proofs.Words.{read, product, less, read-entry, read-wide, entry-fits, cast-fits, product-fits, less-fits, read-less, beyond-low, beyond-high, within}
+use Rattle.words.specs.Read.{read, read-entry, read-wide, entry-fits, cast-fits}
+use Rattle.words.specs.Product.{product, less, product-fits, less-fits, read-less}
+use Rattle.words.specs.Tests.{beyond-low, beyond-high, within}
 use Rattle.lines.proofs.line.subtract_places.Statement.{statement}
 use Rattle.lines.proofs.line.subtract_places.Tie as tie
 
@@ -106,7 +108,7 @@ returns : tie.Need-returns Inv-loop μ-loop
 returns c =
     let start = c .before .before .before .before .before in let inv = c .before .before .before .before .loop .inv in let more = c .before .before .before .loop-test .taken in
     subst (λ (k : ℤ). Beyond (start .args .w .now) (start .args .width) (difference (start .args .w .now) (start .args .target) (start .args .source) k) (c .before .before .before .before .loop .w))
-    (read-wide (start .args .q) (start .pre .1 .1 .1)) (too-wide inv more (beyond-low (computed inv more) (c .if1 .taken)))
+    (read-wide (start .args .q) (start .pre .1 .1 .1)) (too-wide inv more (beyond-low limit (computed inv more) (c .if1 .taken)))
 
 same-length-2 : tie.Need-same-length-2 Inv-loop μ-loop
 same-length-2 c = c .before .before .before .before .before .loop .inv .so-far .same-length
@@ -115,10 +117,10 @@ returns-2 : tie.Need-returns-2 Inv-loop μ-loop
 returns-2 c =
     let start = c .before .before .before .before .before .before in let inv = c .before .before .before .before .before .loop .inv in let more = c .before .before .before .before .loop-test .taken in
     subst (λ (k : ℤ). Beyond (start .args .w .now) (start .args .width) (difference (start .args .w .now) (start .args .target) (start .args .source) k) (c .before .before .before .before .before .loop .w))
-    (read-wide (start .args .q) (start .pre .1 .1 .1)) (too-wide inv more (beyond-high (computed inv more) (c .if2 .taken)))
+    (read-wide (start .args .q) (start .pre .1 .1 .1)) (too-wide inv more (beyond-high limit (computed inv more) (c .if2 .taken)))
 
 stays : (c : tie.Else2 Inv-loop μ-loop) → natAbs (computed (c .before .before .before .before .before .loop .inv) (c .before .before .before .before .loop-test .taken)) ≤ limit
-stays c = within (computed (c .before .before .before .before .before .loop .inv) (c .before .before .before .before .loop-test .taken)) (c .before .if1 .left) (c .if2 .left)
+stays c = within limit (computed (c .before .before .before .before .before .loop .inv) (c .before .before .before .before .loop-test .taken)) (c .before .if1 .left) (c .if2 .left)
 
 cast-w : tie.Need-cast-w Inv-loop μ-loop
 cast-w c = entry-fits (computed (c .before .before .before .before .before .loop .inv) (c .before .before .before .before .loop-test .taken)) (stays c)

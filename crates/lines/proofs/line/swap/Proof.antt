@@ -11,7 +11,7 @@ use mir.Syntax.{w32}
 use lib.IntN.{ℤ}
 use Rattle.lines.specs.Slice.{at, Apart, LinesSwapped}
 use Rattle.lines.proofs.Store.{swapped-none, swapped-more}
-use Rattle.lines.proofs.Words.{read, read-entry}
+use Rattle.words.specs.Read.{read, read-entry}
 use Rattle.lines.proofs.line.swap.Statement.{statement}
 use Rattle.lines.proofs.line.swap.Tie as tie
 

@@ -7,7 +7,7 @@ use borrow.Author.Needs.{needs}
 use mir.Syntax.{w32}
 use mir.Val.{ofZ}
 use Rattle.lines.specs.Slice.{at, ZerosTo}
-use Rattle.lines.proofs.Words.{entry-fits, zero-of-bits}
+use Rattle.words.specs.Read.{entry-fits, zero-of-bits}
 use Rattle.lines.proofs.Zeros.{zeros-more}
 use Rattle.lines.proofs.zero.first_nonzero.Statement.{statement}
 use Rattle.lines.proofs.zero.first_nonzero.Tie as tie

@@ -10,7 +10,7 @@ use borrow.Author.Count.{below-more}
 use borrow.Author.Tests.{not-true}
 use lib.IntN.{ℤ, pos}
 use Rattle.lines.specs.Slice.{block, at}
-use Rattle.lines.proofs.Words.{entry-fits, zero-of-bits}
+use Rattle.words.specs.Read.{entry-fits, zero-of-bits}
 use Rattle.lines.proofs.zero.is_zero_block.Statement.{statement}
 use Rattle.lines.proofs.zero.is_zero_block.Tie as tie
 

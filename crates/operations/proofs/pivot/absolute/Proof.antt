@@ -1,6 +1,7 @@
 -- `operations::pivot::absolute` meets its contract. Assumes nothing.
 use mathlib.Core.Path.{_∙_}
-use Rattle.lines.proofs.Words.{read-wide, negated-fits}
+use Rattle.words.specs.Read.{read-wide}
+use Rattle.words.specs.Negate.{negated-fits}
 use Rattle.operations.proofs.AbsoluteValue.{absolute-below, absolute-above}
 use Rattle.operations.proofs.pivot.absolute.Statement.{statement}
 use Rattle.operations.proofs.pivot.absolute.Tie as tie

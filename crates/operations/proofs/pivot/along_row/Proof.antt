@@ -6,7 +6,7 @@ use borrow.Author.Needs.{needs}
 use Rattle.lines.specs.Matrices.{contents}
 use Rattle.lines.proofs.Spans.{line-span, span-inside}
 use Rattle.operations.specs.Scan.{choiceOf}
-use Rattle.operations.proofs.Division.{of-bits}
+use Rattle.words.specs.Read.{of-bits}
 use Rattle.operations.proofs.Choosing.{size-fits}
 use Rattle.operations.proofs.Scanning.{Along, along-first, along-next, along-one, along-ends}
 use Rattle.operations.proofs.pivot.along_row.Statement.{statement}

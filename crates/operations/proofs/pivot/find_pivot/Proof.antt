@@ -8,7 +8,7 @@ use mir.Syntax.{w64}
 use mir.Val.{ofZ}
 use Rattle.reduction_steps.specs.Pivot.{release1}
 use Rattle.lines.specs.Matrices.{contents}
-use Rattle.operations.proofs.Division.{of-bits}
+use Rattle.words.specs.Read.{of-bits}
 use Rattle.operations.proofs.Choosing.{size-fits}
 use Rattle.operations.proofs.Scanning.{Down, down-starts, down-next, down-one, down-ends, choice-some, choice-none}
 use Rattle.operations.proofs.pivot.find_pivot.Statement.{statement}

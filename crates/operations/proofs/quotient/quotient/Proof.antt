@@ -6,7 +6,9 @@ use lib.IntN.{ℤ, natAbs}
 use mir.Facts.{toZ-ofZ}
 use Rattle.lines.specs.Slice.{limit}
 use Rattle.integers.specs.Division.{floor}
-use Rattle.operations.proofs.Division.{floor-zero, floor-one, of-bits, positive-bits, quotient-fits, pred-fits, rounded-down, rounded-down-pred, floor-small}
+use Rattle.integers.specs.Floor.{floor-zero, floor-one}
+use Rattle.words.specs.Read.{of-bits, positive-bits}
+use Rattle.words.specs.Division.{quotient-fits, pred-fits, rounded-down, rounded-down-pred, floor-small}
 use Rattle.operations.proofs.quotient.quotient.Statement.{statement}
 use Rattle.operations.proofs.quotient.quotient.Tie as tie
 

@@ -5,7 +5,7 @@ use Prim.Native.Nat.{suc, _-_}
 use native.Mathlib.Omega.{arith}
 use borrow.Author.Needs.{needs}
 use Rattle.lines.specs.Matrices.{contents}
-use Rattle.operations.proofs.Division.{of-bits}
+use Rattle.words.specs.Read.{of-bits}
 use Rattle.operations.proofs.Tests.{nonzero, Looking, looking-after, looking-found, looking-next, looking-ends, columnKeeps-any, columnKeeps-one, nonzero-true, nonzero-false}
 use Rattle.operations.proofs.remainder.column_keeps.Statement.{statement}
 use Rattle.operations.proofs.remainder.column_keeps.Tie as tie

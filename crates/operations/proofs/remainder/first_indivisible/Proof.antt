@@ -9,7 +9,7 @@ use lib.Signed.{_<ℤ_}
 use mir.Facts.{toZ-ofZ}
 use Rattle.reduction_steps.specs.Step.{firstIndivisible}
 use Rattle.lines.specs.Matrices.{contents}
-use Rattle.operations.proofs.Division.{of-bits}
+use Rattle.words.specs.Read.{of-bits}
 use Rattle.operations.proofs.Tests.{row-answer, Seeking, seeking-after, seeking-found, seeking-next, seeking-ends, firstIndivisible-one}
 use Rattle.operations.proofs.remainder.first_indivisible.Statement.{statement}
 use Rattle.operations.proofs.remainder.first_indivisible.Tie as tie

@@ -8,7 +8,8 @@ use mir.Syntax.{w64}
 use mir.Val.{toZ}
 use mir.Facts.{toZ-ofZ}
 use Rattle.lines.specs.Matrices.{contents}
-use Rattle.operations.proofs.Division.{positive-bits, quotient-fits}
+use Rattle.words.specs.Read.{positive-bits}
+use Rattle.words.specs.Division.{quotient-fits}
 use Rattle.operations.proofs.Tests.{indivisible, Looking, looking-found, looking-next, looking-ends, rowIndivisible-any, indivisible-true, indivisible-false}
 use Rattle.operations.proofs.remainder.row_indivisible.Statement.{statement}
 use Rattle.operations.proofs.remainder.row_indivisible.Tie as tie

@@ -8,10 +8,10 @@ use mir.Val.{toZ}
 use Rattle.integers.specs.Division.{floor}
 use Rattle.matrices.specs.Operation.{subtract}
 use Rattle.lines.specs.Matrices.{contents}
-use Rattle.lines.proofs.Words.{read}
+use Rattle.words.specs.Read.{read, wide-small}
 use Rattle.operations.proofs.Unchanged.{rows-unchanged}
 use Rattle.passes.proofs.States.{held-matrix, operated-done, operated-wide}
-use Rattle.passes.proofs.Words.{quotient-small, quotient-asks, quotient-read}
+use Rattle.passes.proofs.Words.{quotient-asks, quotient-read}
 use Rattle.passes.proofs.Passes.{pass-refused, RowPassing, rows-start, rows-next, rows-wide, rows-end}
 use Rattle.passes.proofs.pass.clear_column.Statement.{statement}
 use Rattle.passes.proofs.pass.clear_column.Tie as tie
@@ -82,14 +82,14 @@ loop-again c =
     rows-next inv (turn e .loop-test .taken) (taken (c .before)) refl (inv .placed .small)
     (rows-unchanged (start e .args .layout) (head e .loop .w) (inv .placed .laid) (inv .placed .small) (subtract (head e .loop .i) (start e .args .k) q) (ap (λ (bits : ℕ). toZ w64 bits) (c .if1 .taken)) (record {
       within = record { changed = turn e .loop-test .taken; taken = inv .placed .ready .row; distinct = λ same. omega (arith, inv .from) };
-      factor = quotient-small (c .before .quotient .result) (c .before .quotient .ensures .1);
+      factor = wide-small (c .before .quotient .result) (c .before .quotient .ensures .1);
     }))
 
 on-rows-requires : tie.Need-on-rows-requires Inv-loop μ-loop
 on-rows-requires c κs =
     let e = c .before .before .before in
     let inv = head e .loop .inv in
-    let small-quotient = quotient-small (c .before .before .quotient .result) (c .before .before .quotient .ensures .1) in (
+    let small-quotient = wide-small (c .before .before .quotient .result) (c .before .before .quotient .ensures .1) in (
       inv .placed .laid,
       (
         inv .placed .small,

@@ -7,9 +7,9 @@ use borrow.Author.Needs.{needs}
 use mir.Syntax.{w64}
 use Rattle.integers.specs.Division.{floor}
 use Rattle.lines.specs.Matrices.{contents}
-use Rattle.lines.proofs.Words.{read}
+use Rattle.words.specs.Read.{read, wide-small}
 use Rattle.passes.proofs.States.{held-matrix, operated-done, operated-wide}
-use Rattle.passes.proofs.Words.{quotient-small, quotient-asks, quotient-read}
+use Rattle.passes.proofs.Words.{quotient-asks, quotient-read}
 use Rattle.passes.proofs.Passes.{pass-refused, column-zero, ColumnPassing, columns-start, columns-next, columns-first, row-inside, columns-wide, columns-end}
 use Rattle.passes.proofs.pass.clear_row.Statement.{statement}
 use Rattle.passes.proofs.pass.clear_row.Tie as tie
@@ -75,7 +75,7 @@ on-columns-requires : tie.Need-on-columns-requires Inv-loop μ-loop
 on-columns-requires c κs =
     let e = c .before .before in
     let inv = head e .loop .inv in
-    let small-quotient = quotient-small (c .before .quotient .result) (c .before .quotient .ensures .1) in
+    let small-quotient = wide-small (c .before .quotient .result) (c .before .quotient .ensures .1) in
     let h = inv .clear in (
       h .laid,
       (

@@ -4,13 +4,14 @@ use lib.IntN.{ℤ, natAbs}
 use mir.Syntax.{w32, w64}
 use borrow.Author.Needs.{needs}
 use Rattle.lines.specs.Slice.{limit}
-use Rattle.lines.proofs.Words.{read, read-entry, entry-fits, within}
+use Rattle.words.specs.Read.{read, read-entry, entry-fits}
+use Rattle.words.specs.Tests.{within}
 use Rattle.lines.proofs.Store.{small-set}
 use Rattle.reduction_cases.proofs.entries.store.Statement.{statement}
 use Rattle.reduction_cases.proofs.entries.store.Tie as tie
 
 kept-within : (c : tie.Else2) → natAbs (read w64 (c .before .before .args .x)) ≤ limit
-kept-within c = within (read w64 (c .before .before .args .x)) (c .before .if1 .left) (c .if2 .left)
+kept-within c = within limit (read w64 (c .before .before .args .x)) (c .before .if1 .left) (c .if2 .left)
 
 stored-within : (z : ℤ) → natAbs z ≤ limit → natAbs (read w32 z) ≤ limit
 stored-within z l = rw (read-entry z l) l

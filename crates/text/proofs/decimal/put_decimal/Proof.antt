@@ -19,10 +19,10 @@ rest : (c : tie.Else1) → Positive (c .before .before .args .x)
 rest c = let s = c .before .before in positive (s .args .x) (s .fits .x) (c .if1 .left)
 
 add-size : tie.Need-add-size
-add-size c = below c .above-fits
+add-size c = below c .raised-fits
 
 sub-size : tie.Need-sub-size
-sub-size c = below c .opposite-fits
+sub-size c = below c .mirrored-fits
 
 cast-size : tie.Need-cast-size
 cast-size c = (below c .not-negative, below c .cast-fits)

@@ -14,8 +14,8 @@ use mir.Facts.{toZ-ofZ}
 use Rattle.integers.specs.Order.{lt-pos}
 use Rattle.integers.specs.Floor.{natAbs-modulo, modulo-zero}
 use Rattle.integers.specs.Division.{modulo}
-use Rattle.lines.proofs.Words.{read, sfits-below, zero-of-bits}
-use Rattle.operations.proofs.Division.{quotient-fits, remainder-read}
+use Rattle.words.specs.Read.{read, sfits-below, zero-of-bits}
+use Rattle.words.specs.Division.{quotient-fits, remainder-read}
 use Rattle.writers.proofs.Remainder.{modulo-remZ, modulo-remZ-add}
 use Rattle.writers.proofs.coordinates.residue.Statement.{statement}
 use Rattle.writers.proofs.coordinates.residue.Tie as tie

@@ -20,7 +20,7 @@ use Rattle.limits.specs.Limits.{libraryLimit, coefficientLimit}
 use Rattle.reduction_steps.specs.Table.{entry}
 use Rattle.lines.specs.Slice.{limit, at, Small}
 use Rattle.operations.specs.Laid.{linesOf}
-use Rattle.lines.proofs.Words.{read, sfits-below, entry-fits, cast-fits, cast-is}
+use Rattle.words.specs.Read.{read, sfits-below, entry-fits, cast-fits, cast-is}
 use Rattle.lines.proofs.Spans.{line-span, span-inside}
 use Rattle.writers.proofs.Entries.{entry-lines}
 use Rattle.writers.proofs.coordinates.row_times_chain.Statement.{statement}

@@ -19,9 +19,8 @@ use Rattle.reports.specs.Call.{written}
 use Rattle.limits.specs.Limits.{libraryLimit}
 use Rattle.lines.specs.Slice.{at}
 use Rattle.lines.specs.declared.matrix.Matrix.{Matrix}
-use Rattle.lines.proofs.Words.{read}
+use Rattle.words.specs.Read.{read, of-bits}
 use Rattle.operations.specs.Laid.{linesOf, stateOf}
-use Rattle.operations.proofs.Division.{of-bits}
 use Rattle.writers.specs.Written.{kindIn}
 use Rattle.writers.proofs.Held.{matrix-held, row-follower-held}
 use Rattle.writers.proofs.Rows.{map-blocks}

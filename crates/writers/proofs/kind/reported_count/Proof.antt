@@ -14,7 +14,7 @@ use mir.Val.{ofZ}
 use Rattle.reports.specs.Report.{reported}
 use Rattle.reports.specs.ReportLaws.{length-reported-le}
 use Rattle.lines.specs.declared.matrix.Matrix.{Matrix}
-use Rattle.operations.proofs.Division.{of-bits}
+use Rattle.words.specs.Read.{of-bits}
 use Rattle.writers.specs.Written.{kindIn}
 use Rattle.writers.proofs.Rows.{reported-one, reported-other}
 use Rattle.writers.proofs.kind.reported_count.Statement.{statement}

@@ -18,7 +18,7 @@ use Rattle.reports.specs.Report.{reported}
 use Rattle.lines.specs.Matrices.{contents}
 use Rattle.lines.specs.declared.matrix.Matrix.{Matrix}
 use Rattle.operations.specs.Laid.{linesOf}
-use Rattle.operations.proofs.Division.{of-bits}
+use Rattle.words.specs.Read.{of-bits}
 use Rattle.writers.specs.Written.{kindIn}
 use Rattle.writers.proofs.Entries.{entry-lines}
 use Rattle.writers.proofs.Rows.{columnsOf-blocks}

@@ -13,7 +13,7 @@ use Rattle.lists.specs.Tabulate.{tabulate}
 use Rattle.lists.specs.TabulateLaws.{length-tabulate}
 use Rattle.lists.specs.Splice.{splice}
 use Rattle.lines.specs.Slice.{at}
-use Rattle.lines.proofs.Words.{cast-fits, cast-is}
+use Rattle.words.specs.Read.{cast-fits, cast-is}
 use Rattle.lines.proofs.Spans.{line-span, span-inside}
 use Rattle.writers.specs.Written.{WrittenFrom}
 use Rattle.writers.proofs.Writing.{written-none, written-one, written-length}

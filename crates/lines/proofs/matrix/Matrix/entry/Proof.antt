@@ -5,7 +5,7 @@ use native.Mathlib.Omega.{arith}
 use borrow.Author.Needs.{needs}
 use lib.ListN.{length}
 use Rattle.lines.specs.Slice.{at}
-use Rattle.lines.proofs.Words.{cast-fits, cast-is}
+use Rattle.words.specs.Read.{cast-fits, cast-is}
 use Rattle.lines.proofs.Spans.{entry-span, span-inside}
 use Rattle.lines.proofs.matrix.Matrix.entry.Statement.{statement}
 use Rattle.lines.proofs.matrix.Matrix.entry.Tie as tie

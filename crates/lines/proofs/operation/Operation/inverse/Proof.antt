@@ -7,7 +7,7 @@ use Rattle.matrices.specs.Operation.{subtract, inverse}
 use Rattle.lines.specs.Slice.{limit}
 use Rattle.lines.specs.Operations.{operationOf, FactorWithin}
 use Rattle.lines.specs.declared.operation.Operation.{Operation}
-use Rattle.lines.proofs.Words.{negated-fits, negated-read}
+use Rattle.words.specs.Negate.{negated-fits, negated-read}
 use Rattle.lines.proofs.operation.Operation.inverse.Statement.{statement}
 use Rattle.lines.proofs.operation.Operation.inverse.Tie as tie
 

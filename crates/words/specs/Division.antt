@@ -2,61 +2,21 @@
 -- `rounded-down`, `rounded-down-pred`: the quotient towards zero, or one less, is `floor`.
 use mathlib.Core.Path.{_≡_, refl, sym, ap, subst, _∙_}
 use mathlib.Core.Bool.{true, false}
-use Prim.Native.Nat.{ℕ, zero, suc, _/_, _<_, _≤_, zero-le}
+use Prim.Native.Nat.{_≤_}
 use native.Mathlib.Nat as NatL
 use native.Mathlib.Omega.{arith}
 use lib.Dec.{T}
-use lib.IntN.{ℤ, pos, negsuc, negℤ, natAbs, _-ℤ_}
-use lib.Signed.{_<ℤ_, ltZ, ltZ-yes, ltZ-no, quotZ, remZ, mag, mag-rem}
+use lib.IntN.{ℤ, pos, natAbs, _-ℤ_}
+use lib.Signed.{_<ℤ_, ltZ, ltZ-yes, ltZ-no, quotZ, remZ, mag-rem}
 use mir.Syntax.{w64}
-use mir.Val.{SFits, ofZ, toZ}
+use mir.Val.{SFits, ofZ}
 use mir.Facts.{toZ-ofZ}
-use Rattle.integers.specs.Order.{natAbs-neg, natAbs-sub, pos-lt}
+use Rattle.integers.specs.Order.{natAbs-sub}
 use Rattle.integers.specs.Floor.{natAbs-floor}
 use Rattle.integers.specs.Division.{floor}
-use Rattle.integers.specs.Truncate.{floor-quotZ, floor-quotZ-pred}
-use Rattle.lines.specs.Slice.{limit}
-use Rattle.lines.proofs.Words.{read, sfits-below}
-
--- ---- whole numbers
-
-pub floor-zero : (d : ℤ) → floor (pos 0) d ≡ pos 0
-unfolding floor
-floor-zero (pos d) = ap pos (NatL.zero-div d)
-floor-zero (negsuc d) = refl
-
-pub floor-one : (x : ℤ) → floor x (pos 1) ≡ x
-unfolding floor
-floor-one (pos x) = ap pos (NatL.div-one x)
-floor-one (negsuc x) = ap negsuc (NatL.div-one x)
-
-pub natAbs-quotZ : (a d : ℤ) → natAbs (quotZ a d) ≤ natAbs a
-natAbs-quotZ (pos a) (pos d) = NatL.div-le-self a d
-natAbs-quotZ (pos a) (negsuc d) = rw natAbs-neg (NatL.div-le-self a (suc d))
-natAbs-quotZ (negsuc a) (pos d) = rw natAbs-neg (NatL.div-le-self (suc a) d)
-natAbs-quotZ (negsuc a) (negsuc d) = NatL.div-le-self (suc a) (suc d)
-
-mag-neg : (r a : ℕ) → r ≤ suc a → mag (negℤ (pos r)) ≤ a
-mag-neg zero a h = zero-le
-mag-neg (suc r) a h = omega arith
-
--- towards zero, a positive divisor makes nothing larger
-pub mag-quotZ : (a d : ℤ) → pos 0 <ℤ d → mag (quotZ a d) ≤ mag a
-mag-quotZ (pos a) (pos d) p = NatL.div-le-self a d
-mag-quotZ (negsuc a) (pos d) p = mag-neg (suc a / d) a (NatL.div-le-self (suc a) d)
-mag-quotZ (pos a) (negsuc d) p = absurd (p .lt)
-mag-quotZ (negsuc a) (negsuc d) p = absurd (p .lt)
-
--- ---- words
-
--- a number is known by its bits
-pub of-bits : {x : ℤ} {n : ℕ} → SFits w64 x → ofZ w64 x ≡ n → x ≡ toZ w64 n
-of-bits f e = sym (toZ-ofZ f) ∙ ap (toZ w64) e
-
--- the bits of a positive number are not 0
-pub positive-bits : (d : ℤ) → pos 0 <ℤ d → 0 < ofZ w64 d
-positive-bits (pos n) p = pos-lt p
-positive-bits (negsuc n) p = absurd (p .lt)
+use Rattle.integers.specs.Truncate.{natAbs-quotZ, mag-quotZ, floor-quotZ, floor-quotZ-pred}
+use Rattle.limits.specs.Limits.{entryLimit}
+use Rattle.words.specs.Read.{read, sfits-below, zero-of-bits}
 
 module _ (x d : ℤ) (x-fits : SFits w64 x) (d-fits : SFits w64 d) (p : pos 0 <ℤ d) where
   quotient-is : quotZ (read w64 x) (read w64 d) ≡ quotZ x d
@@ -76,7 +36,7 @@ module _ (x d : ℤ) (x-fits : SFits w64 x) (d-fits : SFits w64 d) (p : pos 0 <�
 
   -- the remainder's bits are 0 where it is 0
   pub remainder-zero : ofZ w64 (remZ (read w64 x) (read w64 d)) ≡ 0 → remZ x d ≡ pos 0
-  remainder-zero e = of-bits remainder-fits (rw (toZ-ofZ x-fits, toZ-ofZ d-fits) at e)
+  remainder-zero e = zero-of-bits remainder-fits (rw (toZ-ofZ x-fits, toZ-ofZ d-fits) at e)
 
   pub zero-remainder : remZ x d ≡ pos 0 → ofZ w64 (remZ (read w64 x) (read w64 d)) ≡ 0
   zero-remainder e = rw (toZ-ofZ x-fits, toZ-ofZ d-fits, e) refl
@@ -88,7 +48,7 @@ module _ (x d : ℤ) (x-fits : SFits w64 x) (d-fits : SFits w64 d) (p : pos 0 <�
   rounded-down e = quotient-read ∙ sym (floor-quotZ x d p (ltZ-no (rw (rw remainder-read at e) tt)))
 
   -- one below 0: it is one too large
-  module _ (x-small : natAbs x ≤ limit) where
+  module _ (x-small : natAbs x ≤ entryLimit) where
     pred-is : read w64 (quotZ (read w64 x) (read w64 d)) -ℤ pos 1 ≡ quotZ x d -ℤ pos 1
     pred-is = ap (λ (z : ℤ). z -ℤ pos 1) quotient-read
 
@@ -104,5 +64,5 @@ module _ (x d : ℤ) (x-fits : SFits w64 x) (d-fits : SFits w64 d) (p : pos 0 <�
         toZ-ofZ pred-fits ∙ pred-is ∙ sym (floor-quotZ-pred x d p (ltZ-yes (subst T (sym (rw remainder-read at e)) tt)))
 
 -- a quotient of an entry lies within the limit
-pub floor-small : (x d r : ℤ) → natAbs x ≤ limit → r ≡ floor x d → natAbs r ≤ limit
+pub floor-small : (x d r : ℤ) → natAbs x ≤ entryLimit → r ≡ floor x d → natAbs r ≤ entryLimit
 floor-small x d r l e = rw e (NatL.le-trans (natAbs-floor x d) l)

@@ -1,2 +1,0 @@
--- Lemmas for the proofs of this crate: the tests of a limit.
-mod Limits
