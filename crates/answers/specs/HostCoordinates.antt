@@ -1,6 +1,6 @@
 -- fildwuk_coordinates: what it answers (host-coordinates-answer), what it leaves (host-coordinates-left, `kept`), and that the numbers which a
 -- caller reads from its bytes are those of two reductions that are right (host-coordinated).
-use mathlib.Core.Path.{_≡_, sym, _∙_}
+use mathlib.Core.Path.{_≡_}
 use mathlib.Core.Logic.{_↔_, _≢_}
 use mathlib.Core.Bool.{Bool, true, false, cond}
 use mathlib.Core.List.{List, _++_}
@@ -15,7 +15,7 @@ use Rattle.complexes.specs.Complex.{count}
 use Rattle.complexes.specs.ChainComplex.{ChainComplex}
 use Rattle.sheet_format.specs.Check.{chainCells, first}
 use Rattle.sheet_format.specs.Sheet.{Bytes}
-use Rattle.reduction_steps.specs.State.{State, within}
+use Rattle.reduction_steps.specs.State.{State}
 use Rattle.reduction_steps.specs.Pivot.{pivotRule}
 use Rattle.reduction_steps.specs.PivotLaws.{pivotRule-is-rule}
 use Rattle.reports.specs.Report.{freeRank, torsionCount, coordinateList}

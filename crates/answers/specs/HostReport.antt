@@ -1,6 +1,6 @@
 -- fildwuk_report: what it answers (host-report-answers), what it leaves (host-report-left, `kept`), and that the numbers which a caller reads from
 -- its bytes are those of two reductions that are right (host-reported).
-use mathlib.Core.Path.{_≡_, sym, _∙_}
+use mathlib.Core.Path.{_≡_}
 use mathlib.Core.Logic.{_≢_}
 use mathlib.Core.Bool.{true}
 use mathlib.Core.List.{List}
@@ -12,13 +12,13 @@ use Rattle.complexes.specs.Complex.{count}
 use Rattle.complexes.specs.ChainComplex.{ChainComplex}
 use Rattle.sheet_format.specs.Check.{chainCells, first}
 use Rattle.sheet_format.specs.Sheet.{Bytes}
-use Rattle.reduction_steps.specs.State.{State, within}
+use Rattle.reduction_steps.specs.State.{State}
 use Rattle.reduction_steps.specs.Pivot.{pivotRule}
 use Rattle.reduction_steps.specs.PivotLaws.{pivotRule-is-rule}
 use Rattle.reports.specs.Report.{freeRank, torsionCount, reportList}
 use Rattle.reports.specs.ReportLaws.{report-fits}
 use Rattle.reports.specs.Call.{callChecks, reportSlots, workSlots, reductionsOf}
-use Rattle.limits.specs.Limits.{libraryLimit, hostLimit, entryLimit}
+use Rattle.limits.specs.Limits.{hostLimit, entryLimit}
 use Rattle.reports.specs.RefusalLaws.{callChecks-narrow, callChecks-zero}
 use Rattle.reports.specs.Host.{slotsIn, hostReport, numberAt}
 use Rattle.answers.specs.Right.{reportLength}

@@ -24,7 +24,7 @@ use Rattle.reports.specs.HostCallLaws.{reportRoom, workRoom, counts-within}
 use Rattle.answers.specs.Numbers.{report-length, coordinates-length}
 use Rattle.answers.specs.Calls.{Answered}
 use Rattle.answers.specs.ReportCall.{reportBefore, reportNumbers, report-answered}
-use Rattle.answers.specs.CoordinateCall.{sheetBefore, coordinatesBefore, coordinates-passed, coordinates-answered}
+use Rattle.answers.specs.CoordinateCall.{coordinatesBefore, coordinates-passed, coordinates-answered}
 
 -- the numbers of a report
 abbrev pub reportNumbersOf : List ℕ → ℕ → Counts → ℕ

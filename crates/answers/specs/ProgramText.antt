@@ -1,14 +1,14 @@
 -- The program's text: for an accepted sheet a text for each dimension, each that of the report or `R 13` (dimensions-printed); for any
 -- other sheet, and for it alone, `R` and the number of its refusal (refused-iff).
-use mathlib.Core.Path.{_≡_, refl, sym, _∙_, ap, subst}
+use mathlib.Core.Path.{_≡_, refl, sym, _∙_, ap}
 use mathlib.Core.Logic.{_↔_, _≢_}
 use mathlib.Core.List.{List, [], _∷_, _++_, map, append-assoc, append-nil}
-use Prim.Native.Nat.{ℕ, zero, suc, _+_, _≤_, _<_}
+use Prim.Native.Nat.{ℕ, zero, suc, _+_, _≤_}
 use native.Mathlib.Nat.{add-zero, zero-add}
 use native.Mathlib.Omega.{arith}
-use lib.ListN.{length, getD, drop, replicate, length-append, length-replicate}
+use lib.ListN.{length, drop, replicate, length-replicate}
 use lib.IntN.{ℤ, pos}
-use Rattle.complexes.specs.Complex.{Sections, count}
+use Rattle.complexes.specs.Complex.{count}
 use Rattle.complexes.specs.ChainComplex.{ChainComplex}
 use Rattle.sheet_format.specs.Layout.{top}
 use Rattle.sheet_format.specs.Check.{first, chainCells, refusal}
@@ -18,7 +18,7 @@ use Rattle.reduction_steps.specs.State.{State}
 use Rattle.reduction_steps.specs.Pivot.{pivotRule}
 use Rattle.reduction_steps.specs.PivotLaws.{pivotRule-is-rule}
 use Rattle.reports.specs.Reductions.{Reductions, tooWide, reduced}
-use Rattle.reports.specs.Report.{kind, reported, freeRank, torsionCount, countsOf, reportList, coordinateList}
+use Rattle.reports.specs.Report.{kind, reported, freeRank, torsionCount, countsOf, reportList}
 use Rattle.reports.specs.ReportLaws.{length-coordinateList}
 use Rattle.reports.specs.RefusalLaws.{callChecks-zero}
 use Rattle.reports.specs.CallLaws.{call-answer, call-output}

@@ -6,7 +6,7 @@ use Prim.Native.Nat.{ℕ, suc, _+_, _-_, _≤_}
 use native.Mathlib.Nat.{le-trans, min-le-left, min-le-right}
 use native.Mathlib.Omega.{arith}
 use native.Mathlib.Decide.{ℕ-discrete}
-use lib.ListN.{length, drop}
+use lib.ListN.{drop}
 use Rattle.matrices.specs.Matrix.{Matrix, Eq, mul, identity, transpose}
 use Rattle.matrices.specs.Product.{Eq-refl, Eq-trans, Eq-transpose, identity-other, mul-ext, mul-identity-left, mul-identity-right}
 use Rattle.smith.specs.CertificateLaws.{smith-ext}

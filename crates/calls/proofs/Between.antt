@@ -8,7 +8,7 @@ use Prim.Native.Nat.{ℕ, suc, _+_, _*_, _-_, _≤_}
 use native.Mathlib.Nat.{add-mul}
 use native.Mathlib.Omega.{arith}
 use lib.IntN.{ℤ, pos, natAbs}
-use lib.ListN.{length, getD, drop}
+use lib.ListN.{getD, drop}
 use Rattle.matrices.specs.Matrix.{Eq, mul}
 use Rattle.matrices.specs.Matrix as theory
 use Rattle.matrices.specs.Product.{Eq-refl, mul-ext}

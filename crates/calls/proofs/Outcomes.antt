@@ -38,8 +38,7 @@ use Rattle.reducer.specs.declared.reduction.Reduction.{Reduction}
 use Rattle.reducer.specs.declared.reduction.Reduction.the-variants as reduction
 use Rattle.writers.specs.declared.reduced.Reduced.{Reduced}
 use Rattle.operations.specs.Layouts.{firstLayout, secondLayout}
-use Rattle.calls.specs.Slices.{firstLayoutOf, secondLayoutOf, Filled, TwiceReduced, ReducedTwice}
-use Rattle.calls.specs.declared.reductions.Reductions.{Reductions}
+use Rattle.calls.specs.Slices.{firstLayoutOf, secondLayoutOf, Filled, TwiceReduced}
 use Rattle.calls.specs.declared.reductions.Reductions.the-variants.{Done, Refused}
 use Rattle.calls.proofs.Places.{held-row-follower}
 use Rattle.calls.proofs.Between.{laid-second, second-state, product-narrow, product-beyond}

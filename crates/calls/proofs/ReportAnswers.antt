@@ -7,7 +7,6 @@ use lib.ListN.{length, replicate}
 use Rattle.complexes.specs.Complex.{count}
 use Rattle.sheet_format.specs.Check.{chainCells, first}
 use Rattle.reduction_steps.specs.State.{State}
-use Rattle.reduction_steps.specs.Pivot.{pivotRule}
 use Rattle.reduction_steps.specs.PivotLaws.{pivotRule-is-rule}
 use Rattle.reports.specs.Report.{reportList}
 use Rattle.reports.specs.Call.{Called, reportSlots, callChecks, reportCall, written}

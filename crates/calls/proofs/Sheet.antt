@@ -7,7 +7,6 @@ use Prim.Native.Nat.{ℕ, zero, suc, _+_, _*_, _-_, _≤_, _<_, max}
 use native.Mathlib.Nat.{le-trans, pos-of-ne-zero}
 use native.Mathlib.Numerals.{add-one}
 use native.Mathlib.Omega.{arith}
-use lib.ListN.{length}
 use Rattle.complexes.specs.Complex.{Sections, count}
 use Rattle.complexes.specs.ChainComplex.{ChainComplex}
 use Rattle.complexes.specs.Boundary.{countBelow}

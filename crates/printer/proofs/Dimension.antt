@@ -1,6 +1,6 @@
 -- The text of a dimension from what `report_at` leaves: `refused-text` where it refused, `done-text` where it is done, and `done-room`, that the numbers
 -- of the report have room.
-use mathlib.Core.Path.{_≡_, refl, sym, _∙_, ap, subst}
+use mathlib.Core.Path.{_≡_, sym, _∙_, ap, subst}
 use mathlib.Core.List.{List, _++_}
 use Prim.Native.Nat.{ℕ, _+_, _*_, _≤_}
 use native.Mathlib.Omega.{arith}

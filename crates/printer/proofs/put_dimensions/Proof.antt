@@ -1,12 +1,11 @@
 -- `printer::put_dimensions` meets its contract. The loop's invariant: the texts of the dimensions passed stand in `out`. The measure is the number of
 -- dimensions left. Assumes nothing.
-use mathlib.Core.Path.{_≡_, sym, _∙_}
-use Prim.Native.Nat.{ℕ, suc, _-_}
+use mathlib.Core.Path.{sym, _∙_}
+use Prim.Native.Nat.{suc, _-_}
 use native.Mathlib.Omega.{arith}
-use borrow.Author.Needs.{needs}
 use denote.Ref.{now}
 use Rattle.sheet_format.specs.Layout.{top}
-use Rattle.printer.proofs.Dimensions.{Printed, printed-none, printed-room, printed-more, printed-all}
+use Rattle.printer.proofs.Dimensions.{Printed, printed-none, printed-more, printed-all}
 use Rattle.printer.proofs.put_dimensions.Statement.{statement}
 use Rattle.printer.proofs.put_dimensions.Tie as tie
 

@@ -5,14 +5,13 @@ use mathlib.Core.Logic.{inl, inr, ⊎-elim}
 use mathlib.Core.List.{List}
 use Prim.Native.Nat.{ℕ, _+_, _-_, _<_, _≤_}
 use native.Mathlib.Omega.{arith}
-use lib.ListN.{length, set}
-use lib.IntN.{ℤ, pos, natAbs, _-ℤ_, _*ℤ_}
-use native.Mathlib.Nat as NatL
+use lib.ListN.{set}
+use lib.IntN.{ℤ, natAbs, _-ℤ_, _*ℤ_}
 use mir.Syntax.{w32, w64}
 use mir.Val.{SFits, toZ}
-use Rattle.lines.specs.Slice.{limit, at, Apart, LineSet, Beyond, difference}
+use Rattle.lines.specs.Slice.{limit, at, LineSet, Beyond, difference}
 use mir.Facts.{sfits-lit}
-use Rattle.lines.proofs.Store.{lineSet-none, lineSet-more}
+use Rattle.lines.proofs.Store.{lineSet-more}
 use Rattle.lines.proofs.Blocks.{Partly, begun, ended}
 use Rattle.words.specs.Read.{read, read-entry, read-wide, entry-fits, cast-fits}
 use Rattle.words.specs.Product.{product, less, product-fits, less-fits, read-less}
