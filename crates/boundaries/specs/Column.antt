@@ -29,5 +29,5 @@ pub record ColumnExceeds (M : Matrix) (w : List ℤ) (A : theory.Matrix) (j : �
   pub small : Small w′
 
 abbrev pub ColumnBecame : Matrix → List ℤ → theory.Matrix → ℕ → Effect → List ℤ → Type 0
-ColumnBecame M w A j Done w′ = ColumnFilled M w A j w′
+ColumnBecame M w A j (Done x) w′ = ColumnFilled M w A j w′
 ColumnBecame M w A j TooWide w′ = ColumnExceeds M w A j w′

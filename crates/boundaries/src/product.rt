@@ -18,6 +18,7 @@ use faces::face::FACES;
 use faces::face::face_places;
 use faces::face::sign;
 use lines::line::Effect;
+use lines::line::Written;
 use lines::matrix::Matrix;
 
 // The sum of sign t times the entry at places[t] of a line, over t below `faces`. The loop has a constant length, so that the compiler
@@ -69,7 +70,7 @@ fn multiply_column(s: &[u8], p: usize, q: Matrix, m: Matrix, w: &mut [i32], j: u
         w[at] = v as i32;
         i = i + 1;
     }
-    Effect::Done
+    Effect::Done(Written {})
 }
 
 // Makes of m the product of q and the boundary matrix of dimension p + 1.
@@ -86,10 +87,10 @@ pub fn multiply(s: &[u8], p: usize, q: Matrix, m: Matrix, w: &mut [i32]) -> Effe
     let mut j: usize = 0;
     let columns = m.width;
     while j < columns {
-        let Effect::Done = multiply_column(s, p, q, m, w, j) else {
+        let Effect::Done(_) = multiply_column(s, p, q, m, w, j) else {
             return Effect::TooWide;
         };
         j = j + 1;
     }
-    Effect::Done
+    Effect::Done(Written {})
 }

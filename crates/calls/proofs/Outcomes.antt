@@ -26,6 +26,7 @@ use Rattle.limits.specs.Limits.{entryLimit, libraryLimit}
 use Rattle.answers.specs.TwoReductions.{first-reduced, reductions-right}
 use Rattle.lines.specs.Matrices.{contents, Held, Holds, Exceeds, Became}
 use Rattle.lines.specs.declared.matrix.Matrix.{Matrix}
+use Rattle.lines.specs.declared.line.Written.{Written}
 use Rattle.lines.specs.declared.line.Effect.{Effect}
 use Rattle.lines.specs.declared.line.Effect.the-variants as written
 use Rattle.refusal.specs.declared.Refusal.{Refusal}
@@ -60,7 +61,7 @@ module _ (W : Layout) {y : Machine} {n : ℕ} {w : List ℤ} (x : Reduction) whe
   reduces-refused e h = subst (λ (z : Reduction). Reduces W y n z w) e h
 
 module _ {M : Matrix} {w w′ : List ℤ} {A : theory.Matrix} (x : Effect) where
-  pub became-done : x ≡ written.Done → Became M w A x w′ → Holds M w A w′
+  pub became-done : {a : Written} → x ≡ written.Done a → Became M w A x w′ → Holds M w A w′
   became-done e h = subst (λ (z : Effect). Became M w A z w′) e h
 
   pub became-wide : x ≡ written.TooWide → Became M w A x w′ → Exceeds M w A w′

@@ -55,7 +55,7 @@ pub fn reduce_twice(s: &[u8], p: usize, sizes: Sizes, w: &mut [i32]) -> Reductio
         return Reductions::Refused(Refusal::TooWide);
     };
     let second = Layout::second(sizes.cells, sizes.rows, sizes.columns, rank);
-    let Effect::Done = multiply(s, p, second.row_follower, second.matrix, w) else {
+    let Effect::Done(_) = multiply(s, p, second.row_follower, second.matrix, w) else {
         clear(w);
         return Reductions::Refused(Refusal::TooWide);
     };

@@ -107,7 +107,7 @@ module _ {w₀ : List ℤ} {target source width : ℕ} {q : ℤ} {t : ℕ} {w : 
   -- a part that is the rest of the line
   pub part-last :
       t + n ≡ width → (r : Effect) (w′ : List ℤ) → Subtracted w (target + t) (source + t) n q r w′ → Subtracted w₀ target source width q r w′
-  part-last e Done w′ h = ended (part-done h) (omega arith)
+  part-last e (Done x) w′ h = ended (part-done h) (omega arith)
   part-last e TooWide w′ h = part-beyond h
 
 -- the factor is the number that the word holds

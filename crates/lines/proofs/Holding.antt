@@ -61,7 +61,7 @@ subtracted-became {M} {target} {source} {i} {j} {k} {l} {n} s u w w′ q A on sa
     on′ t h = rw (span-at s w t, span-at u w t) (on t h)
 
     by-result : (r : Effect) → Subtracted w target source n q r w′ → Became M w A r w′
-    by-result Done h = lineSet-holds s A on′ h same
+    by-result (Done x) h = lineSet-holds s A on′ h same
     by-result TooWide h = beyond-exceeds s A on′ h
 
 pub negated-became : {M : Matrix} {target i j n : ℕ} → Span M target i j n → (w w′ : List ℤ)
@@ -73,7 +73,7 @@ negated-became {M} {target} {i} {j} {n} s w w′ A on same = by-result
     on′ t h = rw (span-at s w t) (on t h)
 
     by-result : (r : Effect) → Negated w target n r w′ → Became M w A r w′
-    by-result Done h = lineSet-holds s A on′ h same
+    by-result (Done x) h = lineSet-holds s A on′ h same
     by-result TooWide h = absurd h
 
 -- A has the entries of w off both spans

@@ -39,7 +39,7 @@ negate-line {M} {start} {k} s w w′ =
 
 pub swap-lines : {M : Matrix} {first second i k : ℕ} → Span M first i 0 (M .width) → Span M second k 0 (M .width) → (w w′ : List ℤ) (r : Effect)
     → Swapped w first second (M .width) r w′ → Became M w (onRows (swap i k) (contents M w)) r w′
-swap-lines {M} {first} {second} {i} {k} s u w w′ Done h =
+swap-lines {M} {first} {second} {i} {k} s u w w′ (Done x) h =
     swapped-holds s u (onRows (swap i k) (contents M w)) (λ t l. onRows-swap-first i k (contents M w) (0 + t))
     (λ t l. onRows-swap-second i k (contents M w) (0 + t))
     (λ a b x y o p. onRows-swap-other i k (contents M w) a b (off-line (M .width) i a b y o) (off-line (M .width) k a b y p)) h

@@ -111,7 +111,7 @@ module _ (M : Matrix) (w : List ℤ) (j k : ℕ) (q : ℤ) (f : Within (M .width
 
   pub subtract-places : (r : Effect) (w′ : List ℤ) → Became (placesOf M k) w (onRows (subtract j k q) (contents (placesOf M k) w)) r w′
       → Became M w (onColumns (subtract j k q) old) r w′
-  subtract-places Done w′ h =
+  subtract-places (Done x) w′ h =
       line-holds M (subtract j k q) f w w k (alone .line) (λ b l. refl) (onColumns (subtract j k q) old) (λ b l. refl) h others
   subtract-places TooWide w′ h = line-exceeds M (subtract j k q) f w w k (alone .line) (λ b l. refl) (onColumns (subtract j k q) old) (λ b l. refl) h
 

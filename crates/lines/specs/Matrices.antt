@@ -47,7 +47,7 @@ pub record Exceeds (M : Matrix) (w : List ℤ) (A : theory.Matrix) (w′ : List 
 
 -- what an operation that makes A of the matrix answers and leaves
 abbrev pub Became : Matrix → List ℤ → theory.Matrix → Effect → List ℤ → Type 0
-Became M w A Done w′ = Holds M w A w′
+Became M w A (Done x) w′ = Holds M w A w′
 Became M w A TooWide w′ = Exceeds M w A w′
 
 -- the places of line i, as a matrix of that many lines of one entry

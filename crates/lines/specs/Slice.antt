@@ -70,7 +70,7 @@ difference w target source q t = at w (target + t) -ℤ q *ℤ at w (source + t)
 
 -- q times the line at `source` is taken from the line at `target`
 abbrev pub Subtracted : List ℤ → ℕ → ℕ → ℕ → ℤ → Effect → List ℤ → Type 0
-Subtracted w target source width q Done w′ = LineSet w target width (difference w target source q) w′
+Subtracted w target source width q (Done x) w′ = LineSet w target width (difference w target source q) w′
 Subtracted w target source width q TooWide w′ = Beyond w width (difference w target source q) w′
 
 -- the two lines have changed places
@@ -82,9 +82,9 @@ pub record LinesSwapped (w : List ℤ) (first second width : ℕ) (w′ : List �
   pub small : Small w′
 
 abbrev pub Swapped : List ℤ → ℕ → ℕ → ℕ → Effect → List ℤ → Type 0
-Swapped w first second width Done w′ = LinesSwapped w first second width w′
+Swapped w first second width (Done x) w′ = LinesSwapped w first second width w′
 Swapped w first second width TooWide w′ = ⊥
 
 abbrev pub Negated : List ℤ → ℕ → ℕ → Effect → List ℤ → Type 0
-Negated w target width Done w′ = LineSet w target width (λ t. negℤ (at w (target + t))) w′
+Negated w target width (Done x) w′ = LineSet w target width (λ t. negℤ (at w (target + t))) w′
 Negated w target width TooWide w′ = ⊥

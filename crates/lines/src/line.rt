@@ -10,9 +10,12 @@ use crate::matrix::Matrix;
 use crate::zero::BLOCK;
 use crate::zero::is_zero_block;
 
+// What an operation tells of the entries that it wrote. It has no field: Note 4 of document 02 adds their largest absolute value.
+pub struct Written {}
+
 // What an operation answers.
 pub enum Effect {
-    Done,
+    Done(Written),
     TooWide,
 }
 
@@ -38,7 +41,7 @@ pub fn subtract_places(w: &mut [i32], target: usize, source: usize, width: usize
         w[target + t] = v as i32;
         t = t + 1;
     }
-    Effect::Done
+    Effect::Done(Written {})
 }
 
 // The same for one block: where the source is 0 the target keeps its entries.
@@ -50,7 +53,7 @@ fn subtract_block(w: &mut [i32], target: usize, source: usize, q: i64) -> Effect
     ensures { λ r. ⌜ Subtracted (now (w .entry)) target source block q r (now (w .exit)) ⌝ }
 {
     if is_zero_block(w, source) {
-        return Effect::Done;
+        return Effect::Done(Written {});
     }
     subtract_places(w, target, source, BLOCK, q)
 }
@@ -65,7 +68,7 @@ pub fn subtract(w: &mut [i32], target: usize, source: usize, width: usize, q: i6
 {
     let mut t: usize = 0;
     while t + BLOCK <= width {
-        let Effect::Done = subtract_block(w, target + t, source + t, q) else {
+        let Effect::Done(_) = subtract_block(w, target + t, source + t, q) else {
             return Effect::TooWide;
         };
         t = t + BLOCK;
@@ -87,7 +90,7 @@ pub fn swap(w: &mut [i32], first: usize, second: usize, width: usize) -> Effect
         w[second + t] = x;
         t = t + 1;
     }
-    Effect::Done
+    Effect::Done(Written {})
 }
 
 // Negates the line at `at`.
@@ -101,7 +104,7 @@ pub fn negate(w: &mut [i32], at: usize, width: usize) -> Effect
         w[at + t] = -w[at + t];
         t = t + 1;
     }
-    Effect::Done
+    Effect::Done(Written {})
 }
 
 // Sets every entry of the slice to 0.

@@ -8,6 +8,7 @@ ghost use Rattle.lines.specs.Matrices.{end, Held, contents, Became, plac
 ghost use Rattle.lines.specs.Operations.{operationOf, Fits, Alone};
 use crate::line;
 use crate::line::Effect;
+use crate::line::Written;
 use crate::operation::Operation;
 
 pub struct Matrix {
@@ -79,7 +80,7 @@ impl Matrix {
         ensures { λ r. ⌜ Became self (now (w .entry)) (onRows (operationOf op) (contents self (now (w .entry)))) r (now (w .exit)) ⌝ }
     {
         if self.width == 0 {
-            return Effect::Done;
+            return Effect::Done(Written {});
         }
         self.on_wide_lines(w, op)
     }
@@ -109,11 +110,11 @@ impl Matrix {
         let lines = self.lines;
         let mut i: usize = 0;
         while i < lines {
-            let Effect::Done = self.places(i).on_narrow_lines(w, op) else {
+            let Effect::Done(_) = self.places(i).on_narrow_lines(w, op) else {
                 return Effect::TooWide;
             };
             i = i + 1;
         }
-        Effect::Done
+        Effect::Done(Written {})
     }
 }

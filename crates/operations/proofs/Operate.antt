@@ -19,6 +19,7 @@ use Rattle.lines.specs.Slice.{limit, at, lineAt, Small}
 use Rattle.lines.specs.Matrices.{Held, contents, Exceeds, Became}
 use Rattle.lines.specs.Operations.{Fits}
 use Rattle.lines.specs.declared.matrix.Matrix.{Matrix}
+use Rattle.lines.specs.declared.line.Written.{Written}
 use Rattle.lines.specs.declared.line.Effect.{Effect}
 use Rattle.lines.specs.declared.line.Effect.the-variants.{Done, TooWide}
 use Rattle.operations.specs.Laid.{Laid, linesOf, stateOf, Operated, Followed}
@@ -154,7 +155,7 @@ module _ (x : Side) (op : Operation) (W : Layout) (w : List ℤ) (l : Laid (leng
   }
 
   wide-second :
-      {w₁ w₂ : List ℤ} → OnMatrix x op W w Done w₁ → OnFollower x op W w₁ TooWide w₂
+      {w₁ w₂ : List ℤ} {a : Written} → OnMatrix x op W w (Done a) w₁ → OnFollower x op W w₁ TooWide w₂
       → Operated W (outcomeOn x W op (stateOf W w)) TooWide w₂
   wide-second {w₁} h k = record {
     outcome =
@@ -165,7 +166,7 @@ module _ (x : Side) (op : Operation) (W : Layout) (w : List ℤ) (l : Laid (leng
   }
 
   pub ends :
-      {w₁ w₂ w₃ : List ℤ} → OnMatrix x op W w Done w₁ → OnFollower x op W w₁ Done w₂ → (r : Effect) → OnUndone x op W w₂ r w₃
+      {w₁ w₂ w₃ : List ℤ} {a b : Written} → OnMatrix x op W w (Done a) w₁ → OnFollower x op W w₁ (Done b) w₂ → (r : Effect) → OnUndone x op W w₂ r w₃
       → Operated W (outcomeOn x W op (stateOf W w)) r w₃
   ends {w₁} {w₂} {w₃} h k TooWide g = record {
     outcome =
@@ -174,7 +175,7 @@ module _ (x : Side) (op : Operation) (W : Layout) (w : List ℤ) (l : Laid (leng
         (and-right (tableWithin limit (newFollower x op W w₁)) (tableWithin limit (newUndone x op W w₂)) (exceeds-within g)));
     small = g .small;
   }
-  ends {w₁} {w₂} {w₃} h k Done g = record {
+  ends {w₁} {w₂} {w₃} h k (Done d) g = record {
     outcome =
         sym
         (outcome-is (contents-off (apart .ab) h) (kept-trans (contents-off (apart .ac) h) (contents-off (apart .bc) k))
@@ -216,8 +217,8 @@ module _ (t : Task) (w₁ : List ℤ) (r₁ : Effect) (b₁ : OnMatrix (t .side)
       wide-first (t .side) (t .operation) (t .layout) (t .slice) (t .laid) (t .fits .within)
       (subst (λ (r : Effect). OnMatrix (t .side) (t .operation) (t .layout) (t .slice) r w₁) e b₁)
 
-  module _ (e₁ : r₁ ≡ Done) where
-    done₁ : OnMatrix (t .side) (t .operation) (t .layout) (t .slice) Done w₁
+  module _ {a : Written} (e₁ : r₁ ≡ Done a) where
+    done₁ : OnMatrix (t .side) (t .operation) (t .layout) (t .slice) (Done a) w₁
     done₁ = subst (λ (r : Effect). OnMatrix (t .side) (t .operation) (t .layout) (t .slice) r w₁) e₁ b₁
 
     -- what the companions' call asks

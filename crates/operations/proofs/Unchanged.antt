@@ -16,6 +16,7 @@ use Rattle.lines.specs.Slice.{limit, Small}
 use Rattle.lines.specs.Matrices.{contents, Holds}
 use Rattle.lines.specs.Operations.{Fits}
 use Rattle.lines.specs.declared.matrix.Matrix.{Matrix}
+use Rattle.lines.specs.declared.line.Written.{Written}
 use Rattle.lines.specs.declared.line.Effect.the-variants.{Done}
 use Rattle.operations.specs.Laid.{Laid, sizesOf, stateOf}
 use Rattle.operations.specs.declared.layout.Layout.{Layout}
@@ -56,23 +57,23 @@ identity-inverse (negate k) e = e
 holds-same : (M : Matrix) (w : List ℤ) (A : theory.Matrix) → Small w → ((a b : ℕ) → A a b ≡ contents M w a b) → Holds M w A w
 holds-same M w A s e = record { same-length = refl; on = record { at = λ a b x y. sym (e a b) }; off = λ p o. refl; small = s }
 
-pub unchanged : (t : Task) → Small (t .slice) → Identity (t .operation) → Comes t Done (t .slice)
-unchanged t s e =
+pub unchanged : (t : Task) → Small (t .slice) → Identity (t .operation) → (a : Written) → Comes t (Done a) (t .slice)
+unchanged t s e a =
     let x = t .side in let op = t .operation in let W = t .layout in let w = t .slice in
     ends x op W w (t .laid) (t .fits .within)
     (holds-same (W .matrix) w (onSide x op (contents (W .matrix) w)) s (onSide-identity x op e (contents (W .matrix) w)))
     (holds-same (follower x W) w (onRows op (contents (follower x W) w)) s (onRows-identity op e (contents (follower x W) w)))
-    Done
+    (Done a)
     (holds-same (undone x W) w (onRows (inverse op) (contents (undone x W) w)) s (onRows-identity (inverse op) (identity-inverse op e) (contents (undone x W) w)))
 
 -- ---- what the passes need: no operation is called where it would change nothing
 
 module _ (W : Layout) (w : List ℤ) (laid : Laid (length w) W) (small : Small w) (op : Operation) (identity : Identity op) where
   pub rows-unchanged : Fits (W .matrix .lines) op → onRow limit (sizesOf W) op (stateOf W w) ≡ made (stateOf W w)
-  rows-unchanged fits = sym (unchanged (record { side = rows; operation = op; layout = W; slice = w; laid = laid; fits = fits }) small identity .outcome)
+  rows-unchanged fits = sym (unchanged (record { side = rows; operation = op; layout = W; slice = w; laid = laid; fits = fits }) small identity (record {}) .outcome)
 
   pub columns-unchanged : Fits (W .matrix .width) op → onColumn limit (sizesOf W) op (stateOf W w) ≡ made (stateOf W w)
-  columns-unchanged fits = sym (unchanged (record { side = columns; operation = op; layout = W; slice = w; laid = laid; fits = fits }) small identity .outcome)
+  columns-unchanged fits = sym (unchanged (record { side = columns; operation = op; layout = W; slice = w; laid = laid; fits = fits }) small identity (record {}) .outcome)
 
 -- an exchange of two of n lines
 pub swap-fits : {n : ℕ} (i k : ℕ) → (i < n) × (k < n) → Fits n (swap i k)

@@ -9,6 +9,7 @@ use Rattle.reduction_steps.specs.State.{Sizes, State, Outcome, made, tooWide}
 use Rattle.lines.specs.Slice.{Small}
 use Rattle.lines.specs.Matrices.{end, contents, Became}
 use Rattle.lines.specs.declared.matrix.Matrix.{Matrix}
+use Rattle.lines.specs.declared.line.Written.{Written}
 use Rattle.lines.specs.declared.line.Effect.{Effect}
 use Rattle.lines.specs.declared.line.Effect.the-variants.{Done, TooWide}
 use Rattle.operations.specs.declared.layout.Layout.{Layout}
@@ -55,7 +56,7 @@ stateOf W w =
 
 -- what an operation has come to: the state that it made, or too wide
 abbrev pub outcomeOf : Effect → State → Outcome
-outcomeOf Done s = made s
+outcomeOf (Done x) s = made s
 outcomeOf TooWide s = tooWide
 
 -- the operation's outcome o is the one answered, and the slice holds the state that it made
@@ -67,5 +68,5 @@ pub record Operated (W : Layout) (o : Outcome) (r : Effect) (w′ : List ℤ) : 
 pub data Followed (F U : Matrix) (op : Operation) (w : List ℤ) : Effect → List ℤ → Type 0 where
   stopped : {w′ : List ℤ} → Became F w (onRows op (contents F w)) TooWide w′ → Followed F U op w TooWide w′
   followed :
-      {w₁ : List ℤ} → Became F w (onRows op (contents F w)) Done w₁ → (r : Effect) {w′ : List ℤ} →
+      {x : Written} {w₁ : List ℤ} → Became F w (onRows op (contents F w)) (Done x) w₁ → (r : Effect) {w′ : List ℤ} →
       Became U w₁ (onRows (inverse op) (contents U w₁)) r w′ → Followed F U op w r w′

@@ -10,6 +10,7 @@ ghost use Rattle.lines.specs.Matrices.{Held};
 ghost use Rattle.operations.specs.Laid.{Laid, sizesOf, stateOf, Operated, Followed};
 ghost use Rattle.operations.specs.Layouts.{firstLayout, secondLayout};
 use lines::line::Effect;
+use lines::line::Written;
 use lines::matrix::Matrix;
 use lines::operation::Operation;
 
@@ -119,7 +120,7 @@ fn follow(follower: Matrix, inverse: Matrix, w: &mut [i32], op: Operation) -> Ef
     ensures { λ r. ⌜ Followed follower inverse (operationOf op) (now (w .entry)) r (now (w .exit)) ⌝ }
 {
     let undone = op.inverse();
-    let Effect::Done = follower.on_lines(w, op) else {
+    let Effect::Done(_) = follower.on_lines(w, op) else {
         return Effect::TooWide;
     };
     inverse.on_lines(w, undone)
@@ -133,7 +134,7 @@ impl Layout {
         requires { ⌜ Fits (self .matrix .lines) (operationOf op) ⌝ }
         ensures { λ r. ⌜ Operated self (onRow limit (sizesOf self) (operationOf op) (stateOf self (now (w .entry)))) r (now (w .exit)) ⌝ }
     {
-        let Effect::Done = self.matrix.on_lines(w, op) else {
+        let Effect::Done(_) = self.matrix.on_lines(w, op) else {
             return Effect::TooWide;
         };
         follow(self.row_follower, self.row_inverse, w, op)
@@ -146,7 +147,7 @@ impl Layout {
         requires { ⌜ Fits (self .matrix .width) (operationOf op) × Alone (self .matrix) (now w) (operationOf op) ⌝ }
         ensures { λ r. ⌜ Operated self (onColumn limit (sizesOf self) (operationOf op) (stateOf self (now (w .entry)))) r (now (w .exit)) ⌝ }
     {
-        let Effect::Done = self.matrix.on_places(w, op) else {
+        let Effect::Done(_) = self.matrix.on_places(w, op) else {
             return Effect::TooWide;
         };
         follow(self.column_follower, self.column_inverse, w, op)
@@ -160,7 +161,7 @@ impl Layout {
         ensures { λ r. ⌜ Operated self (onRow limit (sizesOf self) (swap i k) (stateOf self (now (w .entry)))) r (now (w .exit)) ⌝ }
     {
         if i == k {
-            return Effect::Done;
+            return Effect::Done(Written {});
         }
         self.on_rows(w, Operation::Swap(i, k))
     }
@@ -173,7 +174,7 @@ impl Layout {
         ensures { λ r. ⌜ Operated self (onColumn limit (sizesOf self) (swap j k) (stateOf self (now (w .entry)))) r (now (w .exit)) ⌝ }
     {
         if j == k {
-            return Effect::Done;
+            return Effect::Done(Written {});
         }
         self.on_columns(w, Operation::Swap(j, k))
     }

@@ -17,6 +17,7 @@ use Rattle.reduction_laws.specs.StageLaws as stage-laws
 use Rattle.lines.specs.Slice.{limit, at, lineAt, Small}
 use Rattle.lines.specs.Matrices.{Held, contents}
 use Rattle.lines.specs.declared.matrix.Matrix.{Matrix}
+use Rattle.lines.specs.declared.line.Written.{Written}
 use Rattle.lines.specs.declared.line.Effect.{Effect}
 use Rattle.lines.specs.declared.line.Effect.the-variants.{Done, TooWide}
 use Rattle.operations.specs.Laid.{Laid, sizesOf, linesOf, stateOf, outcomeOf, Operated}
@@ -66,8 +67,8 @@ held-matrix h = record { ends = omega (arith, h .after-matrix, h .after-row-inve
 
 -- ---- what an operation came to
 
-pub operated-done : {W : Layout} {o : Outcome} {r : Effect} {w′ : List ℤ} → Operated W o r w′ → r ≡ Done → o ≡ made (stateOf W w′)
-operated-done {W} {o} {r} {w′} h e = sym (h .outcome) ∙ ap (λ (x : Effect). outcomeOf x (stateOf W w′)) e
+pub operated-done : {W : Layout} {o : Outcome} {r : Effect} {a : Written} {w′ : List ℤ} → Operated W o r w′ → r ≡ Done a → o ≡ made (stateOf W w′)
+operated-done {W} {o} {r} {a} {w′} h e = sym (h .outcome) ∙ ap (λ (x : Effect). outcomeOf x (stateOf W w′)) e
 
 pub operated-wide : {W : Layout} {o : Outcome} {r : Effect} {w′ : List ℤ} → Operated W o r w′ → r ≡ TooWide → o ≡ tooWide
 operated-wide {W} {o} {r} {w′} h e = sym (h .outcome) ∙ ap (λ (x : Effect). outcomeOf x (stateOf W w′)) e

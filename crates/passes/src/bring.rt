@@ -18,17 +18,17 @@ pub fn bring_pivot(layout: Layout, w: &mut [i32], k: usize, i: usize, j: usize) 
     requires { ⌜ (k < layout .matrix .lines) × (k < layout .matrix .width) × (i < layout .matrix .lines) × (j < layout .matrix .width) ⌝ }
     ensures { λ r. ⌜ Passed layout (bringOf layout k i j (now (w .entry))) (length (now (w .entry))) r (now (w .exit)) ⌝ }
 {
-    let Effect::Done = layout.swap_rows(w, i, k) else {
+    let Effect::Done(_) = layout.swap_rows(w, i, k) else {
         clear(w);
         return Pass::Refused(Refusal::TooWide);
     };
-    let Effect::Done = layout.swap_columns(w, j, k) else {
+    let Effect::Done(_) = layout.swap_columns(w, j, k) else {
         clear(w);
         return Pass::Refused(Refusal::TooWide);
     };
     let m = layout.matrix;
     if m.entry(w, k, k) < 0 {
-        let Effect::Done = layout.on_rows(w, Operation::Negate(k)) else {
+        let Effect::Done(_) = layout.on_rows(w, Operation::Negate(k)) else {
             clear(w);
             return Pass::Refused(Refusal::TooWide);
         };

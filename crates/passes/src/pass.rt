@@ -29,7 +29,7 @@ pub fn clear_column(layout: Layout, w: &mut [i32], k: usize) -> Pass
             i = i + 1;
             continue;
         }
-        let Effect::Done = layout.on_rows(w, Operation::Subtract(i, k, q)) else {
+        let Effect::Done(_) = layout.on_rows(w, Operation::Subtract(i, k, q)) else {
             clear(w);
             return Pass::Refused(Refusal::TooWide);
         };
@@ -48,7 +48,7 @@ pub fn clear_row(layout: Layout, w: &mut [i32], k: usize) -> Pass
     let mut j = first_nonzero(w, m.line(k), k + 1, columns);
     while j < columns {
         let q = quotient(m.entry(w, k, j), m.entry(w, k, k));
-        let Effect::Done = layout.on_columns(w, Operation::Subtract(j, k, q)) else {
+        let Effect::Done(_) = layout.on_columns(w, Operation::Subtract(j, k, q)) else {
             clear(w);
             return Pass::Refused(Refusal::TooWide);
         };

@@ -79,7 +79,7 @@ fn column_pass(layout: Layout, w: &mut [i32], k: usize, rounds: usize) -> Stage
     let Indivisible::Row(i) = first_indivisible(layout.matrix, w, k) else {
         return Stage::Cleared;
     };
-    let Effect::Done = layout.on_rows(w, Operation::Subtract(k, i, -1)) else {
+    let Effect::Done(_) = layout.on_rows(w, Operation::Subtract(k, i, -1)) else {
         clear(w);
         return Stage::Refused(Refusal::TooWide);
     };

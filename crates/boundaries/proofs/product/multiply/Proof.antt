@@ -114,7 +114,7 @@ returns c =
 loop-again : tie.Need-loop-again Inv-loop μ-loop
 loop-again c =
     let called = c .before .before .before in
-    more (turn called .before .loop .inv) (start called .pre .1 .1 .1) (turn called .loop-test .taken) (became called Done (c .enum-told .given .1))
+    more (turn called .before .loop .inv) (start called .pre .1 .1 .1) (turn called .loop-test .taken) (became called (Done _) (c .enum-told .given .1))
 
 same-length-2 : tie.Need-same-length-2 Inv-loop μ-loop
 same-length-2 c = c .before .loop .inv .so-far .same-length

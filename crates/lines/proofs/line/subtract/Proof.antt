@@ -59,7 +59,7 @@ returns c =
 loop-again : tie.Need-loop-again Inv-loop μ-loop
 loop-again c =
     let called = c .before .before .before in let loop = called .before .before .before in
-    part-done (loop .loop .inv) block (called .before .before .loop-test .taken) (became called Done (c .enum-told .given .1))
+    part-done (loop .loop .inv) block (called .before .before .loop-test .taken) (became called (Done _) (c .enum-told .given .1))
 
 subtract-places-requires : tie.Need-subtract-places-requires Inv-loop μ-loop
 subtract-places-requires c κs =

@@ -44,7 +44,7 @@ returns c = Followed.stopped (became (c .before .before .before) TooWide (c .enu
 on-lines-requires-2 : tie.Need-on-lines-requires-2
 on-lines-requires-2 c κs =
     let called = c .before .before .before .before in let s = start called in
-    let done = became called Done (c .before .enum-told .given .1) in (
+    let done = became called (Done _) (c .before .enum-told .given .1) in (
       record { ends = rw (done .same-length) (s .pre .0 .1 .ends) },
       (done .small, subst (λ (op : Operation). Fits (s .args .inverse .lines) op) (sym (undone called)) (s .pre .1 .1)),
     )
@@ -56,7 +56,7 @@ returns-2 : tie.Need-returns-2
 returns-2 c =
     let called = c .before .before .before .before .before .before in let U = start called .args .inverse in let last = c .before .on-lines2 in
     let w = called .on-lines .last .1 .0 in
-    Followed.followed (became called Done (c .before .before .before .enum-told .given .1)) (last .result)
+    Followed.followed (became called (Done _) (c .before .before .before .enum-told .given .1)) (last .result)
     (subst (λ (op : Operation). Became U w (onRows op (contents U w)) (last .result) (last .last .1 .0)) (undone called) (last .ensures))
 
 pub follow-spec : {M : Type 1} → statement M

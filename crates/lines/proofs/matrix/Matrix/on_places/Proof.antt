@@ -136,7 +136,7 @@ loop-again c =
     record {
       below = omega (arith, at .before .loop-test .taken);
       so-far = places-next (start at .args .self) (operationOf (start at .args .op)) (start at .pre .1 .1 .0 .within) (start at .args .w .now) (head at .loop .w) (head at .loop .i)
-          (at .before .loop-test .taken) (head at .loop .inv .so-far) (became called Done (c .enum-told .given .1));
+          (at .before .loop-test .taken) (head at .loop .inv .so-far) (became called (Done _) (c .enum-told .given .1));
     }
 
 same-length-3 : tie.Need-same-length-3 Inv-loop μ-loop
