@@ -9,7 +9,7 @@ use native.Mathlib.Decide.{ℕ-discrete, decLt}
 use lib.ListN.{length, set, length-set}
 use lib.IntN.{ℤ, natAbs}
 use Rattle.matrices.specs.Matrix as theory
-use Rattle.lines.specs.Slice.{limit, at, lineAt, Small}
+use Rattle.lines.specs.Slice.{entryLimit, at, lineAt, Small}
 use Rattle.lines.specs.Slice as slice
 use Rattle.lines.specs.Matrices.{Held, contents, Off, Holds}
 use Rattle.lines.specs.declared.matrix.Matrix.{Matrix}
@@ -39,7 +39,7 @@ module _ {M : Matrix} {n i j place : ℕ} (e : Place M n i j place) where
   pub place-inside : place + 1 ≤ n
   place-inside = span-inside span (e .held)
 
-  pub entry-set : (w : List ℤ) (v : ℤ) → length w ≡ n → Small w → natAbs v ≤ limit → EntrySet M w i j v (set w place v)
+  pub entry-set : (w : List ℤ) (v : ℤ) → length w ≡ n → Small w → natAbs v ≤ entryLimit → EntrySet M w i j v (set w place v)
   entry-set w v s h l = record {
     same-length = length-set w place v;
     on = ap (at (set w place v)) (sym (e .is)) ∙ at-set-same w place v inside;

@@ -6,7 +6,7 @@ use Prim.Native.Nat.{ℕ, _<_}
 use lib.ListN.{length}
 use lib.IntN.{ℤ, natAbs}
 use Rattle.matrices.specs.Matrix as theory
-use Rattle.lines.specs.Slice.{limit, at, Small}
+use Rattle.lines.specs.Slice.{entryLimit, at, Small}
 use Rattle.lines.specs.Matrices.{contents, Off}
 use Rattle.lines.specs.declared.matrix.Matrix.{Matrix}
 use Rattle.lines.specs.declared.line.Effect.{Effect}
@@ -25,7 +25,7 @@ pub record ColumnExceeds (M : Matrix) (w : List ℤ) (A : theory.Matrix) (j : �
   pub same-length : length w′ ≡ length w
   pub line : ℕ
   pub line-below : line < M .lines
-  pub beyond : limit < natAbs (A line j)
+  pub beyond : entryLimit < natAbs (A line j)
   pub small : Small w′
 
 abbrev pub ColumnBecame : Matrix → List ℤ → theory.Matrix → ℕ → Effect → List ℤ → Type 0

@@ -7,7 +7,7 @@ use mir.Syntax.{w32, w64}
 use mir.Val.{SFits}
 use Rattle.complexes.specs.Boundary.{sign}
 use Rattle.complexes.specs.CoefficientLaws.{natAbs-sign}
-use Rattle.lines.specs.Slice.{limit}
+use Rattle.lines.specs.Slice.{entryLimit}
 use Rattle.words.specs.Read.{read, read-entry, read-wide, entry-fits}
 
 -- the sign of an even and of an odd number
@@ -24,7 +24,7 @@ pub sign-unit : (t : ℕ) → natAbs (sign t) ≤ 1
 sign-unit t = omega (arith, natAbs-sign t)
 
 -- a sign is a small number
-sign-small : (r : ℤ) (t : ℕ) → r ≡ sign t → natAbs r ≤ limit
+sign-small : (r : ℤ) (t : ℕ) → r ≡ sign t → natAbs r ≤ entryLimit
 sign-small r t e = rw e (omega (arith, sign-unit t))
 
 -- a sign as the machine reads it

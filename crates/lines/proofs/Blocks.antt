@@ -9,7 +9,7 @@ use native.Mathlib.Nat as NatL
 use mir.Syntax.{w64}
 use lib.ListN.{length}
 use lib.IntN.{ℤ, natAbs}
-use Rattle.lines.specs.Slice.{limit, at, Small, Apart, LineSet, Beyond, Subtracted, difference}
+use Rattle.lines.specs.Slice.{entryLimit, at, Small, Apart, LineSet, Beyond, Subtracted, difference}
 use Rattle.lines.specs.declared.line.Effect.{Effect}
 use Rattle.lines.specs.declared.line.Effect.the-variants.{Done, TooWide}
 use Rattle.lines.proofs.Store.{lineSet-none}
@@ -21,19 +21,19 @@ pub record Partly (w₀ : List ℤ) (target source width : ℕ) (q : ℤ) (t : �
   pub target-inside : target + width ≤ length w₀
   pub source-inside : source + width ≤ length w₀
   pub apart : Apart target source width
-  pub factor : natAbs q ≤ limit
+  pub factor : natAbs q ≤ entryLimit
   pub so-far : LineSet w₀ target t (difference w₀ target source q) w
 
 -- before the first place, for a number q that a word holds
 pub begun :
     {w₀ : List ℤ} {target source width : ℕ} (q : ℤ) → (target + width ≤ length w₀) × (source + width ≤ length w₀) → Apart target source width
-    → Small w₀ → natAbs q ≤ limit → Partly w₀ target source width (read w64 q) 0 w₀
+    → Small w₀ → natAbs q ≤ entryLimit → Partly w₀ target source width (read w64 q) 0 w₀
 begun {w₀} {target} {source} {width} q inside apart small factor = record {
   below = omega arith;
   target-inside = inside .0;
   source-inside = inside .1;
   apart = apart;
-  factor = subst (λ (k : ℤ). natAbs k ≤ limit) (sym (read-wide q factor)) factor;
+  factor = subst (λ (k : ℤ). natAbs k ≤ entryLimit) (sym (read-wide q factor)) factor;
   so-far = lineSet-none w₀ target (difference w₀ target source (read w64 q)) small;
 }
 
@@ -100,7 +100,7 @@ module _ {w₀ : List ℤ} {target source width : ℕ} {q : ℤ} {t : ℕ} {w : 
     same-length = h .same-length ∙ so-far .same-length;
     place = t + h .place;
     below = omega (arith, h .below);
-    beyond = subst (λ (z : ℤ). limit < natAbs z) (next-same (h .place) (h .below)) (h .beyond);
+    beyond = subst (λ (z : ℤ). entryLimit < natAbs z) (next-same (h .place) (h .below)) (h .beyond);
     small = h .small;
   }
 
@@ -112,6 +112,6 @@ module _ {w₀ : List ℤ} {target source width : ℕ} {q : ℤ} {t : ℕ} {w : 
 
 -- the factor is the number that the word holds
 pub factor-read :
-    (w₀ : List ℤ) (target source width : ℕ) (q : ℤ) → natAbs q ≤ limit → (r : Effect) (w : List ℤ) → Subtracted w₀ target source width (read w64 q) r w
+    (w₀ : List ℤ) (target source width : ℕ) (q : ℤ) → natAbs q ≤ entryLimit → (r : Effect) (w : List ℤ) → Subtracted w₀ target source width (read w64 q) r w
     → Subtracted w₀ target source width q r w
 factor-read w₀ target source width q small r w = subst (λ (k : ℤ). Subtracted w₀ target source width k r w) (read-wide q small)

@@ -7,7 +7,7 @@ use Prim.Native.Nat.{ℕ, _+_, _<_}
 use native.Mathlib.Omega.{arith}
 use lib.IntN.{ℤ, negℤ, natAbs, _-ℤ_, _*ℤ_}
 use Rattle.matrices.specs.Matrix as theory
-use Rattle.lines.specs.Slice.{limit, at, lineAt, Off, difference, LineSet, Beyond, Subtracted, Negated, LinesSwapped}
+use Rattle.lines.specs.Slice.{entryLimit, at, lineAt, Off, difference, LineSet, Beyond, Subtracted, Negated, LinesSwapped}
 use Rattle.lines.specs.Matrices.{contents, Holds, Exceeds, Became}
 use Rattle.lines.specs.declared.matrix.Matrix.{Matrix}
 use Rattle.lines.specs.declared.line.Effect.{Effect}
@@ -48,7 +48,7 @@ module _ {M : Matrix} {w w′ : List ℤ} {start i j n : ℕ} {line : ℕ → �
     place = j + h .place;
     line-below = s .line;
     place-below = omega (arith, s .within, h .below);
-    beyond = subst (λ (z : ℤ). limit < natAbs z) (sym (on (h .place) (h .below))) (h .beyond);
+    beyond = subst (λ (z : ℤ). entryLimit < natAbs z) (sym (on (h .place) (h .below))) (h .beyond);
     small = h .small;
   }
 

@@ -13,7 +13,7 @@ use Rattle.matrices.specs.Matrix as theory
 use Rattle.matrices.specs.Operation.{Operation, subtract, swap, negate, onRows, onColumns}
 use Rattle.matrices.specs.OperationLaws.{onRows-ext-at, onRows-subtract-at, onRows-subtract-other}
 use Rattle.matrices.specs.Within.{Within}
-use Rattle.lines.specs.Slice.{limit, at, lineAt}
+use Rattle.lines.specs.Slice.{entryLimit, at, lineAt}
 use Rattle.lines.specs.Slice as slice
 use Rattle.lines.specs.Matrices.{Held, contents, Off, Holds, Exceeds, Became, placesOf}
 use Rattle.lines.specs.Operations.{operationOf, Fits, AloneAt, Alone}
@@ -88,7 +88,7 @@ module _ (M : Matrix) (op : Operation) (f : Within (M .width) op) (w₀ w : List
       line-below = below;
       place-below = h .line-below;
       beyond =
-          subst (λ (z : ℤ). limit < natAbs z)
+          subst (λ (z : ℤ). entryLimit < natAbs z)
           (ap (λ (j : ℕ). changed (h .line) j) (omega (arith, h .place-below)) ∙ changed-at (h .line) (h .line-below) ∙ sym (on (h .line) (h .line-below)))
           (h .beyond);
       small = h .small;

@@ -8,7 +8,7 @@ use native.Mathlib.Decide.{ℕ-discrete}
 use lib.ListN.{length, set, length-set}
 use lib.Seq.{getD-set-same, getD-set-other}
 use lib.IntN.{ℤ, pos, natAbs}
-use Rattle.lines.specs.Slice.{limit, at, Small, Apart, LineSet, LinesSwapped}
+use Rattle.lines.specs.Slice.{entryLimit, at, Small, Apart, LineSet, LinesSwapped}
 
 -- ---- one store
 
@@ -19,12 +19,12 @@ module _ (w : List ℤ) (i : ℕ) (x : ℤ) (inside : i < length w) where
   pub at-set-other : (j : ℕ) → j ≢ i → at (set w i x) j ≡ at w j
   at-set-other j n = getD-set-other w i j x (pos 0) n
 
-  pub small-set : Small w → natAbs x ≤ limit → Small (set w i x)
+  pub small-set : Small w → natAbs x ≤ entryLimit → Small (set w i x)
   small-set s l = record { bound = λ j. pick j (ℕ-discrete j i) }
     where
-      pick : (j : ℕ) → Dec (j ≡ i) → natAbs (at (set w i x) j) ≤ limit
-      pick j (yes e) = subst (λ (k : ℕ). natAbs (at (set w i x) k) ≤ limit) (sym e) (subst (λ (z : ℤ). natAbs z ≤ limit) (sym at-set-same) l)
-      pick j (no n) = subst (λ (z : ℤ). natAbs z ≤ limit) (sym (at-set-other j n)) (s .bound j)
+      pick : (j : ℕ) → Dec (j ≡ i) → natAbs (at (set w i x) j) ≤ entryLimit
+      pick j (yes e) = subst (λ (k : ℕ). natAbs (at (set w i x) k) ≤ entryLimit) (sym e) (subst (λ (z : ℤ). natAbs z ≤ entryLimit) (sym at-set-same) l)
+      pick j (no n) = subst (λ (z : ℤ). natAbs z ≤ entryLimit) (sym (at-set-other j n)) (s .bound j)
 
 -- ---- a line that is set place by place
 
@@ -43,7 +43,7 @@ module _ (w w′ : List ℤ) (target t : ℕ) (line : ℕ → ℤ) (inside : tar
   pub lineSet-next : at w′ (target + t) ≡ at w (target + t)
   lineSet-next = set-so-far .off (target + t) (inr (omega arith))
 
-  pub lineSet-more : natAbs (line t) ≤ limit → LineSet w target (t + 1) line (set w′ (target + t) (line t))
+  pub lineSet-more : natAbs (line t) ≤ entryLimit → LineSet w target (t + 1) line (set w′ (target + t) (line t))
   lineSet-more l = record {
     same-length = simp length-set (set-so-far .same-length);
     on = λ s h. pick-on s h (ℕ-discrete s t);

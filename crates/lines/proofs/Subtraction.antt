@@ -7,7 +7,7 @@ use lib.ListN.{length}
 use lib.IntN.{ℤ, natAbs}
 use mir.Syntax.{w64}
 use Rattle.matrices.specs.Operation.{subtract, onRows}
-use Rattle.lines.specs.Slice.{limit, lineAt, Small, Apart, Subtracted}
+use Rattle.lines.specs.Slice.{entryLimit, lineAt, Small, Apart, Subtracted}
 use Rattle.lines.specs.Matrices.{Held, contents, Became}
 use Rattle.lines.specs.Operations.{operationOf, Fits}
 use Rattle.lines.specs.declared.matrix.Matrix.{Matrix}
@@ -41,12 +41,12 @@ module _ {op : Operation} {i k : ℕ} {q : ℤ} (e : op ≡ Subtract i k q) (M :
 
     pub subtraction-asks :
         {w : List ℤ} → Held (length w) M → Small w
-        → ((a + M .width ≤ length w) × (b + M .width ≤ length w)) × (Apart a b (M .width) × (Small w × (natAbs (read w64 q) ≤ limit)))
+        → ((a + M .width ≤ length w) × (b + M .width ≤ length w)) × (Apart a b (M .width) × (Small w × (natAbs (read w64 q) ≤ entryLimit)))
     subtraction-asks held small = (
       (span-inside target held, span-inside source held),
       (
         spans-apart target source (inl (subtract-fits .within .distinct)),
-        (small, subst (λ (x : ℤ). natAbs x ≤ limit) (sym factor-is) (subtract-fits .factor)),
+        (small, subst (λ (x : ℤ). natAbs x ≤ entryLimit) (sym factor-is) (subtract-fits .factor)),
       ),
     )
 

@@ -7,7 +7,7 @@ use lib.ListN.{length}
 use lib.IntN.{ℤ, natAbs}
 use Rattle.matrices.specs.Matrix.{Eq}
 use Rattle.matrices.specs.Matrix as theory
-use Rattle.lines.specs.Slice.{limit, at, lineAt, Small}
+use Rattle.lines.specs.Slice.{entryLimit, at, lineAt, Small}
 use Rattle.lines.specs.declared.matrix.Matrix.{Matrix}
 use Rattle.lines.specs.declared.line.Effect.{Effect}
 use Rattle.lines.specs.declared.line.Effect.the-variants.{Done, TooWide}
@@ -42,7 +42,7 @@ pub record Exceeds (M : Matrix) (w : List ℤ) (A : theory.Matrix) (w′ : List 
   pub place : ℕ
   pub line-below : line < M .lines
   pub place-below : place < M .width
-  pub beyond : limit < natAbs (A line place)
+  pub beyond : entryLimit < natAbs (A line place)
   pub small : Small w′
 
 -- what an operation that makes A of the matrix answers and leaves

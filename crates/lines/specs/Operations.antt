@@ -6,7 +6,7 @@ use Prim.Native.Nat.{ℕ, _<_, _≤_}
 use lib.IntN.{ℤ, pos, natAbs}
 use Rattle.matrices.specs.Operation as theory
 use Rattle.matrices.specs.Within.{Within}
-use Rattle.lines.specs.Slice.{limit}
+use Rattle.lines.specs.Slice.{entryLimit}
 use Rattle.lines.specs.Matrices.{contents}
 use Rattle.lines.specs.declared.matrix.Matrix.{Matrix}
 use Rattle.lines.specs.declared.operation.Operation.{Operation}
@@ -20,7 +20,7 @@ operationOf (Negate k) = theory.negate k
 
 -- the factor of a subtraction lies within the limit
 abbrev pub FactorWithin : theory.Operation → Type 0
-FactorWithin (theory.subtract i k q) = natAbs q ≤ limit
+FactorWithin (theory.subtract i k q) = natAbs q ≤ entryLimit
 FactorWithin (theory.swap i k) = Unit {0}
 FactorWithin (theory.negate k) = Unit {0}
 

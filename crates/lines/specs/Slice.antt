@@ -1,4 +1,4 @@
--- Lines of a slice, and what an operation on them leaves. A slice is the list of its entries; here `limit` is the limit of an entry.
+-- Lines of a slice, and what an operation on them leaves. A slice is the list of its entries.
 use mathlib.Core.Path.{_≡_}
 use mathlib.Core.Logic.{_⊎_, _≢_}
 use mathlib.Core.Bool.{Bool, true}
@@ -6,7 +6,7 @@ use mathlib.Core.List.{List}
 use Prim.Native.Nat.{ℕ, _+_, _*_, _<_, _≤_}
 use lib.ListN.{length, getD}
 use lib.IntN.{ℤ, pos, negℤ, natAbs, _-ℤ_, _*ℤ_}
-pub use Rattle.limits.specs.Limits.{entryLimit as limit}
+pub use Rattle.limits.specs.Limits.{entryLimit}
 use Rattle.lines.specs.declared.line.Effect.{Effect}
 use Rattle.lines.specs.declared.line.Effect.the-variants.{Done, TooWide}
 
@@ -20,7 +20,7 @@ lineAt start width i = start + i * width
 
 -- every entry lies within the limit
 pub record Small (w : List ℤ) : Type 0 where
-  pub bound : (i : ℕ) → natAbs (at w i) ≤ limit
+  pub bound : (i : ℕ) → natAbs (at w i) ≤ entryLimit
 
 -- two lines share no place
 abbrev pub Apart : ℕ → ℕ → ℕ → Type 0
@@ -61,7 +61,7 @@ pub record Beyond (w : List ℤ) (width : ℕ) (line : ℕ → ℤ) (w′ : List
   pub same-length : length w′ ≡ length w
   pub place : ℕ
   pub below : place < width
-  pub beyond : limit < natAbs (line place)
+  pub beyond : entryLimit < natAbs (line place)
   pub small : Small w′
 
 -- the line at `target` less q times the line at `source`

@@ -5,7 +5,7 @@ ghost use mathlib.Core.Logic.{_⊎_};
 ghost use Prim.Native.Nat.{_+_, _≤_};
 ghost use lib.ListN.{length, replicate};
 ghost use lib.IntN.{pos, natAbs};
-ghost use Rattle.lines.specs.Slice.{limit, block, Small, Apart, Subtracted, Swapped, Negated};
+ghost use Rattle.lines.specs.Slice.{entryLimit, block, Small, Apart, Subtracted, Swapped, Negated};
 use crate::matrix::Matrix;
 use crate::zero::BLOCK;
 use crate::zero::is_zero_block;
@@ -24,7 +24,7 @@ pub fn subtract_places(w: &mut [i32], target: usize, source: usize, width: usize
     requires { ⌜ (target + width ≤ length (now w)) × (source + width ≤ length (now w)) ⌝ }
     requires { ⌜ Apart target source width ⌝ }
     requires { ⌜ Small (now w) ⌝ }
-    requires { ⌜ natAbs q ≤ limit ⌝ }
+    requires { ⌜ natAbs q ≤ entryLimit ⌝ }
     ensures { λ r. ⌜ Subtracted (now (w .entry)) target source width q r (now (w .exit)) ⌝ }
 {
     let mut t: usize = 0;
@@ -49,7 +49,7 @@ fn subtract_block(w: &mut [i32], target: usize, source: usize, q: i64) -> Effect
     requires { ⌜ (target + block ≤ length (now w)) × (source + block ≤ length (now w)) ⌝ }
     requires { ⌜ Apart target source block ⌝ }
     requires { ⌜ Small (now w) ⌝ }
-    requires { ⌜ natAbs q ≤ limit ⌝ }
+    requires { ⌜ natAbs q ≤ entryLimit ⌝ }
     ensures { λ r. ⌜ Subtracted (now (w .entry)) target source block q r (now (w .exit)) ⌝ }
 {
     if is_zero_block(w, source) {
@@ -63,7 +63,7 @@ pub fn subtract(w: &mut [i32], target: usize, source: usize, width: usize, q: i6
     requires { ⌜ (target + width ≤ length (now w)) × (source + width ≤ length (now w)) ⌝ }
     requires { ⌜ Apart target source width ⌝ }
     requires { ⌜ Small (now w) ⌝ }
-    requires { ⌜ natAbs q ≤ limit ⌝ }
+    requires { ⌜ natAbs q ≤ entryLimit ⌝ }
     ensures { λ r. ⌜ Subtracted (now (w .entry)) target source width q r (now (w .exit)) ⌝ }
 {
     let mut t: usize = 0;

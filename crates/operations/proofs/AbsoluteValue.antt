@@ -7,11 +7,11 @@ use borrow.Author.Tests.{ltb-true}
 use lib.IntN.{ℤ, pos, negsuc, negℤ, natAbs, _-ℤ_}
 use lib.Signed.{ltZ}
 use mir.Syntax.{w64}
-use Rattle.lines.specs.Slice.{limit}
+use Rattle.lines.specs.Slice.{entryLimit}
 use Rattle.words.specs.Read.{read, read-wide}
 use Rattle.words.specs.Negate.{negated-read}
 
-module _ (q : ℤ) (small : natAbs q ≤ limit) where
+module _ (q : ℤ) (small : natAbs q ≤ entryLimit) where
   pub absolute-below : ltZ (read w64 q) (pos 0) ≡ true → read w64 (pos 0 -ℤ read w64 q) ≡ pos (natAbs q)
   absolute-below e = negated-read q small ∙ below q (rw (read-wide q small) at e)
     where

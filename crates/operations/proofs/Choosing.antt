@@ -14,7 +14,7 @@ use mir.Syntax.{w64}
 use mir.Val.{SFits, ofZ}
 use Rattle.matrices.specs.Matrix.{Matrix}
 use Rattle.reduction_steps.specs.Pivot.{Choice, none, place, better}
-use Rattle.lines.specs.Slice.{limit, lineAt, Small}
+use Rattle.lines.specs.Slice.{entryLimit, lineAt, Small}
 use Rattle.lines.specs.Matrices.{contents}
 use Rattle.lines.specs.declared.matrix.Matrix as lines
 use Rattle.words.specs.Read.{read, read-wide, wide-fits, of-bits}
@@ -101,23 +101,23 @@ module _ (m : lines.Matrix) (w : List ℤ) (small : Small w) {b : Best} (h : IsB
       pick (pos (suc n)) s = refl
       pick (negsuc n) s = s ∙ ap pos (sym (ap natAbs s))
 
-  size-small : natAbs (b .size) ≤ limit
+  size-small : natAbs (b .size) ≤ entryLimit
   size-small = pick (b .size) (h .sized)
     where
-      entry-small : natAbs (contents m w (b .row) (b .column)) ≤ limit
+      entry-small : natAbs (contents m w (b .row) (b .column)) ≤ entryLimit
       entry-small = small .bound (lineAt (m .at) (m .width) (b .row) + b .column)
 
-      pick : (z : ℤ) → SizeOf (contents m w) (choiceAt z (b .row) (b .column)) z → natAbs z ≤ limit
+      pick : (z : ℤ) → SizeOf (contents m w) (choiceAt z (b .row) (b .column)) z → natAbs z ≤ entryLimit
       pick (pos zero) s = zero-le
-      pick (pos (suc n)) s = subst (λ (z : ℤ). natAbs z ≤ limit) (sym s) entry-small
-      pick (negsuc n) s = subst (λ (z : ℤ). natAbs z ≤ limit) (sym s) entry-small
+      pick (pos (suc n)) s = subst (λ (z : ℤ). natAbs z ≤ entryLimit) (sym s) entry-small
+      pick (negsuc n) s = subst (λ (z : ℤ). natAbs z ≤ entryLimit) (sym s) entry-small
 
   pub size-fits : SFits w64 (b .size)
   size-fits = wide-fits (b .size) size-small
 
   module _ (i j : ℕ) (r : ℤ) (is : r ≡ pos (natAbs (contents m w i j))) where
     r-read : read w64 r ≡ r
-    r-read = read-wide r (subst (λ (z : ℤ). natAbs z ≤ limit) (sym is) (small .bound (lineAt (m .at) (m .width) i + j)))
+    r-read = read-wide r (subst (λ (z : ℤ). natAbs z ≤ entryLimit) (sym is) (small .bound (lineAt (m .at) (m .width) i + j)))
 
     -- the test of the two sizes
     compared : leZ (read w64 (b .size)) (read w64 r) ≡ leb (natAbs (b .size)) (natAbs (contents m w i j))

@@ -15,7 +15,7 @@ use Rattle.matrices.specs.Within.{Within, Within-inverse}
 use Rattle.reduction_steps.specs.Table.{Table, entry, table, tableWithin}
 use Rattle.reduction_steps.specs.State.{State, made, tooWide, follow, within, checked}
 use Rattle.reduction_laws.specs.Tables.{entry-table, table-ext, Eq-table, tableWithin-table, tableWithin-false}
-use Rattle.lines.specs.Slice.{limit, at, lineAt, Small}
+use Rattle.lines.specs.Slice.{entryLimit, at, lineAt, Small}
 use Rattle.lines.specs.Matrices.{Held, contents, Exceeds, Became}
 use Rattle.lines.specs.Operations.{Fits}
 use Rattle.lines.specs.declared.matrix.Matrix.{Matrix}
@@ -29,26 +29,26 @@ use Rattle.operations.proofs.Side.{Side, rows, columns, across, count, 
 
 -- ---- the check of the limit
 
-pub checked-made : (s : State) → within limit s ≡ true → checked limit s ≡ made s
+pub checked-made : (s : State) → within entryLimit s ≡ true → checked entryLimit s ≡ made s
 unfolding checked
 checked-made s e = rw e
 
-pub checked-wide : (s : State) → within limit s ≡ false → checked limit s ≡ tooWide
+pub checked-wide : (s : State) → within entryLimit s ≡ false → checked entryLimit s ≡ tooWide
 unfolding checked
 checked-wide s e = rw e
 
-lines-within : (M : Matrix) {w : List ℤ} → Small w → tableWithin limit (linesOf M w) ≡ true
+lines-within : (M : Matrix) {w : List ℤ} → Small w → tableWithin entryLimit (linesOf M w) ≡ true
 unfolding linesOf
-lines-within M {w} h = tableWithin-table limit (M .lines) (M .width) (contents M w) .1 (λ i j a b. h .bound (lineAt (M .at) (M .width) i + j))
+lines-within M {w} h = tableWithin-table entryLimit (M .lines) (M .width) (contents M w) .1 (λ i j a b. h .bound (lineAt (M .at) (M .width) i + j))
 
-pub within-small : (W : Layout) {w : List ℤ} → Small w → within limit (stateOf W w) ≡ true
+pub within-small : (W : Layout) {w : List ℤ} → Small w → within entryLimit (stateOf W w) ≡ true
 unfolding within stateOf
 within-small W h =
     rw (lines-within (W .matrix) h, lines-within (W .«row_follower») h, lines-within (W .«row_inverse») h, lines-within (W .«column_follower») h, lines-within (W .«column_inverse») h)
 
-exceeds-within : {M : Matrix} {w w′ : List ℤ} {A : theory.Matrix} → Exceeds M w A w′ → tableWithin limit (shaped M A) ≡ false
+exceeds-within : {M : Matrix} {w w′ : List ℤ} {A : theory.Matrix} → Exceeds M w A w′ → tableWithin entryLimit (shaped M A) ≡ false
 exceeds-within {M} {A} h =
-    tableWithin-false limit (shaped M A) (h .line) (h .place)
+    tableWithin-false entryLimit (shaped M A) (h .line) (h .place)
     (rw (entry-table (M .lines) (M .width) A (h .line) (h .place) (h .line-below) (h .place-below)) (h .beyond))
 
 and-left : (p q : Bool) → p ≡ false → p && q ≡ false
@@ -127,7 +127,7 @@ module _ (x : Side) (op : Operation) (W : Layout) (w : List ℤ) (l : Laid (leng
   apart = separate l x
 
   -- where the slices w₁ and w₂ still have the side's companions as w has
-  outcome-is : {w₁ w₂ : List ℤ} → Kept (follower x W) w w₁ → Kept (undone x W) w w₂ → outcomeOn x W op (stateOf W w) ≡ checked limit (newState x op W w w₁ w₂)
+  outcome-is : {w₁ w₂ : List ℤ} → Kept (follower x W) w w₁ → Kept (undone x W) w w₂ → outcomeOn x W op (stateOf W w) ≡ checked entryLimit (newState x op W w w₁ w₂)
   outcome-is h k =
       outcome-put x W op w
       ∙ cc (
@@ -138,7 +138,7 @@ module _ (x : Side) (op : Operation) (W : Layout) (w : List ℤ) (l : Laid (leng
 
   goes-wide :
       {w₁ w₂ : List ℤ} → Kept (follower x W) w w₁ → Kept (undone x W) w w₂
-      → tableWithin limit (newMatrix x op W w) && (tableWithin limit (newFollower x op W w₁) && tableWithin limit (newUndone x op W w₂)) ≡ false
+      → tableWithin entryLimit (newMatrix x op W w) && (tableWithin entryLimit (newFollower x op W w₁) && tableWithin entryLimit (newUndone x op W w₂)) ≡ false
       → tooWide ≡ outcomeOn x W op (stateOf W w)
   goes-wide {w₁} {w₂} h k e =
       sym
@@ -150,7 +150,7 @@ module _ (x : Side) (op : Operation) (W : Layout) (w : List ℤ) (l : Laid (leng
   wide-first h = record {
     outcome =
         goes-wide (kept-refl (follower x W) w) (kept-refl (undone x W) w)
-        (and-left (tableWithin limit (newMatrix x op W w)) (tableWithin limit (newFollower x op W w) && tableWithin limit (newUndone x op W w)) (exceeds-within h));
+        (and-left (tableWithin entryLimit (newMatrix x op W w)) (tableWithin entryLimit (newFollower x op W w) && tableWithin entryLimit (newUndone x op W w)) (exceeds-within h));
     small = h .small;
   }
 
@@ -160,8 +160,8 @@ module _ (x : Side) (op : Operation) (W : Layout) (w : List ℤ) (l : Laid (leng
   wide-second {w₁} h k = record {
     outcome =
         goes-wide (contents-off (apart .ab) h) (kept-refl (undone x W) w)
-        (and-right (tableWithin limit (newMatrix x op W w)) (tableWithin limit (newFollower x op W w₁) && tableWithin limit (newUndone x op W w))
-        (and-left (tableWithin limit (newFollower x op W w₁)) (tableWithin limit (newUndone x op W w)) (exceeds-within k)));
+        (and-right (tableWithin entryLimit (newMatrix x op W w)) (tableWithin entryLimit (newFollower x op W w₁) && tableWithin entryLimit (newUndone x op W w))
+        (and-left (tableWithin entryLimit (newFollower x op W w₁)) (tableWithin entryLimit (newUndone x op W w)) (exceeds-within k)));
     small = k .small;
   }
 
@@ -171,15 +171,15 @@ module _ (x : Side) (op : Operation) (W : Layout) (w : List ℤ) (l : Laid (leng
   ends {w₁} {w₂} {w₃} h k TooWide g = record {
     outcome =
         goes-wide (contents-off (apart .ab) h) (kept-trans (contents-off (apart .ac) h) (contents-off (apart .bc) k))
-        (and-right (tableWithin limit (newMatrix x op W w)) (tableWithin limit (newFollower x op W w₁) && tableWithin limit (newUndone x op W w₂))
-        (and-right (tableWithin limit (newFollower x op W w₁)) (tableWithin limit (newUndone x op W w₂)) (exceeds-within g)));
+        (and-right (tableWithin entryLimit (newMatrix x op W w)) (tableWithin entryLimit (newFollower x op W w₁) && tableWithin entryLimit (newUndone x op W w₂))
+        (and-right (tableWithin entryLimit (newFollower x op W w₁)) (tableWithin entryLimit (newUndone x op W w₂)) (exceeds-within g)));
     small = g .small;
   }
   ends {w₁} {w₂} {w₃} h k (Done d) g = record {
     outcome =
         sym
         (outcome-is (contents-off (apart .ab) h) (kept-trans (contents-off (apart .ac) h) (contents-off (apart .bc) k))
-        ∙ ap (checked limit) (sym state-is)
+        ∙ ap (checked entryLimit) (sym state-is)
         ∙ checked-made (stateOf W w₃) (within-small W (g .small)));
     small = g .small;
   }

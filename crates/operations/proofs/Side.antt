@@ -10,7 +10,7 @@ use Rattle.matrices.specs.Matrix as theory
 use Rattle.matrices.specs.Operation.{Operation, onRows, onColumns, inverse}
 use Rattle.reduction_steps.specs.Table.{Table, entry, table, tableWithin}
 use Rattle.reduction_steps.specs.State.{State, Outcome, follow, rowOperation, columnOperation, within, checked, onRow, onColumn}
-use Rattle.lines.specs.Slice.{limit}
+use Rattle.lines.specs.Slice.{entryLimit}
 use Rattle.lines.specs.Matrices.{end, Held}
 use Rattle.lines.specs.Operations.{Fits}
 use Rattle.lines.specs.declared.matrix.Matrix.{Matrix}
@@ -47,8 +47,8 @@ onSide columns op A = onColumns op A
 
 -- its outcome
 abbrev pub outcomeOn : Side → Layout → Operation → State → Outcome
-outcomeOn rows W op s = onRow limit (sizesOf W) op s
-outcomeOn columns W op s = onColumn limit (sizesOf W) op s
+outcomeOn rows W op s = onRow entryLimit (sizesOf W) op s
+outcomeOn columns W op s = onColumn entryLimit (sizesOf W) op s
 
 -- the state with the matrix, the side's follower and inverse companion, and those of the other side
 abbrev pub put : Side → Table → Table → Table → Table → Table → State
@@ -65,7 +65,7 @@ state-put columns W w = refl
 pub outcome-put :
     (x : Side) (W : Layout) (op : Operation) (w : List ℤ)
     → outcomeOn x W op (stateOf W w)
-    ≡ checked limit (put x
+    ≡ checked entryLimit (put x
     (table (W .matrix .lines) (W .matrix .width) (onSide x op (entry (linesOf (W .matrix) w))))
     (follow (count x W) (follower x W .width) op (linesOf (follower x W) w))
     (follow (count x W) (undone x W .width) (inverse op) (linesOf (undone x W) w))
@@ -77,17 +77,17 @@ outcome-put columns W op w = refl
 
 -- one table beyond the limit is enough
 pub within-put :
-    (x : Side) (a b c d e : Table) → tableWithin limit a && (tableWithin limit b && tableWithin limit c) ≡ false
-    → within limit (put x a b c d e) ≡ false
+    (x : Side) (a b c d e : Table) → tableWithin entryLimit a && (tableWithin entryLimit b && tableWithin entryLimit c) ≡ false
+    → within entryLimit (put x a b c d e) ≡ false
 unfolding within
-within-put rows a b c d e h = go (tableWithin limit a) (tableWithin limit b) (tableWithin limit c) (tableWithin limit d && tableWithin limit e) h
+within-put rows a b c d e h = go (tableWithin entryLimit a) (tableWithin entryLimit b) (tableWithin entryLimit c) (tableWithin entryLimit d && tableWithin entryLimit e) h
   where
     go : (p q r t : Bool) → p && (q && r) ≡ false → p && (q && (r && t)) ≡ false
     go false q r t h = refl
     go true false r t h = refl
     go true true false t h = refl
     go true true true t h = absurd (false≢true (sym h))
-within-put columns a b c d e h = go (tableWithin limit a) (tableWithin limit d) (tableWithin limit e) (tableWithin limit b) (tableWithin limit c) h
+within-put columns a b c d e h = go (tableWithin entryLimit a) (tableWithin entryLimit d) (tableWithin entryLimit e) (tableWithin entryLimit b) (tableWithin entryLimit c) h
   where
     go : (p t u q r : Bool) → p && (q && r) ≡ false → p && (t && (u && (q && r))) ≡ false
     go false t u q r h = refl

@@ -12,7 +12,7 @@ use Rattle.matrices.specs.Operation.{Operation, subtract, swap, negate, onRows,
 use Rattle.matrices.specs.OperationLaws.{onRows-subtract-at, onRows-subtract-other, onRows-swap-first, onRows-swap-other}
 use lib.ListN.{length}
 use Rattle.reduction_steps.specs.State.{made, onRow, onColumn}
-use Rattle.lines.specs.Slice.{limit, Small}
+use Rattle.lines.specs.Slice.{entryLimit, Small}
 use Rattle.lines.specs.Matrices.{contents, Holds}
 use Rattle.lines.specs.Operations.{Fits}
 use Rattle.lines.specs.declared.matrix.Matrix.{Matrix}
@@ -69,10 +69,10 @@ unchanged t s e a =
 -- ---- what the passes need: no operation is called where it would change nothing
 
 module _ (W : Layout) (w : List ℤ) (laid : Laid (length w) W) (small : Small w) (op : Operation) (identity : Identity op) where
-  pub rows-unchanged : Fits (W .matrix .lines) op → onRow limit (sizesOf W) op (stateOf W w) ≡ made (stateOf W w)
+  pub rows-unchanged : Fits (W .matrix .lines) op → onRow entryLimit (sizesOf W) op (stateOf W w) ≡ made (stateOf W w)
   rows-unchanged fits = sym (unchanged (record { side = rows; operation = op; layout = W; slice = w; laid = laid; fits = fits }) small identity (record {}) .outcome)
 
-  pub columns-unchanged : Fits (W .matrix .width) op → onColumn limit (sizesOf W) op (stateOf W w) ≡ made (stateOf W w)
+  pub columns-unchanged : Fits (W .matrix .width) op → onColumn entryLimit (sizesOf W) op (stateOf W w) ≡ made (stateOf W w)
   columns-unchanged fits = sym (unchanged (record { side = columns; operation = op; layout = W; slice = w; laid = laid; fits = fits }) small identity (record {}) .outcome)
 
 -- an exchange of two of n lines

@@ -4,7 +4,7 @@ ghost use Prim.Native.Nat.{_+_, _*_, _<_, _≤_, max};
 ghost use lib.ListN.{length};
 ghost use Rattle.matrices.specs.Operation.{swap, inverse as undoing};
 ghost use Rattle.reduction_steps.specs.State.{onRow, onColumn};
-ghost use Rattle.lines.specs.Slice.{limit, Small};
+ghost use Rattle.lines.specs.Slice.{entryLimit, Small};
 ghost use Rattle.lines.specs.Operations.{operationOf, Fits, Alone};
 ghost use Rattle.lines.specs.Matrices.{Held};
 ghost use Rattle.operations.specs.Laid.{Laid, sizesOf, stateOf, Operated, Followed};
@@ -132,7 +132,7 @@ impl Layout {
         requires { ⌜ Laid (length (now w)) self ⌝ }
         requires { ⌜ Small (now w) ⌝ }
         requires { ⌜ Fits (self .matrix .lines) (operationOf op) ⌝ }
-        ensures { λ r. ⌜ Operated self (onRow limit (sizesOf self) (operationOf op) (stateOf self (now (w .entry)))) r (now (w .exit)) ⌝ }
+        ensures { λ r. ⌜ Operated self (onRow entryLimit (sizesOf self) (operationOf op) (stateOf self (now (w .entry)))) r (now (w .exit)) ⌝ }
     {
         let Effect::Done(_) = self.matrix.on_lines(w, op) else {
             return Effect::TooWide;
@@ -145,7 +145,7 @@ impl Layout {
         requires { ⌜ Laid (length (now w)) self ⌝ }
         requires { ⌜ Small (now w) ⌝ }
         requires { ⌜ Fits (self .matrix .width) (operationOf op) × Alone (self .matrix) (now w) (operationOf op) ⌝ }
-        ensures { λ r. ⌜ Operated self (onColumn limit (sizesOf self) (operationOf op) (stateOf self (now (w .entry)))) r (now (w .exit)) ⌝ }
+        ensures { λ r. ⌜ Operated self (onColumn entryLimit (sizesOf self) (operationOf op) (stateOf self (now (w .entry)))) r (now (w .exit)) ⌝ }
     {
         let Effect::Done(_) = self.matrix.on_places(w, op) else {
             return Effect::TooWide;
@@ -158,7 +158,7 @@ impl Layout {
         requires { ⌜ Laid (length (now w)) self ⌝ }
         requires { ⌜ Small (now w) ⌝ }
         requires { ⌜ (i < self .matrix .lines) × (k < self .matrix .lines) ⌝ }
-        ensures { λ r. ⌜ Operated self (onRow limit (sizesOf self) (swap i k) (stateOf self (now (w .entry)))) r (now (w .exit)) ⌝ }
+        ensures { λ r. ⌜ Operated self (onRow entryLimit (sizesOf self) (swap i k) (stateOf self (now (w .entry)))) r (now (w .exit)) ⌝ }
     {
         if i == k {
             return Effect::Done(Written {});
@@ -171,7 +171,7 @@ impl Layout {
         requires { ⌜ Laid (length (now w)) self ⌝ }
         requires { ⌜ Small (now w) ⌝ }
         requires { ⌜ (j < self .matrix .width) × (k < self .matrix .width) ⌝ }
-        ensures { λ r. ⌜ Operated self (onColumn limit (sizesOf self) (swap j k) (stateOf self (now (w .entry)))) r (now (w .exit)) ⌝ }
+        ensures { λ r. ⌜ Operated self (onColumn entryLimit (sizesOf self) (swap j k) (stateOf self (now (w .entry)))) r (now (w .exit)) ⌝ }
     {
         if j == k {
             return Effect::Done(Written {});

@@ -5,7 +5,7 @@ ghost use Prim.Native.Nat.{_+_, _-_, _<_, _≤_};
 ghost use lib.ListN.{length};
 ghost use Rattle.reduction_steps.specs.Pivot as steps;
 ghost use lib.IntN.{pos, natAbs};
-ghost use Rattle.lines.specs.Slice.{limit, Small};
+ghost use Rattle.lines.specs.Slice.{entryLimit, Small};
 ghost use Rattle.lines.specs.Matrices.{Held, contents};
 ghost use Rattle.operations.specs.Scan.{noBest, IsBest, choiceOf, pivotChoice};
 use lines::matrix::Matrix;
@@ -38,7 +38,7 @@ pub enum Pivot {
 
 // The absolute value of an entry.
 fn absolute(x: i64) -> i64
-    requires { ⌜ natAbs x ≤ limit ⌝ }
+    requires { ⌜ natAbs x ≤ entryLimit ⌝ }
     ensures { λ r. ⌜ r ≡ pos (natAbs x) ⌝ }
 {
     if x < 0 { -x } else { x }

@@ -4,12 +4,12 @@ ghost use Prim.Native.Nat.{_≤_};
 ghost use lib.IntN.{pos, natAbs};
 ghost use lib.Signed.{_<ℤ_};
 ghost use Rattle.integers.specs.Division.{floor};
-ghost use Rattle.lines.specs.Slice.{limit};
+ghost use Rattle.lines.specs.Slice.{entryLimit};
 
 // x divided by the positive d, rounded towards minus infinity.
 pub fn quotient(x: i64, d: i64) -> i64
-    requires { ⌜ (pos 0 <ℤ d) × (natAbs x ≤ limit) × (natAbs d ≤ limit) ⌝ }
-    ensures { λ r. ⌜ (r ≡ floor x d) × (natAbs r ≤ limit) ⌝ }
+    requires { ⌜ (pos 0 <ℤ d) × (natAbs x ≤ entryLimit) × (natAbs d ≤ entryLimit) ⌝ }
+    ensures { λ r. ⌜ (r ≡ floor x d) × (natAbs r ≤ entryLimit) ⌝ }
 {
     if x == 0 {
         return 0;

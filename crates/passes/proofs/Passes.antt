@@ -20,7 +20,7 @@ use Rattle.reduction_steps.specs.State.{Sizes, State, Outcome, tooWide, made, a
 use Rattle.reduction_steps.specs.Step.{quotient, rowPass, columnPass}
 use Rattle.reduction_laws.specs.Letters.{ReadyC}
 use Rattle.reduction_laws.specs.Led.{Led, led-row, led-column}
-use Rattle.lines.specs.Slice.{limit, at, lineAt, Small, FirstNonzero}
+use Rattle.lines.specs.Slice.{entryLimit, at, lineAt, Small, FirstNonzero}
 use Rattle.lines.specs.Matrices.{contents}
 use Rattle.operations.specs.Laid.{Laid, sizesOf, stateOf}
 use Rattle.operations.specs.declared.layout.Layout.{Layout}
@@ -53,7 +53,7 @@ module _ (limit : ℕ) (z : Sizes) (k more i : ℕ) (s : State) where
 -- the quotient of the pass, read from the slice
 quotient-state :
     (W : Layout) (w : List ℤ) (k i j : ℕ) → i < W .matrix .lines → j < W .matrix .width → k < W .matrix .lines → k < W .matrix .width
-    → floor (contents (W .matrix) w i j) (contents (W .matrix) w k k) ≡ quotient limit (sizesOf W) k (stateOf W w) i j
+    → floor (contents (W .matrix) w i j) (contents (W .matrix) w k k) ≡ quotient entryLimit (sizesOf W) k (stateOf W w) i j
 unfolding quotient
 quotient-state W w k i j a b c d = cc (entry-state W w i j a b, entry-state W w k k c d)
 
@@ -69,7 +69,7 @@ pub record RowPassing (W : Layout) (k : ℕ) (w₀ : List ℤ) (i : ℕ) (w : Li
   pub from : k < i
   pub placed : Placed W k w
   pub rest :
-      rowPass limit (sizesOf W) k (W .matrix .lines - i) i (stateOf W w)
+      rowPass entryLimit (sizesOf W) k (W .matrix .lines - i) i (stateOf W w)
       ≡ rowPassOf W k w₀
 
 pub rows-start : {W : Layout} {k : ℕ} {w : List ℤ} → Placed W k w → RowPassing W k w (k + 1) w
@@ -84,17 +84,17 @@ module _ {W : Layout} {k : ℕ} {w₀ : List ℤ} {i : ℕ} {w : List ℤ} (h : 
   -- the operation of the pass is the one that the code makes
   row-operation :
       {q : ℤ} → q ≡ floor (contents (W .matrix) w i k) (contents (W .matrix) w k k)
-      → onRow limit (sizesOf W) (subtract i k (quotient limit (sizesOf W) k (stateOf W w) i k)) (stateOf W w) ≡ onRow limit (sizesOf W) (subtract i k q) (stateOf W w)
+      → onRow entryLimit (sizesOf W) (subtract i k (quotient entryLimit (sizesOf W) k (stateOf W w) i k)) (stateOf W w) ≡ onRow entryLimit (sizesOf W) (subtract i k q) (stateOf W w)
   row-operation e =
-      ap (λ (x : ℤ). onRow limit (sizesOf W) (subtract i k x) (stateOf W w))
+      ap (λ (x : ℤ). onRow entryLimit (sizesOf W) (subtract i k x) (stateOf W w))
       (sym (e ∙ quotient-state W w k i k below (h .placed .ready .column) (h .placed .ready .row) (h .placed .ready .column)))
 
-  row-rest : rowPass limit (sizesOf W) k (suc (W .matrix .lines - suc i)) i (stateOf W w) ≡ rowPassOf W k w₀
-  row-rest = subst (λ (n : ℕ). rowPass limit (sizesOf W) k n i (stateOf W w) ≡ rowPassOf W k w₀) (omega arith) (h .rest)
+  row-rest : rowPass entryLimit (sizesOf W) k (suc (W .matrix .lines - suc i)) i (stateOf W w) ≡ rowPassOf W k w₀
+  row-rest = subst (λ (n : ℕ). rowPass entryLimit (sizesOf W) k n i (stateOf W w) ≡ rowPassOf W k w₀) (omega arith) (h .rest)
 
   pub rows-next :
       {q : ℤ} {w′ : List ℤ} → q ≡ floor (contents (W .matrix) w i k) (contents (W .matrix) w k k) → length w′ ≡ length w → Small w′
-      → onRow limit (sizesOf W) (subtract i k q) (stateOf W w) ≡ made (stateOf W w′) → RowPassing W k w₀ (i + 1) w′
+      → onRow entryLimit (sizesOf W) (subtract i k q) (stateOf W w) ≡ made (stateOf W w′) → RowPassing W k w₀ (i + 1) w′
   rows-next {q} {w′} e l s o = record {
     same-length = l ∙ h .same-length;
     from = omega (arith, h .from);
@@ -110,34 +110,34 @@ module _ {W : Layout} {k : ℕ} {w₀ : List ℤ} {i : ℕ} {w : List ℤ} (h : 
       rows-done = rowsDone-moves (led .moves) (h .placed .ready .shaped) (h .placed .rows-done);
     };
     rest =
-        ap (λ (n : ℕ). rowPass limit (sizesOf W) k (W .matrix .lines - n) n (stateOf W w′)) (add-one i)
-        ∙ sym (rowPass-made limit (sizesOf W) k (W .matrix .lines - suc i) i (stateOf W w) (stateOf W w′) (row-operation e ∙ o))
+        ap (λ (n : ℕ). rowPass entryLimit (sizesOf W) k (W .matrix .lines - n) n (stateOf W w′)) (add-one i)
+        ∙ sym (rowPass-made entryLimit (sizesOf W) k (W .matrix .lines - suc i) i (stateOf W w) (stateOf W w′) (row-operation e ∙ o))
         ∙ row-rest;
   }
     where
       laid : Laid (length w′) W
       laid = subst (λ (n : ℕ). Laid n W) (sym l) (h .placed .laid)
 
-      led : Led limit (sizesOf W) k (stateOf W w) (stateOf W w′) (onRows (subtract i k q) (entry (stateOf W w .matrix)))
-      led = led-row limit (sizesOf W) k (subtract i k q) (stateOf W w) (stateOf W w′) (h .placed .ready .shaped) (omega (arith, h .from)) (omega (arith, h .from, h .placed .ready .row)) o
+      led : Led entryLimit (sizesOf W) k (stateOf W w) (stateOf W w′) (onRows (subtract i k q) (entry (stateOf W w .matrix)))
+      led = led-row entryLimit (sizesOf W) k (subtract i k q) (stateOf W w) (stateOf W w′) (h .placed .ready .shaped) (omega (arith, h .from)) (omega (arith, h .from, h .placed .ready .row)) o
 
       pivot : entry (stateOf W w′ .matrix) k k ≡ entry (stateOf W w .matrix) k k
       pivot = ap (λ (A : theory.Matrix). A k k) (led .matrix) ∙ onRows-subtract-other i k q (entry (stateOf W w .matrix)) k k (omega (arith, h .from))
 
   pub rows-wide :
       {q : ℤ} → q ≡ floor (contents (W .matrix) w i k) (contents (W .matrix) w k k)
-      → onRow limit (sizesOf W) (subtract i k q) (stateOf W w) ≡ tooWide
+      → onRow entryLimit (sizesOf W) (subtract i k q) (stateOf W w) ≡ tooWide
       → rowPassOf W k w₀ ≡ tooWide
   rows-wide {q} e o =
       sym row-rest
-      ∙ rowPass-wide limit (sizesOf W) k (W .matrix .lines - suc i) i (stateOf W w)
+      ∙ rowPass-wide entryLimit (sizesOf W) k (W .matrix .lines - suc i) i (stateOf W w)
       (row-operation e ∙ o)
 
 -- after the last row
 pub rows-end : {W : Layout} {k : ℕ} {w₀ : List ℤ} {i : ℕ} {w : List ℤ} → RowPassing W k w₀ i w → W .matrix .lines ≤ i → PassMade W (rowPassOf W k w₀) (length w₀) w
 unfolding rowPass
 rows-end {W} {k} {w₀} {i} {w} h l = record {
-  outcome = sym (h .rest) ∙ ap (λ (n : ℕ). rowPass limit (sizesOf W) k n i (stateOf W w)) none-left;
+  outcome = sym (h .rest) ∙ ap (λ (n : ℕ). rowPass entryLimit (sizesOf W) k n i (stateOf W w)) none-left;
   kept = record { same-length = h .same-length; small = h .placed .small };
 }
   where
@@ -152,7 +152,7 @@ pub record ColumnPassing (W : Layout) (k : ℕ) (w₀ : List ℤ) (j : ℕ) (w :
   pub from : k < j
   pub clear : ColumnClear W k w
   pub rest :
-      columnPass limit (sizesOf W) k (W .matrix .width - j) j (stateOf W w)
+      columnPass entryLimit (sizesOf W) k (W .matrix .width - j) j (stateOf W w)
       ≡ columnPassOf W k w₀
 
 pub columns-start : {W : Layout} {k : ℕ} {w : List ℤ} → ColumnClear W k w → ColumnPassing W k w (k + 1) w
@@ -177,16 +177,16 @@ module _ {W : Layout} {k : ℕ} {w₀ : List ℤ} {j : ℕ} {w : List ℤ} (h : 
 
   column-operation :
       {q : ℤ} → q ≡ floor (contents (W .matrix) w k j) (contents (W .matrix) w k k)
-      → onColumn limit (sizesOf W) (subtract j k (quotient limit (sizesOf W) k (stateOf W w) k j)) (stateOf W w) ≡ onColumn limit (sizesOf W) (subtract j k q) (stateOf W w)
+      → onColumn entryLimit (sizesOf W) (subtract j k (quotient entryLimit (sizesOf W) k (stateOf W w) k j)) (stateOf W w) ≡ onColumn entryLimit (sizesOf W) (subtract j k q) (stateOf W w)
   column-operation e =
-      ap (λ (x : ℤ). onColumn limit (sizesOf W) (subtract j k x) (stateOf W w)) (sym (e ∙ quotient-state W w k k j (ready .row) below (ready .row) (ready .column)))
+      ap (λ (x : ℤ). onColumn entryLimit (sizesOf W) (subtract j k x) (stateOf W w)) (sym (e ∙ quotient-state W w k k j (ready .row) below (ready .row) (ready .column)))
 
-  column-rest : columnPass limit (sizesOf W) k (suc (W .matrix .width - suc j)) j (stateOf W w) ≡ columnPassOf W k w₀
-  column-rest = subst (λ (n : ℕ). columnPass limit (sizesOf W) k n j (stateOf W w) ≡ columnPassOf W k w₀) (omega arith) (h .rest)
+  column-rest : columnPass entryLimit (sizesOf W) k (suc (W .matrix .width - suc j)) j (stateOf W w) ≡ columnPassOf W k w₀
+  column-rest = subst (λ (n : ℕ). columnPass entryLimit (sizesOf W) k n j (stateOf W w) ≡ columnPassOf W k w₀) (omega arith) (h .rest)
 
   pub columns-next :
       {q : ℤ} {w′ : List ℤ} → q ≡ floor (contents (W .matrix) w k j) (contents (W .matrix) w k k) → length w′ ≡ length w → Small w′
-      → onColumn limit (sizesOf W) (subtract j k q) (stateOf W w) ≡ made (stateOf W w′) → ColumnPassing W k w₀ (j + 1) w′
+      → onColumn entryLimit (sizesOf W) (subtract j k q) (stateOf W w) ≡ made (stateOf W w′) → ColumnPassing W k w₀ (j + 1) w′
   unfolding onColumns
   columns-next {q} {w′} e l s o = record {
     same-length = l ∙ h .same-length;
@@ -206,27 +206,27 @@ module _ {W : Layout} {k : ℕ} {w₀ : List ℤ} {j : ℕ} {w : List ℤ} (h : 
       rows-done = rowsDone-moves (led .moves) (ready .shaped) (h .clear .rows-done);
     };
     rest =
-        ap (λ (n : ℕ). columnPass limit (sizesOf W) k (W .matrix .width - n) n (stateOf W w′)) (add-one j)
-        ∙ sym (columnPass-made limit (sizesOf W) k (W .matrix .width - suc j) j (stateOf W w) (stateOf W w′) (column-operation e ∙ o))
+        ap (λ (n : ℕ). columnPass entryLimit (sizesOf W) k (W .matrix .width - n) n (stateOf W w′)) (add-one j)
+        ∙ sym (columnPass-made entryLimit (sizesOf W) k (W .matrix .width - suc j) j (stateOf W w) (stateOf W w′) (column-operation e ∙ o))
         ∙ column-rest;
   }
     where
       laid : Laid (length w′) W
       laid = subst (λ (n : ℕ). Laid n W) (sym l) (h .clear .laid)
 
-      led : Led limit (sizesOf W) k (stateOf W w) (stateOf W w′) (onColumns (subtract j k q) (entry (stateOf W w .matrix)))
-      led = led-column limit (sizesOf W) k (subtract j k q) (stateOf W w) (stateOf W w′) (ready .shaped) (omega (arith, h .from)) (omega (arith, h .from, ready .column)) o
+      led : Led entryLimit (sizesOf W) k (stateOf W w) (stateOf W w′) (onColumns (subtract j k q) (entry (stateOf W w .matrix)))
+      led = led-column entryLimit (sizesOf W) k (subtract j k q) (stateOf W w) (stateOf W w′) (ready .shaped) (omega (arith, h .from)) (omega (arith, h .from, ready .column)) o
 
       stays : (i : ℕ) → entry (stateOf W w′ .matrix) i k ≡ entry (stateOf W w .matrix) i k
       stays i = ap (λ (A : theory.Matrix). A i k) (led .matrix) ∙ onRows-subtract-other j k q (transpose (entry (stateOf W w .matrix))) k i (omega (arith, h .from))
 
   pub columns-wide :
       {q : ℤ} → q ≡ floor (contents (W .matrix) w k j) (contents (W .matrix) w k k)
-      → onColumn limit (sizesOf W) (subtract j k q) (stateOf W w) ≡ tooWide
+      → onColumn entryLimit (sizesOf W) (subtract j k q) (stateOf W w) ≡ tooWide
       → columnPassOf W k w₀ ≡ tooWide
   columns-wide {q} e o =
       sym column-rest
-      ∙ columnPass-wide limit (sizesOf W) k (W .matrix .width - suc j) j (stateOf W w)
+      ∙ columnPass-wide entryLimit (sizesOf W) k (W .matrix .width - suc j) j (stateOf W w)
       (column-operation e ∙ o)
 
 -- row k lies within the slice
@@ -266,7 +266,7 @@ columns-first {W} {k} {w₀} {j} {w} h {a} {r} e first =
 pub columns-end : {W : Layout} {k : ℕ} {w₀ : List ℤ} {j : ℕ} {w : List ℤ} → ColumnPassing W k w₀ j w → W .matrix .width ≤ j → PassMade W (columnPassOf W k w₀) (length w₀) w
 unfolding columnPass
 columns-end {W} {k} {w₀} {j} {w} h l = record {
-  outcome = sym (h .rest) ∙ ap (λ (n : ℕ). columnPass limit (sizesOf W) k n j (stateOf W w)) none-left;
+  outcome = sym (h .rest) ∙ ap (λ (n : ℕ). columnPass entryLimit (sizesOf W) k n j (stateOf W w)) none-left;
   kept = record { same-length = h .same-length; small = h .clear .small };
 }
   where

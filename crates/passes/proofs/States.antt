@@ -14,7 +14,7 @@ use Rattle.reduction_laws.specs.Tables.{entry-table, table-entry, tableWithin-t
 use Rattle.reduction_laws.specs.Shape.{Shaped, shaped-rows, shaped-columns, matrix-rows, matrix-columns, within-iff}
 use Rattle.reduction_laws.specs.Moves.{Moves, Keeps, moves-keep}
 use Rattle.reduction_laws.specs.StageLaws as stage-laws
-use Rattle.lines.specs.Slice.{limit, at, lineAt, Small}
+use Rattle.lines.specs.Slice.{entryLimit, at, lineAt, Small}
 use Rattle.lines.specs.Matrices.{Held, contents}
 use Rattle.lines.specs.declared.matrix.Matrix.{Matrix}
 use Rattle.lines.specs.declared.line.Written.{Written}
@@ -47,10 +47,10 @@ shaped-state {n} {W} w h = record {
 pub laid-kept : {W : Layout} {n : ℕ} (w′ : List ℤ) → Laid n W → length w′ ≡ n → Laid (length w′) W
 laid-kept {W} w′ h l = subst (λ (n : ℕ). Laid n W) (sym l) h
 
-pub within-state : (W : Layout) (w : List ℤ) → Small w → within limit (stateOf W w) ≡ true
+pub within-state : (W : Layout) (w : List ℤ) → Small w → within entryLimit (stateOf W w) ≡ true
 unfolding stateOf linesOf
 within-state W w h =
-    within-iff limit (stateOf W w) .1
+    within-iff entryLimit (stateOf W w) .1
     (record {
       matrix = narrow (W .matrix);
       rowFollower = narrow (W .«row_follower»);
@@ -59,8 +59,8 @@ within-state W w h =
       columnInverse = narrow (W .«column_inverse»);
     })
   where
-    narrow : (M : Matrix) → tableWithin limit (table (M .lines) (M .width) (contents M w)) ≡ true
-    narrow M = tableWithin-table limit (M .lines) (M .width) (contents M w) .1 (λ i j _ _. h .bound (lineAt (M .at) (M .width) i + j))
+    narrow : (M : Matrix) → tableWithin entryLimit (table (M .lines) (M .width) (contents M w)) ≡ true
+    narrow M = tableWithin-table entryLimit (M .lines) (M .width) (contents M w) .1 (λ i j _ _. h .bound (lineAt (M .at) (M .width) i + j))
 
 pub held-matrix : {n : ℕ} {W : Layout} → Laid n W → Held n (W .matrix)
 held-matrix h = record { ends = omega (arith, h .after-matrix, h .after-row-inverse, h .after-row-follower, h .after-column-follower, h .after-column-inverse) }

@@ -7,7 +7,7 @@ use lib.Signed.{_<ℤ_}
 use mir.Syntax.{w64}
 use Rattle.integers.specs.Division.{floor}
 use Rattle.reduction_laws.specs.Letters.{ReadyC}
-use Rattle.lines.specs.Slice.{limit, lineAt, Small}
+use Rattle.lines.specs.Slice.{entryLimit, lineAt, Small}
 use Rattle.lines.specs.Matrices.{contents}
 use Rattle.lines.specs.declared.matrix.Matrix.{Matrix}
 use Rattle.words.specs.Read.{read, read-wide}
@@ -15,7 +15,7 @@ use Rattle.operations.specs.Laid.{sizesOf, stateOf}
 use Rattle.operations.specs.declared.layout.Layout.{Layout}
 use Rattle.passes.proofs.States.{entry-state}
 
-pub small-entry : (M : Matrix) {w : List ℤ} → Small w → (i j : ℕ) → natAbs (contents M w i j) ≤ limit
+pub small-entry : (M : Matrix) {w : List ℤ} → Small w → (i j : ℕ) → natAbs (contents M w i j) ≤ entryLimit
 small-entry M h i j = h .bound (lineAt (M .at) (M .width) i + j)
 
 -- a word that holds an entry
@@ -27,10 +27,10 @@ pivot-positive W k w h = subst (λ (x : ℤ). pos 0 <ℤ x) (entry-state W w k k
 
 -- x holds the entry at (i, j), and d the pivot
 module _ (W : Layout) (k : ℕ) (w : List ℤ) (small : Small w) (ready : ReadyC (sizesOf W) k (stateOf W w)) (i j : ℕ) {x d : ℤ} (x-is : x ≡ contents (W .matrix) w i j) (d-is : d ≡ contents (W .matrix) w k k) where
-  pub quotient-asks : (pos 0 <ℤ read w64 d) × (natAbs (read w64 x) ≤ limit) × (natAbs (read w64 d) ≤ limit)
+  pub quotient-asks : (pos 0 <ℤ read w64 d) × (natAbs (read w64 x) ≤ entryLimit) × (natAbs (read w64 d) ≤ entryLimit)
   quotient-asks =
       rw (read-entry (W .matrix) small i j x x-is, read-entry (W .matrix) small k k d d-is)
       (pivot-positive W k w ready, small-entry (W .matrix) small i j, small-entry (W .matrix) small k k)
 
-  pub quotient-read : {q : ℤ} → (q ≡ floor (read w64 x) (read w64 d)) × (natAbs q ≤ limit) → read w64 q ≡ floor (contents (W .matrix) w i j) (contents (W .matrix) w k k)
+  pub quotient-read : {q : ℤ} → (q ≡ floor (read w64 x) (read w64 d)) × (natAbs q ≤ entryLimit) → read w64 q ≡ floor (contents (W .matrix) w i j) (contents (W .matrix) w k k)
   quotient-read {q} h = read-wide q (h .1) ∙ h .0 ∙ cc (read-entry (W .matrix) small i j x x-is, read-entry (W .matrix) small k k d d-is)

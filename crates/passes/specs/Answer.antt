@@ -10,7 +10,7 @@ use Rattle.reduction_steps.specs.State.{Outcome, made, tooWide}
 use Rattle.reduction_steps.specs.Step.{bring, rowPass, columnPass}
 use Rattle.reduction_laws.specs.StageLaws as stage-laws
 use Rattle.reduction_laws.specs.Letters.{ReadyC, ReadyD}
-use Rattle.lines.specs.Slice.{limit, Small}
+use Rattle.lines.specs.Slice.{entryLimit, Small}
 use Rattle.refusal.specs.Number.{numberOf}
 use Rattle.refusal.specs.declared.Refusal.{Refusal}
 use Rattle.operations.specs.Laid.{Laid, sizesOf, stateOf}
@@ -46,15 +46,15 @@ pub record ColumnClear (W : Layout) (k : ℕ) (w : List ℤ) : Type 0 where
 
 -- step b, for the entry at (i, j)
 abbrev pub bringOf : Layout → ℕ → ℕ → ℕ → List ℤ → Outcome
-bringOf W k i j w = bring limit (sizesOf W) k i j (stateOf W w)
+bringOf W k i j w = bring entryLimit (sizesOf W) k i j (stateOf W w)
 
 -- step c
 abbrev pub rowPassOf : Layout → ℕ → List ℤ → Outcome
-rowPassOf W k w = rowPass limit (sizesOf W) k (W .matrix .lines - suc k) (suc k) (stateOf W w)
+rowPassOf W k w = rowPass entryLimit (sizesOf W) k (W .matrix .lines - suc k) (suc k) (stateOf W w)
 
 -- step d
 abbrev pub columnPassOf : Layout → ℕ → List ℤ → Outcome
-columnPassOf W k w = columnPass limit (sizesOf W) k (W .matrix .width - suc k) (suc k) (stateOf W w)
+columnPassOf W k w = columnPass entryLimit (sizesOf W) k (W .matrix .width - suc k) (suc k) (stateOf W w)
 
 -- ---- what is answered
 

@@ -11,7 +11,7 @@ use Rattle.reduction_steps.specs.Pivot.{Choice, none, place, Rule, IsRule}
 use Rattle.reduction_steps.specs.Step.{Letter, Machine, at, Ended}
 use Rattle.reduction_laws.specs.Run.{reaches-refl, reaches-trans}
 use Rattle.reduction_laws.specs.Ends.{reaches-reduce}
-use Rattle.lines.specs.Slice.{limit, Small}
+use Rattle.lines.specs.Slice.{entryLimit, Small}
 use Rattle.refusal.specs.declared.Refusal.{Refusal}
 use Rattle.operations.specs.Laid.{Laid, sizesOf, stateOf}
 use Rattle.operations.specs.declared.layout.Layout.{Layout}
@@ -34,33 +34,33 @@ pub reducing-start : {rule : Rule} {W : Layout} {w : List ℤ} → Laid (length 
 reducing-start {rule} {W} {w} l s = record {
   laid = l;
   small = s;
-  goes = reaches-refl limit (sizesOf W) rule (at Letter.a 0 (stateOf W w));
+  goes = reaches-refl entryLimit (sizesOf W) rule (at Letter.a 0 (stateOf W w));
   begun = record { laid = l; small = s; row-bound = zero-le; column-bound = zero-le; rows-done = record { zero = λ i j a. absurd (omega arith) } };
   same-length = refl;
 }
 
 -- the entry to be chosen lies within the limit
-chosen-small : {rule : Rule} → IsRule rule → {W : Layout} {k : ℕ} {w : List ℤ} → Begun W k w → chosenSize rule W k w ≤ limit
+chosen-small : {rule : Rule} → IsRule rule → {W : Layout} {k : ℕ} {w : List ℤ} → Begun W k w → chosenSize rule W k w ≤ entryLimit
 unfolding sizeAt
 chosen-small {rule} is {W} {k} {w} h = go (rule (W .matrix .lines) (W .matrix .width) k (matrixOf W w)) refl
   where
-    go : (c : Choice) → rule (W .matrix .lines) (W .matrix .width) k (matrixOf W w) ≡ c → sizeAt (matrixOf W w) c ≤ limit
+    go : (c : Choice) → rule (W .matrix .lines) (W .matrix .width) k (matrixOf W w) ≡ c → sizeAt (matrixOf W w) c ≤ entryLimit
     go none e = omega arith
     go (place i j) e =
         let l = is .chosen (W .matrix .lines) (W .matrix .width) k (matrixOf W w) i j e in
-        subst (λ (x : ℤ). natAbs x ≤ limit) (sym (entry-state W w i j (l .row-below) (l .column-below))) (small-entry (W .matrix) (h .small) i j)
+        subst (λ (x : ℤ). natAbs x ≤ entryLimit) (sym (entry-state W w i j (l .row-below) (l .column-below))) (small-entry (W .matrix) (h .small) i j)
 
 -- The measure of the loop: a stage more counts for more than any entry, and within a stage the entry to be chosen falls.
 abbrev pub stagesLeft : Rule → Layout → ℕ → List ℤ → ℕ
-stagesLeft rule W k w = (W .matrix .lines - k) * suc limit + chosenSize rule W k w
+stagesLeft rule W k w = (W .matrix .lines - k) * suc entryLimit + chosenSize rule W k w
 
 module _ {rule : Rule} {W : Layout} {w₀ : List ℤ} {k : ℕ} {w : List ℤ} (h : Reducing rule W w₀ k w) where
   -- the machine comes to letter a of stage l
   onward : {l : ℕ} {w′ : List ℤ} → Goes rule W (at Letter.a k (stateOf W w)) (at Letter.a l (stateOf W w′)) → Begun W l w′ → length w′ ≡ length w → Reducing rule W w₀ l w′
-  onward g b s = record { laid = h .laid; small = h .small; goes = reaches-trans limit (sizesOf W) rule (h .goes) g; begun = b; same-length = s ∙ h .same-length }
+  onward g b s = record { laid = h .laid; small = h .small; goes = reaches-trans entryLimit (sizesOf W) rule (h .goes) g; begun = b; same-length = s ∙ h .same-length }
 
   ended : IsRule rule → {y : Machine} → Goes rule W (at Letter.a k (stateOf W w)) y → Ended y → reductionOf rule W w₀ ≡ y
-  ended is g = reaches-reduce limit (sizesOf W) rule is (stateOf W w₀) (shaped-state w₀ (h .laid)) (within-state W w₀ (h .small)) (reaches-trans limit (sizesOf W) rule (h .goes) g)
+  ended is g = reaches-reduce entryLimit (sizesOf W) rule is (stateOf W w₀) (shaped-state w₀ (h .laid)) (within-state W w₀ (h .small)) (reaches-trans entryLimit (sizesOf W) rule (h .goes) g)
 
 -- the stage k that begins with the slice w has come to r and the slice w′
 module _ {rule : Rule} (is : IsRule rule) {W : Layout} {w₀ : List ℤ} {k : ℕ} {w : List ℤ} (h : Reducing rule W w₀ k w) (rounds : ℕ) {r : Stage} (w′ : List ℤ) (e : ChoiceEnds rule W k rounds w r w′) where

@@ -21,7 +21,7 @@ use Rattle.reduction_laws.specs.Shape.{Shaped}
 use Rattle.reduction_laws.specs.Steps.{step-a-none, step-a-wide, step-a-made, step-c-wide, step-c-made, step-d-wide, step-d-made, step-e-none, step-e-wide, step-e-made}
 use Rattle.reduction_laws.specs.Scans.{FirstRow, firstIndivisible-row}
 use Rattle.reduction_laws.specs.Letters.{ReadyC, ReadyE, AfterA, after-a, AfterC, after-c, after-c-keeps, after-c-clear, AfterD, after-d, after-d-keeps, after-d-clear, AfterE, after-e}
-use Rattle.lines.specs.Slice.{limit, Small}
+use Rattle.lines.specs.Slice.{entryLimit, Small}
 use Rattle.lines.specs.Matrices.{contents}
 use Rattle.refusal.specs.declared.Refusal.{Refusal}
 use Rattle.refusal.specs.declared.Refusal.the-variants as refusal
@@ -63,22 +63,22 @@ pub stage-after :
     {rule : Rule} (W : Layout) (k rounds′ rounds size′ size : ℕ) (x y : Machine) (n : ℕ) (w : List ℤ) (r : Stage) (w′ : List ℤ) → size′ + rounds ≤ size + rounds′ → Goes rule W x y → length w ≡ n
     → StageEnds rule W k rounds′ size′ y (length w) r w′ → StageEnds rule W k rounds size x n r w′
 stage-after {rule} W k rounds′ rounds size′ size x y n w stage.Cleared w′ b g l e = record {
-  goes = reaches-trans limit (sizesOf W) rule g (e .goes);
+  goes = reaches-trans entryLimit (sizesOf W) rule g (e .goes);
   begun = e .begun;
   same-length = e .same-length ∙ l;
 }
 stage-after {rule} W k rounds′ rounds size′ size x y n w stage.Exhausted w′ b g l e = record {
-  goes = reaches-trans limit (sizesOf W) rule g (e .goes);
+  goes = reaches-trans entryLimit (sizesOf W) rule g (e .goes);
   kept = record { same-length = e .kept .same-length ∙ l; small = e .kept .small };
 }
 stage-after {rule} W k rounds′ rounds size′ size x y n w stage.Again w′ b g l e = record {
-  goes = reaches-trans limit (sizesOf W) rule g (e .goes);
+  goes = reaches-trans entryLimit (sizesOf W) rule g (e .goes);
   begun = e .begun;
   falls = omega (arith, e .falls);
   same-length = e .same-length ∙ l;
 }
 stage-after {rule} W k rounds′ rounds size′ size x y n w (stage.Refused z) w′ b g l e = record {
-  goes = reaches-trans limit (sizesOf W) rule g (e .goes);
+  goes = reaches-trans entryLimit (sizesOf W) rule g (e .goes);
   cleared = record { number = e .cleared .number; zeros = e .cleared .zeros ∙ ap (λ (n : ℕ). replicate n (pos 0)) l };
 }
 
@@ -93,7 +93,7 @@ onward-ends {rule} {P} {size} {l} {W} {k} {x} {n} {spent} {bound} {w} o rounds�
 -- no round is left, and the stage stays at letter a
 pub again : {rule : Rule} {W : Layout} {k : ℕ} {w : List ℤ} → Begun W k w → (rounds : ℕ) → rounds ≡ 0 → StageAgain rule W k rounds (chosenSize rule W k w) (at Letter.a k (stateOf W w)) (length w) w
 again {rule} {W} {k} {w} h rounds e = record {
-  goes = reaches-refl limit (sizesOf W) rule (at Letter.a k (stateOf W w));
+  goes = reaches-refl entryLimit (sizesOf W) rule (at Letter.a k (stateOf W w));
   begun = h;
   falls = omega arith;
   same-length = refl;
@@ -124,7 +124,7 @@ module _ {rule : Rule} (is : IsRule rule) (W : Layout) (k : ℕ) (w : List ℤ) 
 
   pub exhausted : Begun W k w → Chosen none → StageExhausted rule W k (at Letter.a k (stateOf W w)) (length w) w
   exhausted h e = record {
-    goes = reaches-next limit (sizesOf W) rule (step-a-none limit (sizesOf W) rule k (stateOf W w) (sym choice-state ∙ sym e));
+    goes = reaches-next entryLimit (sizesOf W) rule (step-a-none entryLimit (sizesOf W) rule k (stateOf W w) (sym choice-state ∙ sym e));
     kept = record { same-length = refl; small = h .small };
   }
 
@@ -133,7 +133,7 @@ module _ {rule : Rule} (is : IsRule rule) (W : Layout) (k : ℕ) (w : List ℤ) 
     chosen-least = is .chosen (W .matrix .lines) (W .matrix .width) k (matrixOf W w) i j (sym choice-state ∙ sym e)
 
     pub bring-goes : bringOf W k i j w ≡ tooWide → Goes rule W (at Letter.a k (stateOf W w)) wide
-    bring-goes o = reaches-next limit (sizesOf W) rule (step-a-wide limit (sizesOf W) rule k (stateOf W w) i j (sym choice-state ∙ sym e) o)
+    bring-goes o = reaches-next entryLimit (sizesOf W) rule (step-a-wide entryLimit (sizesOf W) rule k (stateOf W w) i j (sym choice-state ∙ sym e) o)
 
     pub to-rows :
         {w′ : List ℤ} → Begun W k w → PassMade W (bringOf W k i j w) (length w) w′
@@ -141,25 +141,25 @@ module _ {rule : Rule} (is : IsRule rule) (W : Layout) (k : ℕ) (w : List ℤ) 
     to-rows {w′} h p = record {
       holds = record { laid = laid-kept w′ (h .laid) (p .kept .same-length); small = p .kept .small; ready = after .ready; rows-done = rowsDone-moves (after .moves) shaped (h .rows-done) };
       falls = omega (arith, after .size, chosen-at is (W .matrix .lines) (W .matrix .width) k (matrixOf W w) i j (sym choice-state ∙ sym e));
-      goes = reaches-next limit (sizesOf W) rule (step-a-made limit (sizesOf W) rule k (stateOf W w) i j (stateOf W w′) (sym choice-state ∙ sym e) (p .outcome));
+      goes = reaches-next entryLimit (sizesOf W) rule (step-a-made entryLimit (sizesOf W) rule k (stateOf W w) i j (stateOf W w′) (sym choice-state ∙ sym e) (p .outcome));
       same-length = p .kept .same-length;
     }
       where
         shaped : Shaped (sizesOf W) (stateOf W w)
         shaped = shaped-state w (h .laid)
 
-        after : AfterA limit (sizesOf W) k (stateOf W w) (stateOf W w′) (natAbs (matrixOf W w i j))
-        after = after-a limit (sizesOf W) k i j (stateOf W w) (stateOf W w′) shaped chosen-least (p .outcome)
+        after : AfterA entryLimit (sizesOf W) k (stateOf W w) (stateOf W w′) (natAbs (matrixOf W w i j))
+        after = after-a entryLimit (sizesOf W) k i j (stateOf W w) (stateOf W w′) shaped chosen-least (p .outcome)
 
 -- ---- letter c
 
 module _ {rule : Rule} (is : IsRule rule) {W : Layout} {k : ℕ} {w : List ℤ} (h : Placed W k w) where
   pub rows-go : rowPassOf W k w ≡ tooWide → Goes rule W (at Letter.c k (stateOf W w)) wide
-  rows-go o = reaches-next limit (sizesOf W) rule (step-c-wide limit (sizesOf W) rule k (stateOf W w) o)
+  rows-go o = reaches-next entryLimit (sizesOf W) rule (step-c-wide entryLimit (sizesOf W) rule k (stateOf W w) o)
 
   module _ {w′ : List ℤ} (p : PassMade W (rowPassOf W k w) (length w) w′) where
-    after-rows : AfterC limit (sizesOf W) k (stateOf W w) (stateOf W w′)
-    after-rows = after-c limit (sizesOf W) k (stateOf W w) (stateOf W w′) (h .ready) (p .outcome)
+    after-rows : AfterC entryLimit (sizesOf W) k (stateOf W w) (stateOf W w′)
+    after-rows = after-c entryLimit (sizesOf W) k (stateOf W w) (stateOf W w′) (h .ready) (p .outcome)
 
     rows-laid : Laid (length w′) W
     rows-laid = laid-kept w′ (h .laid) (p .kept .same-length)
@@ -184,8 +184,8 @@ module _ {rule : Rule} (is : IsRule rule) {W : Layout} {k : ℕ} {w : List ℤ} 
         ∙ sym e
 
     rows-goes : (b : Bool) → b ≡ columnKeeps (contents (W .matrix) w′) k (W .matrix .lines - suc k) (suc k) → Goes rule W (at Letter.c k (stateOf W w)) (at (elim b [ true ↦ Letter.a | false ↦ Letter.d ]) k (stateOf W w′))
-    rows-goes true e = reaches-next limit (sizesOf W) rule (step-c-made limit (sizesOf W) rule k (stateOf W w) (stateOf W w′) true (p .outcome) (column-test true e))
-    rows-goes false e = reaches-next limit (sizesOf W) rule (step-c-made limit (sizesOf W) rule k (stateOf W w) (stateOf W w′) false (p .outcome) (column-test false e))
+    rows-goes true e = reaches-next entryLimit (sizesOf W) rule (step-c-made entryLimit (sizesOf W) rule k (stateOf W w) (stateOf W w′) true (p .outcome) (column-test true e))
+    rows-goes false e = reaches-next entryLimit (sizesOf W) rule (step-c-made entryLimit (sizesOf W) rule k (stateOf W w) (stateOf W w′) false (p .outcome) (column-test false e))
 
     pub rows-to-choice :
         true ≡ columnKeeps (contents (W .matrix) w′) k (W .matrix .lines - suc k) (suc k)
@@ -193,7 +193,7 @@ module _ {rule : Rule} (is : IsRule rule) {W : Layout} {k : ℕ} {w : List ℤ} 
     rows-to-choice e = record {
       holds = record { laid = rows-laid; small = p .kept .small; row-bound = Nat.le-of-lt (h .ready .row); column-bound = Nat.le-of-lt (h .ready .column); rows-done = rows-still-done };
       falls = smaller-chosen is (W .matrix .lines) (W .matrix .width) k (matrixOf W w′) (pivotSize W k w)
-          (after-c-keeps limit (sizesOf W) k (stateOf W w) (stateOf W w′) (h .ready) after-rows (column-test true e));
+          (after-c-keeps entryLimit (sizesOf W) k (stateOf W w) (stateOf W w′) (h .ready) after-rows (column-test true e));
       goes = rows-goes true e;
       same-length = p .kept .same-length;
     }
@@ -202,7 +202,7 @@ module _ {rule : Rule} (is : IsRule rule) {W : Layout} {k : ℕ} {w : List ℤ} 
         false ≡ columnKeeps (contents (W .matrix) w′) k (W .matrix .lines - suc k) (suc k)
         → ToColumns rule Letter.c W k w w′
     rows-to-columns e = record {
-      holds = record { laid = rows-laid; small = p .kept .small; ready = after-c-clear limit (sizesOf W) k (stateOf W w) (stateOf W w′) after-rows (column-test false e); rows-done = rows-still-done };
+      holds = record { laid = rows-laid; small = p .kept .small; ready = after-c-clear entryLimit (sizesOf W) k (stateOf W w) (stateOf W w′) after-rows (column-test false e); rows-done = rows-still-done };
       falls = omega (arith, ap natAbs (after-rows .pivot));
       goes = rows-goes false e;
       same-length = p .kept .same-length;
@@ -223,11 +223,11 @@ pub record RowClear (rule : Rule) (W : Layout) (k : ℕ) (w w′ : List ℤ) : T
 
 module _ {rule : Rule} (is : IsRule rule) {W : Layout} {k : ℕ} {w : List ℤ} (h : ColumnClear W k w) where
   pub columns-go : columnPassOf W k w ≡ tooWide → Goes rule W (at Letter.d k (stateOf W w)) wide
-  columns-go o = reaches-next limit (sizesOf W) rule (step-d-wide limit (sizesOf W) rule k (stateOf W w) o)
+  columns-go o = reaches-next entryLimit (sizesOf W) rule (step-d-wide entryLimit (sizesOf W) rule k (stateOf W w) o)
 
   module _ {w′ : List ℤ} (p : PassMade W (columnPassOf W k w) (length w) w′) where
-    after-columns : AfterD limit (sizesOf W) k (stateOf W w) (stateOf W w′)
-    after-columns = after-d limit (sizesOf W) k (stateOf W w) (stateOf W w′) (h .ready) (p .outcome)
+    after-columns : AfterD entryLimit (sizesOf W) k (stateOf W w) (stateOf W w′)
+    after-columns = after-d entryLimit (sizesOf W) k (stateOf W w) (stateOf W w′) (h .ready) (p .outcome)
 
     columns-laid : Laid (length w′) W
     columns-laid = laid-kept w′ (h .laid) (p .kept .same-length)
@@ -247,8 +247,8 @@ module _ {rule : Rule} (is : IsRule rule) {W : Layout} {k : ℕ} {w : List ℤ} 
     columns-to-choice e = record {
       holds = record { laid = columns-laid; small = p .kept .small; row-bound = Nat.le-of-lt (h .ready .ready .row); column-bound = Nat.le-of-lt (h .ready .ready .column); rows-done = columns-rows-done };
       falls = smaller-chosen is (W .matrix .lines) (W .matrix .width) k (matrixOf W w′) (pivotSize W k w)
-          (after-d-keeps limit (sizesOf W) k (stateOf W w) (stateOf W w′) (h .ready) after-columns (row-test true e));
-      goes = reaches-next limit (sizesOf W) rule (step-d-made limit (sizesOf W) rule k (stateOf W w) (stateOf W w′) true (p .outcome) (row-test true e));
+          (after-d-keeps entryLimit (sizesOf W) k (stateOf W w) (stateOf W w′) (h .ready) after-columns (row-test true e));
+      goes = reaches-next entryLimit (sizesOf W) rule (step-d-made entryLimit (sizesOf W) rule k (stateOf W w) (stateOf W w′) true (p .outcome) (row-test true e));
       same-length = p .kept .same-length;
     }
 
@@ -258,14 +258,14 @@ module _ {rule : Rule} (is : IsRule rule) {W : Layout} {k : ℕ} {w : List ℤ} 
       small = p .kept .small;
       ready = ready;
       rows-done = columns-rows-done;
-      goes = reaches-next limit (sizesOf W) rule (step-d-made limit (sizesOf W) rule k (stateOf W w) (stateOf W w′) false (p .outcome) (row-test false e));
+      goes = reaches-next entryLimit (sizesOf W) rule (step-d-made entryLimit (sizesOf W) rule k (stateOf W w) (stateOf W w′) false (p .outcome) (row-test false e));
       pivot = after-columns .pivot;
       divided = λ j a b. dvd-iff-modulo (matrixOf W w k j) (matrixOf W w k k) (h .ready .ready .positive) .1 (sym (after-columns .remainder j a b) ∙ ready .right j a b);
       same-length = p .kept .same-length;
     }
       where
         ready : ReadyE (sizesOf W) k (stateOf W w′)
-        ready = after-d-clear limit (sizesOf W) k (stateOf W w) (stateOf W w′) after-columns (row-test false e)
+        ready = after-d-clear entryLimit (sizesOf W) k (stateOf W w) (stateOf W w′) after-columns (row-test false e)
 
 -- ---- letter e
 
@@ -291,7 +291,7 @@ module _ {rule : Rule} {W : Layout} {k : ℕ} {w w′ : List ℤ} (h : RowClear 
 
   pub cleared : Found noRow → StageCleared rule W k (at Letter.d k (stateOf W w)) (length w) w′
   cleared e = record {
-    goes = reaches-trans limit (sizesOf W) rule (h .goes) (reaches-next limit (sizesOf W) rule (step-e-none limit (sizesOf W) rule k (stateOf W w′) (found-state noRow e)));
+    goes = reaches-trans entryLimit (sizesOf W) rule (h .goes) (reaches-next entryLimit (sizesOf W) rule (step-e-none entryLimit (sizesOf W) rule k (stateOf W w′) (found-state noRow e)));
     begun = record {
       laid = h .laid;
       small = h .small;
@@ -316,27 +316,27 @@ module _ {rule : Rule} {W : Layout} {k : ℕ} {w w′ : List ℤ} (h : RowClear 
     pub row-within : i < W .matrix .lines
     row-within = omega (arith, found-row .below, ready-pivot .row)
 
-    add-goes : onRow limit (sizesOf W) (subtract k i (negsuc 0)) (stateOf W w′) ≡ tooWide → Goes rule W (at Letter.d k (stateOf W w)) wide
-    add-goes o = reaches-trans limit (sizesOf W) rule (h .goes) (reaches-next limit (sizesOf W) rule (step-e-wide limit (sizesOf W) rule k (stateOf W w′) i (found-state (row i) e) o))
+    add-goes : onRow entryLimit (sizesOf W) (subtract k i (negsuc 0)) (stateOf W w′) ≡ tooWide → Goes rule W (at Letter.d k (stateOf W w)) wide
+    add-goes o = reaches-trans entryLimit (sizesOf W) rule (h .goes) (reaches-next entryLimit (sizesOf W) rule (step-e-wide entryLimit (sizesOf W) rule k (stateOf W w′) i (found-state (row i) e) o))
 
     -- the addition went too wide, and the slice was cleared
     pub add-stops :
-        (u : List ℤ) {w″ : List ℤ} → onRow limit (sizesOf W) (subtract k i (negsuc 0)) (stateOf W w′) ≡ tooWide → w″ ≡ replicate (length u) (pos 0) → length u ≡ length w′
+        (u : List ℤ) {w″ : List ℤ} → onRow entryLimit (sizesOf W) (subtract k i (negsuc 0)) (stateOf W w′) ≡ tooWide → w″ ≡ replicate (length u) (pos 0) → length u ≡ length w′
         → StageRefused rule W (at Letter.d k (stateOf W w)) (length w) refusal.TooWide w″
     add-stops u o z l = record { goes = add-goes o; cleared = record { number = refl; zeros = z ∙ ap (λ (n : ℕ). replicate n (pos 0)) (l ∙ h .same-length) } }
 
     pub columns-again :
-        {w″ : List ℤ} → onRow limit (sizesOf W) (subtract k i (negsuc 0)) (stateOf W w′) ≡ made (stateOf W w″) → Small w″ → length w″ ≡ length w′
+        {w″ : List ℤ} → onRow entryLimit (sizesOf W) (subtract k i (negsuc 0)) (stateOf W w′) ≡ made (stateOf W w″) → Small w″ → length w″ ≡ length w′
         → ColumnsAgain rule W k w w″
     columns-again {w″} o s l = record {
       onward = record {
         holds = record { laid = laid-kept w″ (h .laid) l; small = s; ready = after .ready; rows-done = rowsDone-moves (after .moves) (ready-pivot .shaped) (h .rows-done) };
         falls = omega (arith, ap natAbs (after .pivot ∙ h .pivot));
-        goes = reaches-trans limit (sizesOf W) rule (h .goes) (reaches-next limit (sizesOf W) rule (step-e-made limit (sizesOf W) rule k (stateOf W w′) i (stateOf W w″) (found-state (row i) e) o));
+        goes = reaches-trans entryLimit (sizesOf W) rule (h .goes) (reaches-next entryLimit (sizesOf W) rule (step-e-made entryLimit (sizesOf W) rule k (stateOf W w′) i (stateOf W w″) (found-state (row i) e) o));
         same-length = l ∙ h .same-length;
       };
       calls = calls-fall (W .matrix .width) k (matrixOf W w) (matrixOf W w″) (ready-pivot .column) (h .divided) (after .remains);
     }
       where
-        after : AfterE limit (sizesOf W) k (stateOf W w′) (stateOf W w″)
-        after = after-e limit (sizesOf W) k i (stateOf W w′) (stateOf W w″) (h .ready) (found-state (row i) e) o
+        after : AfterE entryLimit (sizesOf W) k (stateOf W w′) (stateOf W w″)
+        after = after-e entryLimit (sizesOf W) k i (stateOf W w′) (stateOf W w″) (h .ready) (found-state (row i) e) o

@@ -8,7 +8,7 @@ use lib.IntN.{ℤ, natAbs}
 use Rattle.matrices.specs.Matrix.{Matrix}
 use Rattle.reduction_steps.specs.Pivot.{Choice, none, place, Rule}
 use Rattle.reduction_steps.specs.Step.{Letter, Machine, at, done, wide, a, reduce, Reaches}
-use Rattle.lines.specs.Slice.{limit, Small}
+use Rattle.lines.specs.Slice.{entryLimit, Small}
 use Rattle.refusal.specs.declared.Refusal.{Refusal}
 use Rattle.operations.specs.Laid.{Laid, sizesOf, stateOf}
 use Rattle.operations.specs.declared.layout.Layout.{Layout}
@@ -47,13 +47,13 @@ pivotSize W k w = natAbs (matrixOf W w k k)
 
 -- the whole reduction by a pivot rule
 abbrev pub reductionOf : Rule → Layout → List ℤ → Machine
-reductionOf rule W w = reduce limit (sizesOf W) rule (stateOf W w)
+reductionOf rule W w = reduce entryLimit (sizesOf W) rule (stateOf W w)
 
 -- ---- what is answered
 
 -- the machine goes from x to y by the steps of document 01 under the rule
 abbrev pub Goes : Rule → Layout → Machine → Machine → Type 0
-Goes rule W x y = Reaches limit (sizesOf W) rule x y
+Goes rule W x y = Reaches entryLimit (sizesOf W) rule x y
 
 -- stage k, entered at the machine x, leads to letter a of the next stage
 pub record StageCleared (rule : Rule) (W : Layout) (k : ℕ) (x : Machine) (n : ℕ) (w′ : List ℤ) : Type 0 where

@@ -6,7 +6,7 @@ use native.Mathlib.Omega.{arith}
 use lib.ListN.{length, replicate}
 use lib.IntN.{ℤ, pos, natAbs}
 use borrow.Author.Needs.{needs}
-use Rattle.lines.specs.Slice.{limit, at, Small}
+use Rattle.lines.specs.Slice.{entryLimit, at, Small}
 use Rattle.operations.specs.Laid.{Laid}
 use Rattle.reduction_cases.specs.Layout.{slots}
 use Rattle.reduction_cases.proofs.answer.Statement.{statement}
@@ -18,7 +18,7 @@ at-zeros (suc n) zero = refl
 at-zeros (suc n) (suc i) = at-zeros n i
 
 small-zeros : (n : ℕ) → Small (replicate n (pos 0))
-small-zeros n = record { bound = λ i. subst (λ (z : ℤ). natAbs z ≤ limit) (sym (at-zeros n i)) (omega arith) }
+small-zeros n = record { bound = λ i. subst (λ (z : ℤ). natAbs z ≤ entryLimit) (sym (at-zeros n i)) (omega arith) }
 
 read-entries-requires : tie.Need-read-entries-requires
 read-entries-requires c κs = (omega arith, small-zeros slots)

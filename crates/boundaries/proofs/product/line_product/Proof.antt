@@ -16,7 +16,7 @@ use Rattle.integers.specs.Order.{natAbs-mul}
 use Rattle.matrices.specs.Sum.{sum}
 use Rattle.complexes.specs.Boundary.{sign}
 use Rattle.complexes.specs.CoefficientLaws.{natAbs-sign}
-use Rattle.lines.specs.Slice.{limit, at, Small}
+use Rattle.lines.specs.Slice.{entryLimit, at, Small}
 use Rattle.words.specs.Read.{read, read-entry, entry-fits, cast-fits}
 use Rattle.words.specs.Sum.{term-fits, sum-fits, sum-is}
 use Rattle.matrices.specs.SumLaws.{natAbs-sum}
@@ -37,18 +37,18 @@ module _ {w : List ℤ} {line : ℕ} {places : List ℕ} {faces t : ℕ} {total 
   abbrev x : ℤ
   x = at w (line + getD places t 0)
 
-  x-small : natAbs x ≤ limit
+  x-small : natAbs x ≤ entryLimit
   x-small = small .bound (line + getD places t 0)
 
-  read-small : natAbs (read w32 x) ≤ limit
+  read-small : natAbs (read w32 x) ≤ entryLimit
   read-small = rw (read-entry x x-small) x-small
 
-  signed-small : (k : ℕ) → natAbs (signed w line places k) ≤ limit
+  signed-small : (k : ℕ) → natAbs (signed w line places k) ≤ entryLimit
   signed-small k =
       rw (natAbs-mul (at w (line + getD places k 0)) (sign k), natAbs-sign k) (omega (arith, small .bound (line + getD places k 0)))
 
   total-small : natAbs total ≤ 2 ^ 33
-  total-small = rw (inv .so-far (NatL.le-of-lt more)) (omega (arith, natAbs-sum t (signed w line places) limit (λ k l. signed-small k)))
+  total-small = rw (inv .so-far (NatL.le-of-lt more)) (omega (arith, natAbs-sum t (signed w line places) entryLimit (λ k l. signed-small k)))
 
   cast-word : SFits w64 (read w32 x)
   cast-word = cast-fits x (entry-fits x x-small)

@@ -11,7 +11,7 @@ use Rattle.complexes.specs.Boundary.{boundary}
 use Rattle.sheet_format.specs.Layout.{top}
 use Rattle.sheet_format.specs.Check.{chainCells}
 use Rattle.sheet_format.specs.SheetLaws.{count-chainCells, countField-below}
-use Rattle.lines.specs.Slice.{limit}
+use Rattle.lines.specs.Slice.{entryLimit}
 use Rattle.lines.specs.Matrices.{contents, end, Holds, Exceeds}
 use Rattle.lines.specs.declared.matrix.Matrix.{Matrix}
 use Rattle.lines.specs.declared.line.Effect.{Effect}
@@ -47,7 +47,7 @@ module _ {K : Sections} {p : ℕ} {q M : Matrix} {w₀ w : List ℤ} {j : ℕ} (
       place = j;
       line-below = e .line-below;
       place-below = l;
-      beyond = subst (λ (z : ℤ). limit < natAbs z) (product-kept (e .line)) (e .beyond);
+      beyond = subst (λ (z : ℤ). entryLimit < natAbs z) (product-kept (e .line)) (e .beyond);
       small = e .small;
     }
 

@@ -18,7 +18,7 @@ use Rattle.complexes.specs.Boundary.{sign}
 use Rattle.sheet_format.specs.Layout.{top}
 use Rattle.sheet_format.specs.Check.{sectionsOf, chainCells}
 use Rattle.limits.specs.Limits.{libraryLimit}
-use Rattle.lines.specs.Slice.{limit, at, lineAt, Small}
+use Rattle.lines.specs.Slice.{entryLimit, at, lineAt, Small}
 use Rattle.lines.specs.Matrices.{Held, contents, end}
 use Rattle.lines.specs.declared.matrix.Matrix.{Matrix}
 use Rattle.lines.proofs.Spans.{line-span, span-inside}
@@ -76,10 +76,10 @@ module _ {b : List ℕ} {p : ℕ} {q M : Matrix} {w₀ : List ℤ} {j : ℕ} {pl
         (λ t l. ap (λ (x : ℤ). x *ℤ sign t) (contents-kept q M w₀ w (given .before) (inv .so-far .off) i (getD places t 0)))
         ∙ product-entry b (given .sheet) p j (omega (arith, given .below, given .columns)) places (given .faces) (q .width) (given .rows) (contents q w₀) i
 
-    too-wide : i < M .lines → limit < natAbs (product (chainCells b) p q w₀ i j) → ColumnExceeds M w₀ (product (chainCells b) p q w₀) j w
+    too-wide : i < M .lines → entryLimit < natAbs (product (chainCells b) p q w₀ i j) → ColumnExceeds M w₀ (product (chainCells b) p q w₀) j w
     too-wide l h = record { same-length = inv .so-far .same-length; line = i; line-below = l; beyond = h; small = inv .so-far .small }
 
-    more : {place : ℕ} (v : ℤ) → Place M (length w₀) i j place → v ≡ product (chainCells b) p q w₀ i j → natAbs v ≤ limit
+    more : {place : ℕ} (v : ℤ) → Place M (length w₀) i j place → v ≡ product (chainCells b) p q w₀ i j → natAbs v ≤ entryLimit
         → Invariant b p q M w₀ j (set w place v) (i + 1)
     more v e v-is l = record {
       below = omega (arith, e .line);
@@ -173,26 +173,26 @@ module _ (c : tie.After-line-product Inv-loop μ-loop) where
   line-below : turn .before .loop .i < start .args .m .lines
   line-below = omega (arith, turn .loop-test .taken, given facing .lines)
 
-  exceeds : limit < natAbs (read w64 v)
+  exceeds : entryLimit < natAbs (read w64 v)
       → ColumnExceeds (start .args .m) (start .args .w .now) (product (chainCells (start .args .s .now)) (start .args .p) (start .args .q) (start .args .w .now)) (start .args .j)
       (turn .before .loop .w)
-  exceeds h = too-wide (given facing) (turn .before .loop .inv) line-below (subst (λ (z : ℤ). limit < natAbs z) (read-v ∙ v-is) h)
+  exceeds h = too-wide (given facing) (turn .before .loop .inv) line-below (subst (λ (z : ℤ). entryLimit < natAbs z) (read-v ∙ v-is) h)
 
 same-length : tie.Need-same-length Inv-loop μ-loop
 same-length c = turn (c .before) .before .loop .inv .so-far .same-length
 
 returns : tie.Need-returns Inv-loop μ-loop
-returns c = exceeds (c .before) (beyond-low limit (read w64 (v (c .before))) (c .if1 .taken))
+returns c = exceeds (c .before) (beyond-low entryLimit (read w64 (v (c .before))) (c .if1 .taken))
 
 same-length-2 : tie.Need-same-length-2 Inv-loop μ-loop
 same-length-2 c = turn (c .before .before) .before .loop .inv .so-far .same-length
 
 returns-2 : tie.Need-returns-2 Inv-loop μ-loop
-returns-2 c = exceeds (c .before .before) (beyond-high limit (read w64 (v (c .before .before))) (c .if2 .taken))
+returns-2 c = exceeds (c .before .before) (beyond-high entryLimit (read w64 (v (c .before .before))) (c .if2 .taken))
 
-stays : (c : tie.Else2 Inv-loop μ-loop) → natAbs (v (c .before .before)) ≤ limit
+stays : (c : tie.Else2 Inv-loop μ-loop) → natAbs (v (c .before .before)) ≤ entryLimit
 stays c =
-    subst (λ (z : ℤ). natAbs z ≤ limit) (read-v (c .before .before)) (within limit (read w64 (v (c .before .before))) (c .before .if1 .left) (c .if2 .left))
+    subst (λ (z : ℤ). natAbs z ≤ entryLimit) (read-v (c .before .before)) (within entryLimit (read w64 (v (c .before .before))) (c .before .if1 .left) (c .if2 .left))
 
 module _ (c : tie.After-line2 Inv-loop μ-loop) where
   abbrev made : tie.After-line-product Inv-loop μ-loop

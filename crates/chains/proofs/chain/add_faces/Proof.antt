@@ -20,7 +20,7 @@ use Rattle.complexes.specs.Boundary.{sign}
 use Rattle.sheet_format.specs.Layout.{top}
 use Rattle.sheet_format.specs.Check.{sectionsOf, chainCells}
 use Rattle.limits.specs.Limits.{libraryLimit, coefficientLimit}
-use Rattle.lines.specs.Slice.{limit}
+use Rattle.lines.specs.Slice.{entryLimit}
 use Rattle.words.specs.Read.{read, sfits-below, read-wide}
 use Rattle.words.specs.Sum.{term-fits, sum-fits, sum-is}
 use Rattle.faces.specs.Face.{IsFace}
@@ -83,7 +83,7 @@ module _ {b : List ℕ} {p j : ℕ} {x : ℤ} {sums₀ : List ℤ} {t : ℕ} {su
   read-small : natAbs (read w64 old) ≤ 2 ^ 33
   read-small = rw read-old old-small
 
-  factor-small : natAbs x ≤ limit
+  factor-small : natAbs x ≤ entryLimit
   factor-small = omega (arith, given .factor)
 
   term-word : SFits w64 (read w64 x *ℤ read w64 r)

@@ -11,7 +11,7 @@ use Rattle.integers.specs.Ring.{zero-add}
 use Rattle.integers.specs.Order.{natAbs-neg}
 use mir.Val.{SFits}
 use lib.IntN.{ℤ, pos, negℤ, natAbs, _-ℤ_}
-use Rattle.lines.specs.Slice.{limit, at, LineSet}
+use Rattle.lines.specs.Slice.{entryLimit, at, LineSet}
 use Rattle.lines.proofs.Store.{lineSet-none, lineSet-more, lineSet-next}
 use Rattle.words.specs.Read.{read, entry-fits, read-entry}
 use Rattle.lines.proofs.line.negate.Statement.{statement}
@@ -32,7 +32,7 @@ module _ {w₀ : List ℤ} {start width t : ℕ} {w : List ℤ} (inv : Invariant
       rw (read-entry (at w (start + t)) (inv .so-far .small .bound (start + t)), lineSet-next w₀ w start t (negated w₀ start) (omega arith) (inv .so-far))
       (zero-add (negated w₀ start t))
 
-  opposite-small : t < width → natAbs (negated w₀ start t) ≤ limit
+  opposite-small : t < width → natAbs (negated w₀ start t) ≤ entryLimit
   opposite-small more =
       rw (natAbs-neg (at w₀ (start + t)), ← lineSet-next w₀ w start t (negated w₀ start) (omega arith) (inv .so-far)) (inv .so-far .small .bound (start + t))
 

@@ -9,7 +9,7 @@ use lib.ListN.{set}
 use lib.IntN.{ℤ, natAbs, _-ℤ_, _*ℤ_}
 use mir.Syntax.{w32, w64}
 use mir.Val.{SFits, toZ}
-use Rattle.lines.specs.Slice.{limit, at, LineSet, Beyond, difference}
+use Rattle.lines.specs.Slice.{entryLimit, at, LineSet, Beyond, difference}
 use mir.Facts.{sfits-lit}
 use Rattle.lines.proofs.Store.{lineSet-more}
 use Rattle.lines.proofs.Blocks.{Partly, begun, ended}
@@ -22,10 +22,10 @@ use Rattle.lines.proofs.line.subtract_places.Tie as tie
 -- ---- a turn of the loop
 
 module _ {w₀ : List ℤ} {target source width : ℕ} {q : ℤ} {t : ℕ} {w : List ℤ} (inv : Partly w₀ target source width q t w) (more : t < width) where
-  target-small : natAbs (at w (target + t)) ≤ limit
+  target-small : natAbs (at w (target + t)) ≤ entryLimit
   target-small = inv .so-far .small .bound (target + t)
 
-  source-small : natAbs (at w (source + t)) ≤ limit
+  source-small : natAbs (at w (source + t)) ≤ entryLimit
   source-small = inv .so-far .small .bound (source + t)
 
   target-same : at w (target + t) ≡ at w₀ (target + t)
@@ -55,16 +55,16 @@ module _ {w₀ : List ℤ} {target source width : ℕ} {q : ℤ} {t : ℕ} {w : 
       read-less (at w (target + t)) q (at w (source + t)) target-small (inv .factor) source-small
       ∙ rw (target-same, source-same)
 
-  too-wide : limit < natAbs computed → Beyond w₀ width (difference w₀ target source q) w
+  too-wide : entryLimit < natAbs computed → Beyond w₀ width (difference w₀ target source q) w
   too-wide l = record {
     same-length = inv .so-far .same-length;
     place = t;
     below = more;
-    beyond = subst (λ (z : ℤ). limit < natAbs z) computed-is l;
+    beyond = subst (λ (z : ℤ). entryLimit < natAbs z) computed-is l;
     small = inv .so-far .small;
   }
 
-  again : natAbs computed ≤ limit → Partly w₀ target source width q (t + 1) (set w (target + t) (read w32 computed))
+  again : natAbs computed ≤ entryLimit → Partly w₀ target source width q (t + 1) (set w (target + t) (read w32 computed))
   again l = record {
     below = omega arith;
     target-inside = inv .target-inside;
@@ -73,7 +73,7 @@ module _ {w₀ : List ℤ} {target source width : ℕ} {q : ℤ} {t : ℕ} {w : 
     factor = inv .factor;
     so-far = subst (λ (z : ℤ). LineSet w₀ target (t + 1) (difference w₀ target source q) (set w (target + t) z))
         (sym computed-is ∙ sym (read-entry computed l))
-        (lineSet-more w₀ w target t (difference w₀ target source q) (omega arith) (inv .so-far) (subst (λ (z : ℤ). natAbs z ≤ limit) computed-is l));
+        (lineSet-more w₀ w target t (difference w₀ target source q) (omega arith) (inv .so-far) (subst (λ (z : ℤ). natAbs z ≤ entryLimit) computed-is l));
   }
 
 abbrev Inv-loop : tie.InvT-loop
@@ -107,7 +107,7 @@ returns : tie.Need-returns Inv-loop μ-loop
 returns c =
     let start = c .before .before .before .before .before in let inv = c .before .before .before .before .loop .inv in let more = c .before .before .before .loop-test .taken in
     subst (λ (k : ℤ). Beyond (start .args .w .now) (start .args .width) (difference (start .args .w .now) (start .args .target) (start .args .source) k) (c .before .before .before .before .loop .w))
-    (read-wide (start .args .q) (start .pre .1 .1 .1)) (too-wide inv more (beyond-low limit (computed inv more) (c .if1 .taken)))
+    (read-wide (start .args .q) (start .pre .1 .1 .1)) (too-wide inv more (beyond-low entryLimit (computed inv more) (c .if1 .taken)))
 
 same-length-2 : tie.Need-same-length-2 Inv-loop μ-loop
 same-length-2 c = c .before .before .before .before .before .loop .inv .so-far .same-length
@@ -116,10 +116,10 @@ returns-2 : tie.Need-returns-2 Inv-loop μ-loop
 returns-2 c =
     let start = c .before .before .before .before .before .before in let inv = c .before .before .before .before .before .loop .inv in let more = c .before .before .before .before .loop-test .taken in
     subst (λ (k : ℤ). Beyond (start .args .w .now) (start .args .width) (difference (start .args .w .now) (start .args .target) (start .args .source) k) (c .before .before .before .before .before .loop .w))
-    (read-wide (start .args .q) (start .pre .1 .1 .1)) (too-wide inv more (beyond-high limit (computed inv more) (c .if2 .taken)))
+    (read-wide (start .args .q) (start .pre .1 .1 .1)) (too-wide inv more (beyond-high entryLimit (computed inv more) (c .if2 .taken)))
 
-stays : (c : tie.Else2 Inv-loop μ-loop) → natAbs (computed (c .before .before .before .before .before .loop .inv) (c .before .before .before .before .loop-test .taken)) ≤ limit
-stays c = within limit (computed (c .before .before .before .before .before .loop .inv) (c .before .before .before .before .loop-test .taken)) (c .before .if1 .left) (c .if2 .left)
+stays : (c : tie.Else2 Inv-loop μ-loop) → natAbs (computed (c .before .before .before .before .before .loop .inv) (c .before .before .before .before .loop-test .taken)) ≤ entryLimit
+stays c = within entryLimit (computed (c .before .before .before .before .before .loop .inv) (c .before .before .before .before .loop-test .taken)) (c .before .if1 .left) (c .if2 .left)
 
 cast-w : tie.Need-cast-w Inv-loop μ-loop
 cast-w c = entry-fits (computed (c .before .before .before .before .before .loop .inv) (c .before .before .before .before .loop-test .taken)) (stays c)

@@ -3,7 +3,7 @@ use mathlib.Core.Path.{_≡_, sym, ap, subst, _∙_}
 use Prim.Native.Nat.{_+_, _≤_}
 use lib.IntN.{ℤ, pos, natAbs}
 use mir.Facts.{toZ-ofZ}
-use Rattle.lines.specs.Slice.{limit, lineAt}
+use Rattle.lines.specs.Slice.{entryLimit, lineAt}
 use Rattle.lines.specs.Matrices.{contents}
 use Rattle.operations.proofs.Choosing.{passed, stayed, took-first, took-less}
 use Rattle.operations.proofs.pivot.better.Statement.{statement}
@@ -15,7 +15,7 @@ entry-requires c κs = (c .pre .0, (c .pre .1 .1 .0, c .pre .1 .1 .1))
 absolute-requires : tie.Need-absolute-requires
 absolute-requires c κs =
     let s = c .before in
-    subst (λ (z : ℤ). natAbs z ≤ limit) (sym (toZ-ofZ (record { sfits = c .entry .ok }) ∙ c .entry .ensures))
+    subst (λ (z : ℤ). natAbs z ≤ entryLimit) (sym (toZ-ofZ (record { sfits = c .entry .ok }) ∙ c .entry .ensures))
     (s .pre .1 .0 .bound (lineAt (s .args .m .at) (s .args .m .width) (s .args .i) + s .args .j))
 
 -- the size is the entry's

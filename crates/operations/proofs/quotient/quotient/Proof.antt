@@ -4,7 +4,7 @@ use mathlib.Core.Path.{sym, ap, subst, _∙_}
 use Prim.Native.Nat.{_≤_, zero-le}
 use lib.IntN.{ℤ, natAbs}
 use mir.Facts.{toZ-ofZ}
-use Rattle.lines.specs.Slice.{limit}
+use Rattle.lines.specs.Slice.{entryLimit}
 use Rattle.integers.specs.Division.{floor}
 use Rattle.integers.specs.Floor.{floor-zero, floor-one}
 use Rattle.words.specs.Read.{of-bits, positive-bits}
@@ -22,7 +22,7 @@ returns-2 c =
     let s = c .before .before in
     let same = toZ-ofZ (s .fits .x) in (
       same ∙ sym (ap (λ (d : ℤ). floor (s .args .x) d) (of-bits (s .fits .d) (c .if2 .taken)) ∙ floor-one (s .args .x)),
-      subst (λ (x : ℤ). natAbs x ≤ limit) (sym same) (s .pre .1),
+      subst (λ (x : ℤ). natAbs x ≤ entryLimit) (sym same) (s .pre .1),
     )
 
 rem-if3 : tie.Need-rem-if3

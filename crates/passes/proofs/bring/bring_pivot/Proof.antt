@@ -5,7 +5,7 @@ use lib.ListN.{length}
 use Rattle.matrices.specs.Operation.{swap, negate}
 use Rattle.reduction_steps.specs.State.{made, onRow}
 use Rattle.reduction_steps.specs.Step.{positive}
-use Rattle.lines.specs.Slice.{limit}
+use Rattle.lines.specs.Slice.{entryLimit}
 use Rattle.operations.specs.Laid.{Laid, sizesOf, stateOf}
 use Rattle.passes.specs.Answer.{bringOf}
 use Rattle.passes.proofs.States.{laid-kept, held-matrix, operated-done, operated-wide}
@@ -21,7 +21,7 @@ module _ (c : tie.After-enum-told) where
   first = c .before .before .before .before .before
 
   rows-swapped :
-      onRow limit (sizesOf (first .args .layout)) (swap (first .args .i) (first .args .k)) (stateOf (first .args .layout) (first .args .w .now))
+      onRow entryLimit (sizesOf (first .args .layout)) (swap (first .args .i) (first .args .k)) (stateOf (first .args .layout) (first .args .w .now))
       ≡ made (stateOf (first .args .layout) (c .before .before .before .swap-rows .last .1 .0))
   rows-swapped = operated-done (c .before .before .before .swap-rows .ensures) (c .enum-told .given .1)
 
@@ -36,9 +36,9 @@ module _ (c : tie.After-enum-told3) where
 
   both-swapped :
       bringOf (first rows .args .layout) (first rows .args .k) (first rows .args .i) (first rows .args .j) (first rows .args .w .now)
-      ≡ positive limit (sizesOf (first rows .args .layout)) (first rows .args .k) (stateOf (first rows .args .layout) (c .before .before .before .swap-columns .last .1 .0))
+      ≡ positive entryLimit (sizesOf (first rows .args .layout)) (first rows .args .k) (stateOf (first rows .args .layout) (c .before .before .before .swap-columns .last .1 .0))
   both-swapped =
-      bring-swapped limit (sizesOf (first rows .args .layout)) (first rows .args .k) (first rows .args .i) (first rows .args .j) (stateOf (first rows .args .layout) (first rows .args .w .now))
+      bring-swapped entryLimit (sizesOf (first rows .args .layout)) (first rows .args .k) (first rows .args .i) (first rows .args .j) (stateOf (first rows .args .layout) (first rows .args .w .now))
       (stateOf (first rows .args .layout) (rows .before .before .before .swap-rows .last .1 .0))
       (stateOf (first rows .args .layout) (c .before .before .before .swap-columns .last .1 .0))
       (rows-swapped rows) (operated-done (c .before .before .before .swap-columns .ensures) (c .enum-told3 .given .1))
@@ -73,7 +73,7 @@ returns c =
     let start = c .before .before .before .before .before .before .before .before in
     let called = c .before .before .before .before .before .before .swap-rows in
     pass-refused (called .last .1 .0)
-    (bring-rows-wide limit (sizesOf (start .args .layout)) (start .args .k) (start .args .i) (start .args .j) (stateOf (start .args .layout) (start .args .w .now))
+    (bring-rows-wide entryLimit (sizesOf (start .args .layout)) (start .args .k) (start .args .i) (start .args .j) (stateOf (start .args .layout) (start .args .w .now))
     (operated-wide (called .ensures) (c .before .before .before .enum-told2 .given .1)))
     (c .before .clear .ensures) (called .kept .1 .0)
 
@@ -104,7 +104,7 @@ returns-2 c =
     let rows = c .before .before .before .before .before .before .before .before in
     let called = c .before .before .before .before .before .before .swap-columns in
     pass-refused (called .last .1 .0)
-    (bring-columns-wide limit (sizesOf (first rows .args .layout)) (first rows .args .k) (first rows .args .i) (first rows .args .j)
+    (bring-columns-wide entryLimit (sizesOf (first rows .args .layout)) (first rows .args .k) (first rows .args .i) (first rows .args .j)
     (stateOf (first rows .args .layout) (first rows .args .w .now))
     (stateOf (first rows .args .layout) (rows .before .before .before .swap-rows .last .1 .0))
     (rows-swapped rows) (operated-wide (called .ensures) (c .before .before .before .enum-told4 .given .1)))
@@ -137,10 +137,10 @@ module _ (c : tie.After-on-rows) where
 
   negated :
       bringOf (first (rows both) .args .layout) (first (rows both) .args .k) (first (rows both) .args .i) (first (rows both) .args .j) (first (rows both) .args .w .now)
-      ≡ onRow limit (sizesOf (first (rows both) .args .layout)) (negate (first (rows both) .args .k)) (stateOf (first (rows both) .args .layout) (both .before .before .before .swap-columns .last .1 .0))
+      ≡ onRow entryLimit (sizesOf (first (rows both) .args .layout)) (negate (first (rows both) .args .k)) (stateOf (first (rows both) .args .layout) (both .before .before .before .swap-columns .last .1 .0))
   negated =
       both-swapped both
-      ∙ positive-taken limit (sizesOf (first (rows both) .args .layout)) (first (rows both) .args .layout) (first (rows both) .args .k) (both .before .before .before .swap-columns .last .1 .0)
+      ∙ positive-taken entryLimit (sizesOf (first (rows both) .args .layout)) (first (rows both) .args .layout) (first (rows both) .args .k) (both .before .before .before .swap-columns .last .1 .0)
       (both .before .before .before .swap-columns .ensures .small) (first (rows both) .pre .1 .1 .0) (first (rows both) .pre .1 .1 .1) (c .before .before .before .entry .ensures) (c .before .before .if1 .taken)
 
 returns-3 : tie.Need-returns-3
@@ -171,7 +171,7 @@ returns-5 c =
     record {
       outcome =
           both-swapped swapped
-          ∙ positive-left limit (sizesOf (start .args .layout)) (start .args .layout) (start .args .k) w (swapped .before .before .before .swap-columns .ensures .small)
+          ∙ positive-left entryLimit (sizesOf (start .args .layout)) (start .args .layout) (start .args .k) w (swapped .before .before .before .swap-columns .ensures .small)
           (start .pre .1 .1 .0) (start .pre .1 .1 .1) (c .before .entry .ensures) (c .if1 .left);
       kept = record { same-length = kept-both swapped; small = swapped .before .before .before .swap-columns .ensures .small };
     }

@@ -18,7 +18,7 @@ use Rattle.matrices.specs.SumLaws.{sum-ext}
 use Rattle.matrices.specs.Vector.{apply}
 use Rattle.limits.specs.Limits.{libraryLimit, coefficientLimit}
 use Rattle.reduction_steps.specs.Table.{entry}
-use Rattle.lines.specs.Slice.{limit, at, Small}
+use Rattle.lines.specs.Slice.{entryLimit, at, Small}
 use Rattle.operations.specs.Laid.{linesOf}
 use Rattle.words.specs.Read.{read, sfits-below, entry-fits, cast-fits, cast-is}
 use Rattle.lines.proofs.Spans.{line-span, span-inside}
@@ -28,7 +28,7 @@ use Rattle.writers.proofs.coordinates.row_times_chain.Tie as tie
 
 -- the greatest absolute value of a product
 abbrev product-limit : ℕ
-product-limit = limit * coefficientLimit
+product-limit = entryLimit * coefficientLimit
 
 -- ---- one product, and the total with it
 
@@ -39,7 +39,7 @@ product x y = read w64 (read w32 x) *ℤ read w64 (read w32 y)
 abbrev raised : ℤ → ℤ → ℤ → ℤ
 raised total x y = total +ℤ read w64 (product x y)
 
-module _ (x y : ℤ) (x-small : natAbs x ≤ limit) (y-small : natAbs y ≤ coefficientLimit) where
+module _ (x y : ℤ) (x-small : natAbs x ≤ entryLimit) (y-small : natAbs y ≤ coefficientLimit) where
   product-bound : natAbs (x *ℤ y) ≤ product-limit
   product-bound = rw natAbs-mul (NatL.mul-le-mul x-small y-small)
 

@@ -4,7 +4,7 @@ use Prim.Native.Nat.{_≤_}
 use lib.IntN.{ℤ, natAbs}
 use borrow.Author.Needs.{needs}
 use Rattle.matrices.specs.Operation.{subtract, inverse}
-use Rattle.lines.specs.Slice.{limit}
+use Rattle.lines.specs.Slice.{entryLimit}
 use Rattle.lines.specs.Operations.{operationOf, FactorWithin}
 use Rattle.lines.specs.declared.operation.Operation.{Operation}
 use Rattle.words.specs.Negate.{negated-fits, negated-read}
@@ -12,7 +12,7 @@ use Rattle.lines.proofs.operation.Operation.inverse.Statement.{statemen
 use Rattle.lines.proofs.operation.Operation.inverse.Tie as tie
 
 -- the factor of a subtraction
-factor : (c : tie.After-self) → natAbs (c .self .given .0 .1 .1 .0) ≤ limit
+factor : (c : tie.After-self) → natAbs (c .self .given .0 .1 .1 .0) ≤ entryLimit
 factor c = subst (λ (op : Operation). FactorWithin (operationOf op)) (c .self .given .1) (c .before .before .pre)
 
 sub-t9 : tie.Need-sub-t9
