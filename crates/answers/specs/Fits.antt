@@ -1,13 +1,12 @@
 -- Every number of a report (report-word) and of a coordinate list (coordinates-word) fits 64 bits, after two reductions within the entry limit.
-use mathlib.Core.Path.{_≡_, refl, subst}
+use mathlib.Core.Path.{_≡_}
 use mathlib.Core.Bool.{true}
 use mathlib.Core.List.{List, [], _∷_, _++_, map}
-use Prim.Native.Nat.{ℕ, zero, suc, _+_, _*_, _≤_, zero-le}
+use Prim.Native.Nat.{ℕ, zero, suc, _*_, _≤_, zero-le}
 use native.Mathlib.Nat.{mul-le-mul, mul-le-mul-right, le-trans}
 use native.Mathlib.Omega.{arith}
-use lib.ListN.{getD}
 use lib.IntN.{ℤ, pos, negsuc, natAbs, _*ℤ_}
-use lib.Signed.{_≤ℤ_, mag}
+use lib.Signed.{_≤ℤ_}
 use Rattle.integers.specs.Order.{natAbs-mul, lt-pos}
 use Rattle.integers.specs.Division.{modulo}
 use Rattle.integers.specs.Floor.{modulo-zero, natAbs-modulo}

@@ -1,8 +1,6 @@
 // The place of a face, by halving.
-ghost use Prim.Native.Nat.{ℕ, suc, _+_, _*_, _^_, _≤_, _<_};
-ghost use mathlib.Core.Path.{_≡_};
-ghost use mathlib.Core.Bool.{true};
-ghost use Rattle.complexes.specs.Cell.{without, precedes};
+ghost use Prim.Native.Nat.{suc, _+_, _*_, _^_, _≤_, _<_};
+ghost use Rattle.complexes.specs.Cell.{without};
 ghost use Rattle.sheet_format.specs.Layout.{top};
 ghost use Rattle.sheet_format.specs.Check.{cellOf, cellsOf};
 ghost use Rattle.cells.specs.Find.{Finds, Rising};

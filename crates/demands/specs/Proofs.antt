@@ -1,6 +1,5 @@
 -- The owner's demands: what `Claims` states, proved. The claims speak of the cells of the sheet, the calls of `chainCells`, which are these.
 use mathlib.Core.Path.{_≡_, refl, sym, _∙_, ap, ap₂, subst}
-use mathlib.Core.Logic.{_↔_}
 use mathlib.Core.List.{List}
 use Prim.Native.Nat.{ℕ, _+_, _<_}
 use native.Mathlib.Omega.{arith}

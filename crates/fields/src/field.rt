@@ -1,5 +1,4 @@
 // The bytes, fields, counts and section starts of a sheet. Each reads 0 past the end.
-ghost use mathlib.Core.Path.{_≡_};
 ghost use Prim.Native.Nat.{suc, _+_, _*_, _^_, _≤_, _<_};
 ghost use lib.ListN.{getD};
 ghost use Rattle.sheet_format.specs.Layout.{top};

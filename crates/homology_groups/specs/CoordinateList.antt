@@ -9,7 +9,7 @@ use mathlib.Core.Logic.{_↔_}
 use mathlib.Core.List.{[], _∷_}
 use lib.IntN.{ℤ, pos, negsuc, _-ℤ_, _*ℤ_}
 use lib.Signed.{_≤ℤ_}
-use Rattle.integers.specs.Ring.{mul-zero, add-zero, sub-self}
+use Rattle.integers.specs.Ring.{sub-self}
 use Rattle.integers.specs.Order.{lt-pos, eq-of-sub}
 use Rattle.integers.specs.Solve.{solve, terms}
 use Rattle.integers.specs.Divides.{zero-dvd, dvd-zero}

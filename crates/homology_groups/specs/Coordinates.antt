@@ -12,7 +12,7 @@ use Rattle.matrices.specs.Inverse.{InversePair, inverse-pair-sym}
 use Rattle.matrices.specs.Vector.{apply}
 use Rattle.matrices.specs.VectorLaws.{apply-mul, apply-identity, apply-sub}
 use Rattle.homology_groups.specs.Chain.{Chain, Same, Cycle, Boundary}
-use Rattle.homology_groups.specs.ChainLaws.{same-sym, same-trans, apply-same, same-apply, apply-eq, apply-unit, eq-of-apply, inverse-apply, cycle-same, cycle-sub, boundary-cycle}
+use Rattle.homology_groups.specs.ChainLaws.{same-sym, same-trans, same-apply, apply-eq, apply-unit, eq-of-apply, inverse-apply, cycle-same, cycle-sub, boundary-cycle}
 use Rattle.homology_groups.specs.SmithChain.{smith-boundary-iff}
 use Rattle.homology_groups.specs.Kernel.{kernel-left-inverse, kernel-cycle-iff}
 use Rattle.homology_groups.specs.Reduced.{kernelBasis, kernelRows, Reduced}

@@ -1,9 +1,9 @@
 // Numbers as bytes, low byte first.
 ghost use mathlib.Core.Path.{_≡_};
 ghost use mathlib.Core.List.{_++_};
-ghost use Prim.Native.Nat.{ℕ, _+_, _*_, _≤_, _<_, min};
+ghost use Prim.Native.Nat.{_+_, _*_, _≤_, _<_, min};
 ghost use lib.ListN.{length, take, drop, replicate};
-ghost use lib.IntN.{ℤ, pos};
+ghost use lib.IntN.{pos};
 ghost use Rattle.limits.specs.Limits.{hostLimit};
 ghost use Rattle.reports.specs.Host.{numberBytes, numbersBytes, coefficientAt};
 ghost use Rattle.little_endian.specs.Bytes.{SameBits, ReadsChain};

@@ -1,7 +1,7 @@
 -- The texts of the dimensions one behind the other: `dimensionsText-suc`, one dimension more; `Printed`, the loop's invariant, with `printed-none` and
 -- `printed-more`.
 use mathlib.Core.Path.{_≡_, refl, sym, _∙_, ap, subst}
-use mathlib.Core.List.{List, [], _++_, append-nil, append-assoc}
+use mathlib.Core.List.{List, _++_, append-nil, append-assoc}
 use Prim.Native.Nat.{ℕ, zero, suc, _+_, _*_, _≤_, zero-le}
 use native.Mathlib.Numerals.{add-one}
 use native.Mathlib.Omega.{arith}

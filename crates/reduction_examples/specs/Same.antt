@@ -1,10 +1,7 @@
 -- A test that two outcomes of a reduction are the same: `sameMachine`, with `sameMachine-eq`.
 use mathlib.Core.Bool.{Bool, true, false, _&&_}
-use mathlib.Core.List.{List, [], _∷_}
-use mathlib.Core.Path.{_≡_, refl, ap, ap₂}
-use Prim.Native.Nat.{ℕ}
+use mathlib.Core.Path.{_≡_, refl, ap₂}
 use lib.Dec.{T, eqb, eqb→eq}
-use lib.IntN.{ℤ, pos, negsuc}
 use Rattle.lists.specs.Same.{sameNumber, sameList, both, sameNumber-eq, sameList-eq}
 use Rattle.reduction_steps.specs.Table.{Table}
 use Rattle.reduction_steps.specs.State.{State}

@@ -8,7 +8,7 @@ use native.Mathlib.Nat as NatL
 use native.Mathlib.Decide.{decLt}
 use native.Mathlib.Omega.{arith}
 use lib.Dec.{eqb, ltb}
-use lib.IntN.{ℤ, pos, natAbs}
+use lib.IntN.{pos, natAbs}
 use borrow.Author.Tests.{ltb-true, ltb-false, eqb-true, eqb-false}
 use Rattle.integers.specs.Order.{natAbs-zero}
 use Rattle.matrices.specs.Matrix.{Matrix}

@@ -1,16 +1,16 @@
 -- The steps a to e of document 01, "The reduction", as a machine: one step for each letter.
 use mathlib.Core.Bool.{Bool, true, false, cond, not, _||_}
 use mathlib.Core.Path.{_≡_}
-use Prim.Native.Nat.{ℕ, zero, suc, _+_, _-_, _*_, min}
+use Prim.Native.Nat.{ℕ, zero, suc, _-_, _*_, min}
 use lib.Dec.{eqb}
-use lib.IntN.{ℤ, pos, negsuc, natAbs}
+use lib.IntN.{ℤ, negsuc, natAbs}
 use lib.Signed.{nonNeg}
 use Rattle.integers.specs.Division.{floor, divides}
 use Rattle.matrices.specs.Matrix.{Matrix}
-use Rattle.matrices.specs.Operation.{Operation, subtract, swap, negate}
+use Rattle.matrices.specs.Operation.{subtract, swap, negate}
 use Rattle.reduction_steps.specs.Table.{entry}
 use Rattle.reduction_steps.specs.State.{Sizes, State, Outcome, tooWide, made, andThen, onRow, onColumn}
-use Rattle.reduction_steps.specs.Pivot.{Rule, Choice, none, place}
+use Rattle.reduction_steps.specs.Pivot.{Rule, none, place}
 
 -- the letter that comes next; b belongs to a
 pub data Letter : Type 0 where

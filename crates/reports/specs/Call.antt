@@ -1,6 +1,6 @@
 -- What the report call and the coordinate call answer, and what they leave in every slice lent to them: document 01, "The report and the
 -- coordinates". Each is a function of what went in.
-use mathlib.Core.Bool.{Bool, true, false, not, cond, _||_}
+use mathlib.Core.Bool.{Bool, not, _||_}
 use mathlib.Core.List.{List, [], _∷_, _++_}
 use Prim.Native.Nat.{ℕ, zero, suc, _+_, _*_, max}
 use lib.Dec.{eqb, ltb}

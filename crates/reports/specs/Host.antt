@@ -1,10 +1,10 @@
 -- The host calls: document 01, "The report and the coordinates". They carry numbers as bytes, low byte first, have their own work arrays, and
 -- answer 0 for done.
-use mathlib.Core.Bool.{Bool, cond}
+use mathlib.Core.Bool.{cond}
 use mathlib.Core.List.{List, [], _∷_, _++_}
 use Prim.Native.Nat.{ℕ, zero, suc, _+_, _-_, _*_, _/_, _%_, _^_}
 use lib.Dec.{eqb, ltb}
-use lib.ListN.{length, getD, take, drop, replicate}
+use lib.ListN.{length, getD, take, drop}
 use lib.IntN.{ℤ, pos, negsuc}
 use Rattle.lists.specs.Tabulate.{tabulate}
 use Rattle.complexes.specs.Complex.{count}

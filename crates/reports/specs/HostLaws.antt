@@ -1,13 +1,11 @@
 -- Numbers as bytes: length-numberBytes, length-numbersBytes, numbersBytes-append. The numbers of 64 bits can be read back from the bytes:
 -- signedOf-numberBytes, numberAt-numbersBytes; so numberBytes-injective and numbersBytes-injective.
 use mathlib.Core.Path.{_≡_, refl, sym, _∙_, ap}
-use mathlib.Core.Bool.{cond}
 use mathlib.Core.List.{List, [], _∷_, _++_, append-assoc, append-nil}
 use Prim.Native.Nat.{ℕ, zero, suc, _+_, _-_, _*_, _/_, _^_, _<_}
 use native.Mathlib.Nat.{pow-succ'}
 use native.Mathlib.Omega.{arith}
 use borrow.Author.Tests.{lt-ltb, le-ltb}
-use lib.Dec.{ltb}
 use lib.ListN.{length, getD, take, drop, length-append}
 use lib.Seq.{take-at, drop-append-add, ext-getD}
 use lib.IntN.{ℤ, pos, negsuc}

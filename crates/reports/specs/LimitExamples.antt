@@ -1,6 +1,6 @@
 -- The four limits as numbers, each at its two sides: document 01, "The sheet" and "The report and the coordinates".
 --     limit-examples    48 and 49, 256 and 257 cells; entries to 1048575 and 1048576; coefficients to 32767 and 32768, either way from zero
-use mathlib.Core.Bool.{Bool, not, _&&_}
+use mathlib.Core.Bool.{Bool, not}
 use mathlib.Core.List.{List, [], _∷_}
 use Prim.Native.Nat.{ℕ}
 use lib.Dec.{T, eqb}

@@ -1,9 +1,8 @@
 -- The two reductions of a dimension p: document 01, "The reduction".
-use mathlib.Core.Bool.{Bool, true, false}
+use mathlib.Core.Bool.{true, false}
 use Prim.Native.Nat.{ℕ, suc, _-_}
-use lib.ListN.{length, drop}
-use lib.IntN.{ℤ, pos}
-use Rattle.matrices.specs.Matrix.{Matrix, mul, identity, null}
+use lib.ListN.{drop}
+use Rattle.matrices.specs.Matrix.{mul, identity, null}
 use Rattle.complexes.specs.Complex.{Sections, count}
 use Rattle.complexes.specs.Boundary.{countBelow, boundary}
 use Rattle.reduction_steps.specs.Table.{Table, entry, table, tableWithin}

@@ -1,10 +1,10 @@
 -- The report and the coordinates that the two reductions give: document 01, "The report and the coordinates".
-use mathlib.Core.Bool.{Bool, cond}
+use mathlib.Core.Bool.{cond}
 use mathlib.Core.List.{List, [], _∷_, _++_, map}
 use Prim.Native.Nat.{ℕ, zero, suc, _-_}
 use lib.Dec.{eqb}
 use lib.ListN.{length, getD}
-use lib.IntN.{ℤ, pos, natAbs, _*ℤ_}
+use lib.IntN.{ℤ, pos, natAbs}
 use Rattle.integers.specs.Division.{modulo}
 use Rattle.lists.specs.Tabulate.{tabulate}
 use Rattle.matrices.specs.Vector.{apply}

@@ -1,5 +1,5 @@
 -- What the bytes of a sheet hold, and the refusals 1 to 7: document 01, "The sheet" and "The report and the coordinates". Everything computes.
-use mathlib.Core.Bool.{Bool, true, false, not, cond, _||_}
+use mathlib.Core.Bool.{Bool, false, not, cond, _||_}
 use mathlib.Core.List.{List, [], _∷_}
 use Prim.Native.Nat.{ℕ, zero, suc, _+_, _*_, pred}
 use lib.Dec.{eqb, ltb, leb}

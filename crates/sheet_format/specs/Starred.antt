@@ -1,7 +1,7 @@
 -- The starred sheets of document 01, "Sheets to try", as far as reading goes: which are accepted, as the layout of which cells, and which
 -- number the others get; with them the sheets of `OrderCases`. One joint theorem over a table, at the limits of the library and of the program.
 --     starred-sheets    every line of the table is right
-use mathlib.Core.Bool.{Bool, true, not, _&&_, _||_}
+use mathlib.Core.Bool.{Bool, not, _&&_, _||_}
 use mathlib.Core.List.{List, [], _∷_}
 use Prim.Native.Nat.{ℕ}
 use lib.Dec.{T, eqb}

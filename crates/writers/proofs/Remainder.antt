@@ -6,7 +6,7 @@ use lib.IntN.{ℤ, pos, _+ℤ_, _-ℤ_, _*ℤ_}
 use lib.Signed.{_≤ℤ_, _<ℤ_, quotZ, remZ}
 use Rattle.integers.specs.Solve.{solve, terms}
 use Rattle.integers.specs.Floor.{modulo-is}
-use Rattle.integers.specs.Division.{floor, modulo}
+use Rattle.integers.specs.Division.{modulo}
 use Rattle.integers.specs.Truncate.{quotZ-remZ, floor-quotZ, floor-quotZ-pred}
 
 module _ (a d : ℤ) (positive : pos 0 <ℤ d) where
