@@ -22,7 +22,7 @@ static void load(const char *path) {
 }
 
 /* The file's name without folder and ending. */
-static const char *name_of(const char *path) {
+static inline const char *name_of(const char *path) {
     static char name[64];
     const char *last = strrchr(path, '/');
     snprintf(name, sizeof name, "%s", last ? last + 1 : path);
@@ -37,7 +37,7 @@ static unsigned field(size_t i) { return sheet[i] + 256u * sheet[i + 1]; }
 static unsigned count(int p) { return p < 0 || p > 3 ? 0 : field(4 * (size_t)p); }
 
 /* The greatest count of a dimension. */
-static unsigned cells(void) {
+static inline unsigned cells(void) {
     unsigned most = 0;
     for (int p = 0; p < 4; p++)
         most = count(p) > most ? count(p) : most;
