@@ -2,7 +2,7 @@
 -- Written by tests/make_reduction_examples.py: the expected outcomes are those of the Python model of document 01, tests/model/reduction.py.
 use mathlib.Core.List.{List, [], _∷_}
 use lib.IntN.{pos}
-use Rattle.reduction_steps.specs.Step.{done}
+use Rattle.reduction_steps.specs.Step.{done, wide}
 use Rattle.reduction_examples.specs.Case.{Case, minus, withAll, withRows, withColumns, fromIdentities}
 
 abbrev pub steps : List Case
