@@ -21,7 +21,7 @@ use Rattle.reports.specs.Report.{Counts, countsOf}
 use Rattle.reports.specs.ReductionsLaws.{tooWide≢reduced}
 use Rattle.reports.specs.Call.{done, written, finished, callChecks, reductionsOf}
 use Rattle.limits.specs.Limits.{entryLimit}
-use Rattle.reports.specs.CallLaws.{call, ReducedWith, call-done, call-output}
+use Rattle.reports.specs.CallLaws.{call, numbersLeft, ReducedWith, call-done, call-output}
 use Rattle.reports.specs.WrittenLaws.{length-written, getD-written-past}
 use Rattle.reports.specs.RefusalLaws.{callChecks-zero}
 use Rattle.answers.specs.Wide.{GoesWide}
@@ -68,26 +68,26 @@ told-done (suc k) R e = absurd (omega arith)
 
 -- ---- the library's call
 
-module _ (numbers : ℕ → ℕ → State → List ℤ) (output work : List ℤ) where
-  call-number : (before : ℕ) (R : Reductions) → answerNumber (call before R numbers output work .answer) ≡ told before R
+module _ (left : ℕ → ℕ → State → List ℤ) (output work : List ℤ) where
+  call-number : (before : ℕ) (R : Reductions) → answerNumber (call before R left output work .answer) ≡ told before R
   unfolding finished
   call-number zero tooWide = refl
   call-number zero (reduced s r x) = refl
   call-number (suc k) R = refl
 
-  call-counted : (before : ℕ) (R : Reductions) → answerNumber (call before R numbers output work .answer) ≡ 0 → IsDone (call before R numbers output work .answer)
+  call-counted : (before : ℕ) (R : Reductions) → answerNumber (call before R left output work .answer) ≡ 0 → IsDone (call before R left output work .answer)
   unfolding finished
   call-counted zero tooWide e = absurd (omega arith)
   call-counted zero (reduced s r x) e = record { counts = countsOf s r x; is = refl }
   call-counted (suc k) R e = absurd (omega arith)
 
-  output-left : (before : ℕ) (R : Reductions) → told before R ≢ 0 → call before R numbers output work .output ≡ output
+  output-left : (before : ℕ) (R : Reductions) → told before R ≢ 0 → call before R left output work .output ≡ output
   unfolding finished
   output-left zero tooWide d = refl
   output-left zero (reduced s r x) d = absurd (d refl)
   output-left (suc k) R d = refl
 
-  work-left : (before : ℕ) (R : Reductions) → before ≢ 13 → WorkLeft (told before R) work (call before R numbers output work .work)
+  work-left : (before : ℕ) (R : Reductions) → before ≢ 13 → WorkLeft (told before R) work (call before R left output work .work)
   unfolding finished
   work-left zero tooWide h = record { after-done = λ e. absurd (omega arith); after-wide = λ e. refl; otherwise = λ d e. absurd (e refl) }
   work-left zero (reduced s r x) h = record { after-done = λ e. refl; after-wide = λ e. absurd (omega arith); otherwise = λ d e. absurd (d refl) }
@@ -95,9 +95,9 @@ module _ (numbers : ℕ → ℕ → State → List ℤ) (output work : List ℤ)
 
   -- where done with counts leaves what is past its first `many f t` numbers, of f free generators and t orders
   pub call-leaves : (before : ℕ) (R : Reductions) (many : ℕ → ℕ → ℕ) → before ≢ 13
-      → ((counts : Counts) → call before R numbers output work .answer ≡ done counts
-      → KeptPast (pos 0) (many (counts .free) (counts .torsion)) output (call before R numbers output work .output))
-      → Leaves many output work (call before R numbers output work)
+      → ((counts : Counts) → call before R left output work .answer ≡ done counts
+      → KeptPast (pos 0) (many (counts .free) (counts .torsion)) output (call before R left output work .output))
+      → Leaves many output work (call before R left output work)
   call-leaves before R many narrow past = record {
     counted = call-counted before R;
     after-refusal = λ d. output-left before R (rw (call-number before R) at d);
@@ -105,8 +105,9 @@ module _ (numbers : ℕ → ℕ → State → List ℤ) (output work : List ℤ)
     work-left = rw (call-number before R) (work-left before R narrow);
   }
 
+module _ (numbers : ℕ → ℕ → State → List ℤ) (output work : List ℤ) where
   pub output-kept : (before : ℕ) (R : Reductions) → before ≡ 0 → {counts : Counts} (c : ReducedWith R counts) (many : ℕ)
-      → length (numbers (c .rows) (c .rank) (c .state)) ≡ many → many ≤ length output → KeptPast (pos 0) many output (call before R numbers output work .output)
+      → length (numbers (c .rows) (c .rank) (c .state)) ≡ many → many ≤ length output → KeptPast (pos 0) many output (call before R (numbersLeft numbers output) output work .output)
   output-kept before R z c many e h = record {
     size = ap length is ∙ length-written list output (omega arith);
     past = λ i l. ap (λ (o : List ℤ). getD o i (pos 0)) is ∙ getD-written-past list output (pos 0) i (omega arith);
@@ -115,8 +116,8 @@ module _ (numbers : ℕ → ℕ → State → List ℤ) (output work : List ℤ)
       list : List ℤ
       list = numbers (c .rows) (c .rank) (c .state)
 
-      is : call before R numbers output work .output ≡ written list output
-      is = call-output before R numbers output work z (c .rows) (c .rank) (c .state) (c .reductions)
+      is : call before R (numbersLeft numbers output) output work .output ≡ written list output
+      is = call-output before R (numbersLeft numbers output) output work z (c .rows) (c .rank) (c .state) (c .reductions)
 
 -- ---- an accepted sheet
 
@@ -139,10 +140,10 @@ module _ {rule : Rule} (is : IsRule rule) {limit : ℕ} (K : Sections) (p : ℕ)
     reductionsOf-within = reductions-within chains rule is entryLimit p (omega arith) s r x e
 
 pub call-answers : {rule : Rule} → IsRule rule → {limit : ℕ} (K : Sections) (p before : ℕ) → before ≢ 13 → (before ≡ 0 → ChainComplex limit K)
-    → (numbers : ℕ → ℕ → State → List ℤ) (output work : List ℤ)
-    → Answers before (GoesWide entryLimit rule K p) (answerNumber (call before (reductionsOf rule K p) numbers output work .answer))
-call-answers {rule} is K p before narrow chains numbers output work =
-    rw (call-number numbers output work before (reductionsOf rule K p))
+    → (left : ℕ → ℕ → State → List ℤ) (output work : List ℤ)
+    → Answers before (GoesWide entryLimit rule K p) (answerNumber (call before (reductionsOf rule K p) left output work .answer))
+call-answers {rule} is K p before narrow chains left output work =
+    rw (call-number left output work before (reductionsOf rule K p))
     (told-answers before (reductionsOf rule K p) narrow (λ e. reductionsOf-wide is K p (chains e)))
 
 -- a call that is done with these counts: two reductions that are right
@@ -151,9 +152,9 @@ pub record Answered (rule : Rule) (K : Sections) (p before : ℕ) (counts : Coun
   pub counted : ReducedWith (reductionsOf rule K p) counts
   pub right : Right K p (counted .rows) (counted .rank) (counted .state)
 
-pub answered : {rule : Rule} → IsRule rule → {limit : ℕ} (K : Sections) (p before : ℕ) → (before ≡ 0 → ChainComplex limit K) → (numbers : ℕ → ℕ → State → List ℤ)
-    (output work : List ℤ) (counts : Counts) → call before (reductionsOf rule K p) numbers output work .answer ≡ done counts → Answered rule K p before counts
-answered {rule} is K p before chains numbers output work counts e =
-    let d = call-done before (reductionsOf rule K p) numbers output work counts e in
+pub answered : {rule : Rule} → IsRule rule → {limit : ℕ} (K : Sections) (p before : ℕ) → (before ≡ 0 → ChainComplex limit K) → (left : ℕ → ℕ → State → List ℤ)
+    (output work : List ℤ) (counts : Counts) → call before (reductionsOf rule K p) left output work .answer ≡ done counts → Answered rule K p before counts
+answered {rule} is K p before chains left output work counts e =
+    let d = call-done before (reductionsOf rule K p) left output work counts e in
     let c = d .counted in
     record { passes = d .passes; counted = c; right = reductionsOf-right is K p (chains (d .passes)) (c .rows) (c .rank) (c .state) (c .reductions) }

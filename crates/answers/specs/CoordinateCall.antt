@@ -21,7 +21,7 @@ use Rattle.reports.specs.Call.{Called, done, written, callChecks, chainChecks, 
 use Rattle.limits.specs.Limits.{entryLimit, coefficientLimit}
 use Rattle.reports.specs.RefusalLaws.{callChecks-zero, call-chain-zero, call-chain-narrow}
 use Rattle.reports.specs.WrittenLaws.{getD-written}
-use Rattle.reports.specs.CallLaws.{ReducedWith, call-output}
+use Rattle.reports.specs.CallLaws.{numbersLeft, ReducedWith, call-output}
 use Rattle.answers.specs.Homology.{IsCycle}
 use Rattle.answers.specs.Right.{slot}
 use Rattle.answers.specs.Wide.{GoesWide}
@@ -42,6 +42,9 @@ module _ (limit : ℕ) (b : List ℕ) (p : ℕ) (z coordinates work : List ℤ) 
   abbrev pub coordinatesNumbers : ℕ → ℕ → State → List ℤ
   coordinatesNumbers s r x = coordinateList (count (chainCells b) p) s x z
 
+  abbrev pub coordinatesLeft : ℕ → ℕ → State → List ℤ
+  coordinatesLeft = numbersLeft coordinatesNumbers coordinates
+
   abbrev pub coordinatesCalled : Called
   coordinatesCalled = coordinateCall limit b p z coordinates work
 
@@ -59,12 +62,12 @@ module _ (limit : ℕ) (b : List ℕ) (p : ℕ) (z coordinates work : List ℤ) 
 
   pub coordinates-answer : Bytes b → Answers coordinatesBefore (GoesWide entryLimit pivotRule (chainCells b) p) (answerNumber (coordinatesCalled .answer))
   unfolding coordinateCall
-  coordinates-answer bytes = call-answers pivotRule-is-rule (chainCells b) p coordinatesBefore coordinates-narrow (coordinates-chains bytes) coordinatesNumbers coordinates work
+  coordinates-answer bytes = call-answers pivotRule-is-rule (chainCells b) p coordinatesBefore coordinates-narrow (coordinates-chains bytes) coordinatesLeft coordinates work
 
   module _ (bytes : Bytes b) {counts : Counts} (e : coordinatesCalled .answer ≡ done counts) where
     pub coordinates-answered : Answered pivotRule (chainCells b) p coordinatesBefore counts
     unfolding coordinateCall
-    coordinates-answered = answered pivotRule-is-rule (chainCells b) p coordinatesBefore (coordinates-chains bytes) coordinatesNumbers coordinates work counts e
+    coordinates-answered = answered pivotRule-is-rule (chainCells b) p coordinatesBefore (coordinates-chains bytes) coordinatesLeft coordinates work counts e
 
     abbrev c : ReducedWith (reductionsOf pivotRule (chainCells b) p) counts
     c = coordinates-answered .counted
@@ -74,7 +77,7 @@ module _ (limit : ℕ) (b : List ℕ) (p : ℕ) (z coordinates work : List ℤ) 
 
     output-is : coordinatesCalled .output ≡ written (coordinatesNumbers (c .rows) (c .rank) (c .state)) coordinates
     unfolding coordinateCall
-    output-is = call-output coordinatesBefore (reductionsOf pivotRule (chainCells b) p) coordinatesNumbers coordinates work (coordinates-answered .passes) (c .rows) (c .rank) (c .state) (c .reductions)
+    output-is = call-output coordinatesBefore (reductionsOf pivotRule (chainCells b) p) coordinatesLeft coordinates work (coordinates-answered .passes) (c .rows) (c .rank) (c .state) (c .reductions)
 
     pub coordinates-read : ReadsCoordinates (chainCells b) p (c .rows) (c .rank) (c .state) z (slot (coordinatesCalled .output))
     coordinates-read = record {
@@ -97,4 +100,4 @@ module _ (limit : ℕ) (b : List ℕ) (p : ℕ) (z coordinates work : List ℤ) 
   pub coordinates-leave : Bytes b → Leaves (λ f t. t + f) coordinates work coordinatesCalled
   unfolding coordinateCall
   coordinates-leave bytes =
-      call-leaves coordinatesNumbers coordinates work coordinatesBefore (reductionsOf pivotRule (chainCells b) p) (λ f t. t + f) coordinates-narrow (λ counts e. coordinates-kept bytes e)
+      call-leaves coordinatesLeft coordinates work coordinatesBefore (reductionsOf pivotRule (chainCells b) p) (λ f t. t + f) coordinates-narrow (λ counts e. coordinates-kept bytes e)

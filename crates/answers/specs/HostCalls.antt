@@ -18,7 +18,7 @@ use Rattle.reports.specs.Call.{reductionsOf}
 use Rattle.reports.specs.WrittenLaws.{length-written, getD-written-past}
 use Rattle.reports.specs.Host.{HostCalled, numbersBytes, finishedWith, numberAt}
 use Rattle.reports.specs.HostLaws.{Word, length-numbersBytes, numberAt-numbersBytes}
-use Rattle.reports.specs.HostCallLaws.{hostCall}
+use Rattle.reports.specs.HostCallLaws.{hostCall, bytesLeft}
 use Rattle.answers.specs.Right.{slot}
 use Rattle.answers.specs.Wide.{GoesWide}
 use Rattle.answers.specs.Called.{Answers, KeptPast}
@@ -36,59 +36,57 @@ pub record HostDone (rule : Rule) (K : Sections) (p before : ℕ) : Type 0 where
   pub small : within entryLimit state ≡ true
   pub few : count K p ≤ libraryLimit
 
-module _ (numbers : ℕ → ℕ → State → List ℤ) (output : List ℕ) where
-  number : (before : ℕ) (R : Reductions) → hostCall before R numbers output .number ≡ told before R
+module _ (left : ℕ → ℕ → State → List ℕ) (output : List ℕ) where
+  number : (before : ℕ) (R : Reductions) → hostCall before R left output .number ≡ told before R
   unfolding finishedWith
   number zero tooWide = refl
   number zero (reduced s r x) = refl
   number (suc k) R = refl
 
-  left : (before : ℕ) (R : Reductions) → told before R ≢ 0 → hostCall before R numbers output .output ≡ output
+  untouched : (before : ℕ) (R : Reductions) → told before R ≢ 0 → hostCall before R left output .output ≡ output
   unfolding finishedWith
-  left zero tooWide d = refl
-  left zero (reduced s r x) d = absurd (d refl)
-  left (suc k) R d = refl
+  untouched zero tooWide d = refl
+  untouched zero (reduced s r x) d = absurd (d refl)
+  untouched (suc k) R d = refl
 
-  pub host-left : (before : ℕ) (R : Reductions) → hostCall before R numbers output .number ≢ 0 → hostCall before R numbers output .output ≡ output
-  host-left before R d = left before R (rw (number before R) at d)
+  pub host-left : (before : ℕ) (R : Reductions) → hostCall before R left output .number ≢ 0 → hostCall before R left output .output ≡ output
+  host-left before R d = untouched before R (rw (number before R) at d)
 
+module _ (numbers : ℕ → ℕ → State → List ℤ) (output : List ℕ) where
   module _ {rule : Rule} {K : Sections} {p before : ℕ} (d : HostDone rule K p before) where
     abbrev called : HostCalled
-    called = hostCall before (reductionsOf rule K p) numbers output
+    called = hostCall before (reductionsOf rule K p) (bytesLeft numbers output) output
 
     abbrev list : List ℤ
     list = numbers (d .rows) (d .rank) (d .state)
 
-    host-output : called .output ≡ numbersBytes list ++ drop (8 * length list) output
+    host-output : called .output ≡ numbersBytes list ++ drop (length (numbersBytes list)) output
     unfolding finishedWith
     host-output = rw (d .passes, d .reductions)
 
     -- number i of the bytes
     pub host-reads : (i : ℕ) → i < length list → Word (slot list i) → numberAt (called .output) i ≡ slot list i
-    host-reads i h w = ap (λ (o : List ℕ). numberAt o i) host-output ∙ numberAt-numbersBytes list (drop (8 * length list) output) i h w
+    host-reads i h w = ap (λ (o : List ℕ). numberAt o i) host-output ∙ numberAt-numbersBytes list (drop (length (numbersBytes list)) output) i h w
 
     pub host-kept : 8 * length list ≤ length output → KeptPast 0 (8 * length list) output (called .output)
     host-kept h = record {
-      size = ap length is ∙ length-written (numbersBytes list) output (omega (arith, long));
-      past = λ i l. ap (λ (o : List ℕ). getD o i 0) is ∙ getD-written-past (numbersBytes list) output 0 i (omega (arith, long));
+      size = ap length host-output ∙ length-written (numbersBytes list) output (omega (arith, long));
+      past = λ i l. ap (λ (o : List ℕ). getD o i 0) host-output ∙ getD-written-past (numbersBytes list) output 0 i (omega (arith, long));
     }
       where
         long : length (numbersBytes list) ≡ 8 * length list
         long = length-numbersBytes list
 
-        is : called .output ≡ numbersBytes list ++ drop (length (numbersBytes list)) output
-        is = host-output ∙ ap (λ (n : ℕ). numbersBytes list ++ drop n output) (sym long)
-
 -- on a sheet that is accepted where nothing is refused
-module _ {rule : Rule} (is : IsRule rule) (K : Sections) (p before : ℕ) (chains : before ≡ 0 → ChainComplex hostLimit K) (numbers : ℕ → ℕ → State → List ℤ)
+module _ {rule : Rule} (is : IsRule rule) (K : Sections) (p before : ℕ) (chains : before ≡ 0 → ChainComplex hostLimit K) (left : ℕ → ℕ → State → List ℕ)
     (output : List ℕ) where
-  pub host-answers : before ≢ 13 → Answers before (GoesWide entryLimit rule K p) (hostCall before (reductionsOf rule K p) numbers output .number)
+  pub host-answers : before ≢ 13 → Answers before (GoesWide entryLimit rule K p) (hostCall before (reductionsOf rule K p) left output .number)
   host-answers narrow =
-      rw (number numbers output before (reductionsOf rule K p)) (told-answers before (reductionsOf rule K p) narrow (λ e. reductionsOf-wide is K p (chains e)))
+      rw (number left output before (reductionsOf rule K p)) (told-answers before (reductionsOf rule K p) narrow (λ e. reductionsOf-wide is K p (chains e)))
 
-  pub host-done : hostCall before (reductionsOf rule K p) numbers output .number ≡ 0 → HostDone rule K p before
+  pub host-done : hostCall before (reductionsOf rule K p) left output .number ≡ 0 → HostDone rule K p before
   host-done e =
-      let d = told-done before (reductionsOf rule K p) (sym (number numbers output before (reductionsOf rule K p)) ∙ e) in
+      let d = told-done before (reductionsOf rule K p) (sym (number left output before (reductionsOf rule K p)) ∙ e) in
       let within = chains (d .passes) in record {
         passes = d .passes;
         rows = d .rows;

@@ -24,6 +24,7 @@ use Rattle.reports.specs.Call.{callChecks, chainChecks, coordinateSlots, workSl
 use Rattle.limits.specs.Limits.{hostLimit, entryLimit, coefficientLimit}
 use Rattle.reports.specs.RefusalLaws.{callChecks-zero, call-chain-zero, call-chain-narrow}
 use Rattle.reports.specs.Host.{coefficientIn, otherLength, chainFrom, slotsIn, hostCoordinates, numberAt}
+use Rattle.reports.specs.HostCallLaws.{bytesLeft}
 use Rattle.answers.specs.Right.{slot}
 use Rattle.answers.specs.Wide.{GoesWide}
 use Rattle.answers.specs.Called.{Answers, KeptPast}
@@ -66,6 +67,9 @@ module _ (b : List ℕ) (bytes : Bytes b) (p : ℕ) (chain output : List ℕ) wh
   abbrev numbers : ℕ → ℕ → State → List ℤ
   numbers s r x = coordinateList (count (chainCells b) p) s x given
 
+  abbrev left : ℕ → ℕ → State → List ℕ
+  left = bytesLeft numbers output
+
   passed : (hostCoordinatesBefore ≡ 0) ↔ ((hostSheetBefore ≡ 0) × (first (chainChecks coefficientLimit b p given) ≡ 0))
   passed = call-chain-zero hostLimit b p coordinateSlots (slotsIn output) (workSlots (chainCells b) p) coefficientLimit given
 
@@ -75,12 +79,12 @@ module _ (b : List ℕ) (bytes : Bytes b) (p : ℕ) (chain output : List ℕ) wh
   pub host-coordinates-answer : Answers hostCoordinatesBefore (GoesWide entryLimit pivotRule (chainCells b) p) (hostCoordinates b p chain output .number)
   unfolding hostCoordinates
   host-coordinates-answer =
-      host-answers pivotRule-is-rule (chainCells b) p hostCoordinatesBefore chains numbers output
+      host-answers pivotRule-is-rule (chainCells b) p hostCoordinatesBefore chains left output
       (call-chain-narrow hostLimit b p coordinateSlots (slotsIn output) (workSlots (chainCells b) p) coefficientLimit given)
 
   pub host-coordinates-left : hostCoordinates b p chain output .number ≢ 0 → hostCoordinates b p chain output .output ≡ output
   unfolding hostCoordinates
-  host-coordinates-left = host-left numbers output hostCoordinatesBefore (reductionsOf pivotRule (chainCells b) p)
+  host-coordinates-left = host-left left output hostCoordinatesBefore (reductionsOf pivotRule (chainCells b) p)
 
   -- the chain is a cycle, and the two reductions behind its coordinates are right
   pub record HostCoordinated : Type 0 where
@@ -103,7 +107,7 @@ module _ (b : List ℕ) (bytes : Bytes b) (p : ℕ) (chain output : List ℕ) wh
   }
     where
       h : HostDone pivotRule (chainCells b) p hostCoordinatesBefore
-      h = host-done pivotRule-is-rule (chainCells b) p hostCoordinatesBefore chains numbers output e
+      h = host-done pivotRule-is-rule (chainCells b) p hostCoordinatesBefore chains left output e
 
       cycle : ChainPasses coefficientLimit b p given
       cycle = chain-passes coefficientLimit b p given (passed .0 (h .passes) .1)

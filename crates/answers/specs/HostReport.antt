@@ -20,6 +20,7 @@ use Rattle.reports.specs.Call.{callChecks, reportSlots, workSlots, reductionsOf
 use Rattle.limits.specs.Limits.{hostLimit, entryLimit}
 use Rattle.reports.specs.RefusalLaws.{callChecks-narrow, callChecks-zero}
 use Rattle.reports.specs.Host.{slotsIn, hostReport, numberAt}
+use Rattle.reports.specs.HostCallLaws.{bytesLeft}
 use Rattle.answers.specs.Right.{reportLength}
 use Rattle.answers.specs.Wide.{GoesWide}
 use Rattle.answers.specs.Called.{Answers, KeptPast}
@@ -37,17 +38,20 @@ module _ (b : List ℕ) (bytes : Bytes b) (p : ℕ) (output : List ℕ) where
   abbrev numbers : ℕ → ℕ → State → List ℤ
   numbers s r x = reportList (count (chainCells b) p) s r x
 
+  abbrev left : ℕ → ℕ → State → List ℕ
+  left = bytesLeft numbers output
+
   chains : hostReportBefore ≡ 0 → ChainComplex hostLimit (chainCells b)
   chains = passed-chains hostLimit b p reportSlots (slotsIn output) (workSlots (chainCells b) p) bytes
 
   pub host-report-answers : Answers hostReportBefore (GoesWide entryLimit pivotRule (chainCells b) p) (hostReport b p output .number)
   unfolding hostReport
   host-report-answers =
-      host-answers pivotRule-is-rule (chainCells b) p hostReportBefore chains numbers output (callChecks-narrow hostLimit b p reportSlots (slotsIn output) (workSlots (chainCells b) p))
+      host-answers pivotRule-is-rule (chainCells b) p hostReportBefore chains left output (callChecks-narrow hostLimit b p reportSlots (slotsIn output) (workSlots (chainCells b) p))
 
   pub host-report-left : hostReport b p output .number ≢ 0 → hostReport b p output .output ≡ output
   unfolding hostReport
-  host-report-left = host-left numbers output hostReportBefore (reductionsOf pivotRule (chainCells b) p)
+  host-report-left = host-left left output hostReportBefore (reductionsOf pivotRule (chainCells b) p)
 
   -- the two reductions behind a report that is done are right
   pub record HostReported : Type 0 where
@@ -68,7 +72,7 @@ module _ (b : List ℕ) (bytes : Bytes b) (p : ℕ) (output : List ℕ) where
   }
     where
       h : HostDone pivotRule (chainCells b) p hostReportBefore
-      h = host-done pivotRule-is-rule (chainCells b) p hostReportBefore chains numbers output e
+      h = host-done pivotRule-is-rule (chainCells b) p hostReportBefore chains left output e
 
       fits : 8 * length (numbers (h .rows) (h .rank) (h .state)) ≤ length output
       fits =

@@ -23,7 +23,7 @@ use Rattle.reports.specs.CallLaws.{ReducedWith, CallRefused, earlier, wide, cal
 use Rattle.reports.specs.HostCallLaws.{reportRoom, workRoom, counts-within}
 use Rattle.answers.specs.Numbers.{report-length, coordinates-length}
 use Rattle.answers.specs.Calls.{Answered}
-use Rattle.answers.specs.ReportCall.{reportBefore, reportNumbers, report-answered}
+use Rattle.answers.specs.ReportCall.{reportBefore, reportLeft, report-answered}
 use Rattle.answers.specs.CoordinateCall.{coordinatesBefore, coordinates-passed, coordinates-answered}
 
 -- the numbers of a report
@@ -119,7 +119,7 @@ module _ (b : List ℕ) (accepted : refusal hostLimit b ≡ 0) where
 
     pub accepted-refused : (k : ℕ) → reportCall hostLimit b p report work .answer ≡ refused k → WentWide b p k
     unfolding reportCall
-    accepted-refused k e = go (call-refused (reportBefore hostLimit b p report work) (reductionsOf pivotRule (chainCells b) p) (reportNumbers hostLimit b p report work) report work k e)
+    accepted-refused k e = go (call-refused (reportBefore hostLimit b p report work) (reductionsOf pivotRule (chainCells b) p) (reportLeft hostLimit b p report work) report work k e)
       where
         go : CallRefused (reportBefore hostLimit b p report work) (reductionsOf pivotRule (chainCells b) p) k → WentWide b p k
         go (earlier e d) = absurd (d (omega (arith, e, accepted-passes)))

@@ -21,7 +21,7 @@ use Rattle.reports.specs.Reductions.{Reductions, tooWide, reduced}
 use Rattle.reports.specs.Report.{kind, reported, freeRank, torsionCount, countsOf, reportList}
 use Rattle.reports.specs.ReportLaws.{length-coordinateList}
 use Rattle.reports.specs.RefusalLaws.{callChecks-zero}
-use Rattle.reports.specs.CallLaws.{call-answer, call-output}
+use Rattle.reports.specs.CallLaws.{numbersLeft, call-answer, call-output}
 use Rattle.reports.specs.Call.{done, written, reportSlots, workSlots, callChecks, reductionsOf, reportCall}
 use Rattle.limits.specs.Limits.{hostLimit}
 use Rattle.reports.specs.Text.{line, refusalLine, generatorLines, reportText, dimensionText, dimensionsText, textFor, programText}
@@ -78,16 +78,16 @@ module _ (b : List ℕ) (bytes : Bytes b) (accepted : refusal hostLimit b ≡ 0)
         })
 
     module _ (h : p ≤ top) (s r : ℕ) (x : State) (e : reductionsOf pivotRule (chainCells b) p ≡ reduced s r x) where
-      abbrev numbers : ℕ → ℕ → State → List ℤ
-      numbers s r x = reportList n s r x
+      abbrev left : ℕ → ℕ → State → List ℤ
+      left = numbersLeft (λ s r x. reportList n s r x) report
 
       report-done : reportCall hostLimit b p report work .answer ≡ done (countsOf s r x)
       unfolding reportCall
-      report-done = call-answer (first (callChecks hostLimit b p reportSlots (length report) (length work))) (reductionsOf pivotRule (chainCells b) p) numbers report work (passes h) s r x e
+      report-done = call-answer (first (callChecks hostLimit b p reportSlots (length report) (length work))) (reductionsOf pivotRule (chainCells b) p) left report work (passes h) s r x e
 
       report-left : reportCall hostLimit b p report work .output ≡ written (reportList n s r x) report
       unfolding reportCall
-      report-left = call-output (first (callChecks hostLimit b p reportSlots (length report) (length work))) (reductionsOf pivotRule (chainCells b) p) numbers report work (passes h) s r x e
+      report-left = call-output (first (callChecks hostLimit b p reportSlots (length report) (length work))) (reductionsOf pivotRule (chainCells b) p) left report work (passes h) s r x e
 
       -- the numbers of the report give the text
       report-text : dimensionText p n (reduced s r x)

@@ -21,7 +21,7 @@ use Rattle.reports.specs.Call.{Called, done, written, callChecks, reportSlots, 
 use Rattle.limits.specs.Limits.{entryLimit}
 use Rattle.reports.specs.RefusalLaws.{callChecks-narrow, callChecks-zero}
 use Rattle.reports.specs.WrittenLaws.{getD-written}
-use Rattle.reports.specs.CallLaws.{ReducedWith, call-output}
+use Rattle.reports.specs.CallLaws.{numbersLeft, ReducedWith, call-output}
 use Rattle.answers.specs.Right.{slot, reportLength}
 use Rattle.answers.specs.Wide.{GoesWide}
 use Rattle.answers.specs.Called.{answerNumber, Answers, KeptPast, Leaves}
@@ -37,6 +37,9 @@ module _ (limit : ℕ) (b : List ℕ) (p : ℕ) (report work : List ℤ) where
   abbrev pub reportNumbers : ℕ → ℕ → State → List ℤ
   reportNumbers s r x = reportList (count (chainCells b) p) s r x
 
+  abbrev pub reportLeft : ℕ → ℕ → State → List ℤ
+  reportLeft = numbersLeft reportNumbers report
+
   abbrev pub reportCalled : Called
   reportCalled = reportCall limit b p report work
 
@@ -48,16 +51,16 @@ module _ (limit : ℕ) (b : List ℕ) (p : ℕ) (report work : List ℤ) where
 
   pub report-answers : Bytes b → Answers reportBefore (GoesWide entryLimit pivotRule (chainCells b) p) (answerNumber (reportCalled .answer))
   unfolding reportCall
-  report-answers bytes = call-answers pivotRule-is-rule (chainCells b) p reportBefore report-narrow (report-chains bytes) reportNumbers report work
+  report-answers bytes = call-answers pivotRule-is-rule (chainCells b) p reportBefore report-narrow (report-chains bytes) reportLeft report work
 
   pub report-output : reportBefore ≡ 0 → {counts : Counts} (c : ReducedWith (reductionsOf pivotRule (chainCells b) p) counts) → reportCalled .output ≡ written (reportList (count (chainCells b) p) (c .rows) (c .rank) (c .state)) report
   unfolding reportCall
-  report-output e c = call-output reportBefore (reductionsOf pivotRule (chainCells b) p) reportNumbers report work e (c .rows) (c .rank) (c .state) (c .reductions)
+  report-output e c = call-output reportBefore (reductionsOf pivotRule (chainCells b) p) reportLeft report work e (c .rows) (c .rank) (c .state) (c .reductions)
 
   module _ (bytes : Bytes b) {counts : Counts} (e : reportCalled .answer ≡ done counts) where
     pub report-answered : Answered pivotRule (chainCells b) p reportBefore counts
     unfolding reportCall
-    report-answered = answered pivotRule-is-rule (chainCells b) p reportBefore (report-chains bytes) reportNumbers report work counts e
+    report-answered = answered pivotRule-is-rule (chainCells b) p reportBefore (report-chains bytes) reportLeft report work counts e
 
     abbrev c : ReducedWith (reductionsOf pivotRule (chainCells b) p) counts
     c = report-answered .counted
@@ -86,4 +89,4 @@ module _ (limit : ℕ) (b : List ℕ) (p : ℕ) (report work : List ℤ) where
   pub report-leaves : Bytes b → Leaves (reportLength (chainCells b) p) report work reportCalled
   unfolding reportCall
   report-leaves bytes =
-      call-leaves reportNumbers report work reportBefore (reductionsOf pivotRule (chainCells b) p) (reportLength (chainCells b) p) report-narrow (λ counts e. report-kept bytes e)
+      call-leaves reportLeft report work reportBefore (reductionsOf pivotRule (chainCells b) p) (reportLength (chainCells b) p) report-narrow (λ counts e. report-kept bytes e)

@@ -9,7 +9,7 @@ use Rattle.reduction_steps.specs.State.{State}
 use Rattle.reports.specs.Reductions.{Reductions, tooWide, reduced}
 use Rattle.reports.specs.Report.{freeRank, torsionCount}
 use Rattle.reports.specs.Call as definition
-use Rattle.reports.specs.Call.{finished, written}
+use Rattle.reports.specs.Call.{finished}
 use Rattle.reports.specs.CallLaws.{call}
 use Rattle.refusal.specs.Number.{numberOf}
 use Rattle.refusal.specs.declared.Refusal.{Refusal}
@@ -19,22 +19,22 @@ use Rattle.calls.specs.Answer.{CallAnswers}
 use Rattle.calls.specs.declared.answer.Answer.the-variants.{Done, Refused}
 use Rattle.refusal.specs.NumberLaws.{number-positive}
 
-module _ (before : ℕ) (R : Reductions) (numbers : ℕ → ℕ → State → List ℤ) (output work : List ℤ) where
-  pub refuses : {x : Refusal} → before ≡ numberOf x → CallAnswers (call before R numbers output work) (Refused x) output work
+module _ (before : ℕ) (R : Reductions) (left : ℕ → ℕ → State → List ℤ) (output work : List ℤ) where
+  pub refuses : {x : Refusal} → before ≡ numberOf x → CallAnswers (call before R left output work) (Refused x) output work
   refuses {x} e = go before e
     where
-      go : (k : ℕ) → k ≡ numberOf x → CallAnswers (call k R numbers output work) (Refused x) output work
+      go : (k : ℕ) → k ≡ numberOf x → CallAnswers (call k R left output work) (Refused x) output work
       go zero f = absurd (omega (arith, number-positive x))
       go (suc n) f = record { answer = ap definition.refused (sym f); output-is = refl; work-is = refl }
 
   module _ (passes : before ≡ 0) where
     pub goes-wide : {work′ : List ℤ} → R ≡ tooWide → work′ ≡ replicate (length work) (pos 0)
-        → CallAnswers (call before R numbers output work) (Refused refusal.TooWide) output work′
+        → CallAnswers (call before R left output work) (Refused refusal.TooWide) output work′
     unfolding finished
     goes-wide e f = rw (passes, e) (record { answer = refl; output-is = refl; work-is = f })
 
     pub is-done : {s r : ℕ} {x : State} {counts : Counts} {output′ work′ : List ℤ} → R ≡ reduced s r x
-        → counts .free ≡ freeRank s r → counts .torsion ≡ torsionCount r x → output′ ≡ written (numbers s r x) output → work′ ≡ replicate (length work) (pos 0)
-        → CallAnswers (call before R numbers output work) (Done counts) output′ work′
+        → counts .free ≡ freeRank s r → counts .torsion ≡ torsionCount r x → output′ ≡ left s r x → work′ ≡ replicate (length work) (pos 0)
+        → CallAnswers (call before R left output work) (Done counts) output′ work′
     unfolding finished
     is-done e f t o w = rw (passes, e) (record { answer = cc; output-is = o; work-is = w })

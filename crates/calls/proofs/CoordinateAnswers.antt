@@ -40,9 +40,9 @@ module _ (l : Lent) (z : List ℤ) where
   abbrev before-reductions : ℕ
   before-reductions = first (sheetChecks ++ chainChecks coefficientLimit (l .sheet) (l .dimension) z)
 
-  -- the coordinates
-  abbrev numbers : ℕ → ℕ → State → List ℤ
-  numbers s r x = coordinateList (count (chainCells (l .sheet)) (l .dimension)) s x z
+  -- what the coordinates leave
+  abbrev left : ℕ → ℕ → State → List ℤ
+  left s r x = written (coordinateList (count (chainCells (l .sheet)) (l .dimension)) s x z) (l .output)
 
   abbrev called : Called
   called = coordinateCall (l .limit) (l .sheet) (l .dimension) z (l .output) (l .work)
@@ -50,7 +50,7 @@ module _ (l : Lent) (z : List ℤ) where
   pub coordinates-refuse : {x : Refusal} → first sheetChecks ≡ numberOf x → CallAnswers called (Refused x) (l .output) (l .work)
   unfolding coordinateCall
   coordinates-refuse {x} e =
-      refuses before-reductions (twice l) numbers (l .output) (l .work)
+      refuses before-reductions (twice l) left (l .output) (l .work)
       (call-told (l .limit) (l .sheet) (l .dimension) coordinateSlots (length (l .output)) (length (l .work)) coefficientLimit z (λ q. absurd (omega (arith, number-positive x))) ∙ e)
 
   module _ {n : Sizes} (g : Granted l Coordinates n) where
@@ -61,19 +61,19 @@ module _ (l : Lent) (z : List ℤ) where
 
     pub chain-refuses : {x : Refusal} → first (chainChecks coefficientLimit (l .sheet) (l .dimension) z) ≡ numberOf x → CallAnswers called (Refused x) (l .output) (l .work)
     unfolding coordinateCall
-    chain-refuses e = refuses before-reductions (twice l) numbers (l .output) (l .work) (chain-next ∙ e)
+    chain-refuses e = refuses before-reductions (twice l) left (l .output) (l .work) (chain-next ∙ e)
 
     module _ (chain : first (chainChecks coefficientLimit (l .sheet) (l .dimension) z) ≡ 0) where
       pub coordinates-wide : {x : Refusal} {work′ : List ℤ} → (twice l ≡ tooWide) × Cleared (length (l .work)) x work′
           → CallAnswers called (Refused refusal.TooWide) (l .output) work′
       unfolding coordinateCall
-      coordinates-wide h = goes-wide before-reductions (twice l) numbers (l .output) (l .work) (chain-next ∙ chain) (h .0) (h .1 .zeros)
+      coordinates-wide h = goes-wide before-reductions (twice l) left (l .output) (l .work) (chain-next ∙ chain) (h .0) (h .1 .zeros)
 
       pub coordinates-done : {x : Reduced} {w : List ℤ} → Reduces l x w → {counts : Counts} {coordinates′ work′ : List ℤ}
           → WroteCoordinates x w z (l .output) counts coordinates′ → work′ ≡ replicate (length w) (pos 0) → CallAnswers called (Done counts) coordinates′ work′
       unfolding coordinateCall
       coordinates-done {x} {w} h k e =
-          is-done before-reductions (twice l) numbers (l .output) (l .work) (chain-next ∙ chain) (h .is) (k .free) (k .torsion)
+          is-done before-reductions (twice l) left (l .output) (l .work) (chain-next ∙ chain) (h .is) (k .free) (k .torsion)
           (k .is
           ∙ ap (λ (cells : ℕ). written (coordinateList cells (x .layout .matrix .lines) (stateOf (x .layout) w) z) (l .output))
           (follower-width pivotRule-is-rule (g .chains) (g .passed .work-slots) h))

@@ -33,16 +33,16 @@ module _ (l : Lent) where
   abbrev before-report : ℕ
   before-report = first (callChecks (l .limit) (l .sheet) (l .dimension) reportSlots (length (l .output)) (length (l .work)))
 
-  -- the numbers of the report
-  abbrev numbers : ℕ → ℕ → State → List ℤ
-  numbers s r x = reportList (count (chainCells (l .sheet)) (l .dimension)) s r x
+  -- what the report leaves
+  abbrev left : ℕ → ℕ → State → List ℤ
+  left s r x = written (reportList (count (chainCells (l .sheet)) (l .dimension)) s r x) (l .output)
 
   abbrev called : Called
   called = reportCall (l .limit) (l .sheet) (l .dimension) (l .output) (l .work)
 
   pub report-refuses : {x : Refusal} → before-report ≡ numberOf x → CallAnswers called (Refused x) (l .output) (l .work)
   unfolding reportCall
-  report-refuses e = refuses before-report (twice l) numbers (l .output) (l .work) e
+  report-refuses e = refuses before-report (twice l) left (l .output) (l .work) e
 
   module _ {n : Sizes} (g : Granted l Report n) where
     passes : before-report ≡ 0
@@ -51,13 +51,13 @@ module _ (l : Lent) where
     pub report-wide : {x : Refusal} {work′ : List ℤ} → (twice l ≡ tooWide) × Cleared (length (l .work)) x work′
         → CallAnswers called (Refused refusal.TooWide) (l .output) work′
     unfolding reportCall
-    report-wide h = goes-wide before-report (twice l) numbers (l .output) (l .work) passes (h .0) (h .1 .zeros)
+    report-wide h = goes-wide before-report (twice l) left (l .output) (l .work) passes (h .0) (h .1 .zeros)
 
     pub report-done : {x : Reduced} {w : List ℤ} → Reduces l x w → {counts : Counts} {report′ work′ : List ℤ} → WroteReport x w (l .output) counts report′
         → work′ ≡ replicate (length w) (pos 0) → CallAnswers called (Done counts) report′ work′
     unfolding reportCall
     report-done {x} {w} h k e =
-        is-done before-report (twice l) numbers (l .output) (l .work) passes (h .is) (k .free) (k .torsion)
+        is-done before-report (twice l) left (l .output) (l .work) passes (h .is) (k .free) (k .torsion)
         (k .is
         ∙ ap (λ (cells : ℕ). written (reportList cells (x .layout .matrix .lines) (x .rank) (stateOf (x .layout) w)) (l .output))
         (inverse-width pivotRule-is-rule (g .chains) (g .passed .work-slots) h))

@@ -72,8 +72,8 @@ pub record Called : Type 0 where
   pub output : List ℤ
   pub work : List ℤ
 
--- the slice with the numbers written from its start on, untouched past them
-abbrev pub written : List ℤ → List ℤ → List ℤ
+-- the slice with the numbers, or their bytes, written from its start on, untouched past them
+abbrev pub written : {A : Type 0} → List A → List A → List A
 written numbers slice = numbers ++ drop (length numbers) slice
 
 -- the slice reads 0 throughout
@@ -85,11 +85,10 @@ abbrev pub orRefused : ℕ → List ℤ → List ℤ → Called → Called
 orRefused zero output work later = later
 orRefused (suc n) output work later = record { answer = refused (suc n); output = output; work = work }
 
--- After the two reductions: 13 where they went too wide, else done with the numbers written. The work slice reads 0 throughout.
+-- After the two reductions: 13 where they went too wide, else done, with the output slice that they leave. The work slice reads 0 throughout.
 unfoldable pub finished : Reductions → (ℕ → ℕ → State → List ℤ) → List ℤ → List ℤ → Called
-finished tooWide numbers output work = record { answer = refused 13; output = output; work = cleared work }
-finished (reduced s r x) numbers output work =
-    record { answer = done (countsOf s r x); output = written (numbers s r x) output; work = cleared work }
+finished tooWide left output work = record { answer = refused 13; output = output; work = cleared work }
+finished (reduced s r x) left output work = record { answer = done (countsOf s r x); output = left s r x; work = cleared work }
 
 -- the two reductions of dimension p of the cells K, by a pivot rule
 unfoldable pub reductionsOf : Rule → Sections → ℕ → Reductions
@@ -99,10 +98,10 @@ reductionsOf rule K p = reductions rule entryLimit K p
 unfoldable pub reportCall : ℕ → List ℕ → ℕ → List ℤ → List ℤ → Called
 reportCall limit b p report work =
     orRefused (first (callChecks limit b p reportSlots (length report) (length work))) report work
-    (finished (reductionsOf pivotRule (chainCells b) p) (λ s r x. reportList (count (chainCells b) p) s r x) report work)
+    (finished (reductionsOf pivotRule (chainCells b) p) (λ s r x. written (reportList (count (chainCells b) p) s r x) report) report work)
 
 -- the coordinate call at a count limit, on a sheet, a dimension, a chain, a coordinate slice and a work slice
 unfoldable pub coordinateCall : ℕ → List ℕ → ℕ → List ℤ → List ℤ → List ℤ → Called
 coordinateCall limit b p z coordinates work =
     orRefused (first (callChecks limit b p coordinateSlots (length coordinates) (length work) ++ chainChecks coefficientLimit b p z)) coordinates work
-    (finished (reductionsOf pivotRule (chainCells b) p) (λ s r x. coordinateList (count (chainCells b) p) s x z) coordinates work)
+    (finished (reductionsOf pivotRule (chainCells b) p) (λ s r x. written (coordinateList (count (chainCells b) p) s x z) coordinates) coordinates work)

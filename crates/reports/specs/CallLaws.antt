@@ -22,7 +22,11 @@ refused≢done e = subst Refused e tt
 -- ---- a call: the refusals before the reduction, then what the reductions come to
 
 abbrev pub call : ℕ → Reductions → (ℕ → ℕ → State → List ℤ) → List ℤ → List ℤ → Called
-call before R numbers output work = orRefused before output work (finished R numbers output work)
+call before R left output work = orRefused before output work (finished R left output work)
+
+-- what is left where these numbers are written from the slice's start on
+abbrev pub numbersLeft : (ℕ → ℕ → State → List ℤ) → List ℤ → ℕ → ℕ → State → List ℤ
+numbersLeft numbers slice s r x = written (numbers s r x) slice
 
 -- the two reductions are done, and these are their counts
 pub record ReducedWith (R : Reductions) (counts : Counts) : Type 0 where
@@ -45,62 +49,62 @@ pub data CallRefused (before : ℕ) (R : Reductions) (k : ℕ) : Type 0 where
 
 -- ---- from the answer
 
-pub call-done : (before : ℕ) (R : Reductions) (numbers : ℕ → ℕ → State → List ℤ) (output work : List ℤ) (counts : Counts)
-    → call before R numbers output work .answer ≡ done counts → CallDone before R counts
+pub call-done : (before : ℕ) (R : Reductions) (left : ℕ → ℕ → State → List ℤ) (output work : List ℤ) (counts : Counts)
+    → call before R left output work .answer ≡ done counts → CallDone before R counts
 unfolding finished
-call-done (suc n) R numbers output work counts e = absurd (refused≢done e)
-call-done zero tooWide numbers output work counts e = absurd (refused≢done e)
-call-done zero (reduced s r x) numbers output work counts e =
+call-done (suc n) R left output work counts e = absurd (refused≢done e)
+call-done zero tooWide left output work counts e = absurd (refused≢done e)
+call-done zero (reduced s r x) left output work counts e =
     record { passes = refl; counted = record { rows = s; rank = r; state = x; reductions = refl; free = cc; torsion = cc } }
 
-pub call-refused : (before : ℕ) (R : Reductions) (numbers : ℕ → ℕ → State → List ℤ) (output work : List ℤ) (k : ℕ)
-    → call before R numbers output work .answer ≡ refused k → CallRefused before R k
+pub call-refused : (before : ℕ) (R : Reductions) (left : ℕ → ℕ → State → List ℤ) (output work : List ℤ) (k : ℕ)
+    → call before R left output work .answer ≡ refused k → CallRefused before R k
 unfolding finished
-call-refused (suc n) R numbers output work k e = earlier same (λ z. suc-ne-zero n (same ∙ z))
+call-refused (suc n) R left output work k e = earlier same (λ z. suc-ne-zero n (same ∙ z))
   where
     same : suc n ≡ k
     same = cc
-call-refused zero tooWide numbers output work k e = wide refl refl (cc)
-call-refused zero (reduced s r x) numbers output work k e = absurd (refused≢done (sym e))
+call-refused zero tooWide left output work k e = wide refl refl (cc)
+call-refused zero (reduced s r x) left output work k e = absurd (refused≢done (sym e))
 
 -- a refusal leaves the output slice untouched
-pub refused-untouched : (before : ℕ) (R : Reductions) (numbers : ℕ → ℕ → State → List ℤ) (output work : List ℤ) (k : ℕ)
-    → call before R numbers output work .answer ≡ refused k → call before R numbers output work .output ≡ output
+pub refused-untouched : (before : ℕ) (R : Reductions) (left : ℕ → ℕ → State → List ℤ) (output work : List ℤ) (k : ℕ)
+    → call before R left output work .answer ≡ refused k → call before R left output work .output ≡ output
 unfolding finished
-refused-untouched (suc n) R numbers output work k e = refl
-refused-untouched zero tooWide numbers output work k e = refl
-refused-untouched zero (reduced s r x) numbers output work k e = absurd (refused≢done (sym e))
+refused-untouched (suc n) R left output work k e = refl
+refused-untouched zero tooWide left output work k e = refl
+refused-untouched zero (reduced s r x) left output work k e = absurd (refused≢done (sym e))
 
 -- ---- to the answer
 
-pub call-earlier : (before : ℕ) (R : Reductions) (numbers : ℕ → ℕ → State → List ℤ) (output work : List ℤ) → before ≢ 0
-    → call before R numbers output work .answer ≡ refused before
-call-earlier zero R numbers output work d = absurd (d refl)
-call-earlier (suc n) R numbers output work d = refl
+pub call-earlier : (before : ℕ) (R : Reductions) (left : ℕ → ℕ → State → List ℤ) (output work : List ℤ) → before ≢ 0
+    → call before R left output work .answer ≡ refused before
+call-earlier zero R left output work d = absurd (d refl)
+call-earlier (suc n) R left output work d = refl
 
-module _ (before : ℕ) (R : Reductions) (numbers : ℕ → ℕ → State → List ℤ) (output work : List ℤ) (passes : before ≡ 0) where
-  pub call-wide : R ≡ tooWide → call before R numbers output work .answer ≡ refused 13
+module _ (before : ℕ) (R : Reductions) (left : ℕ → ℕ → State → List ℤ) (output work : List ℤ) (passes : before ≡ 0) where
+  pub call-wide : R ≡ tooWide → call before R left output work .answer ≡ refused 13
   unfolding finished
   call-wide e = rw (passes, e)
 
   module _ (s r : ℕ) (x : State) (e : R ≡ reduced s r x) where
-    pub call-answer : call before R numbers output work .answer ≡ done (countsOf s r x)
+    pub call-answer : call before R left output work .answer ≡ done (countsOf s r x)
     unfolding finished
     call-answer = rw (passes, e)
 
-    pub call-output : call before R numbers output work .output ≡ written (numbers s r x) output
+    pub call-output : call before R left output work .output ≡ left s r x
     unfolding finished
     call-output = rw (passes, e)
 
-    pub call-work : call before R numbers output work .work ≡ cleared work
+    pub call-work : call before R left output work .work ≡ cleared work
     unfolding finished
     call-work = rw (passes, e)
 
 -- a number but 13 is told exactly when the checks before the reduction give it
-pub told-earlier : (before : ℕ) (R : Reductions) (numbers : ℕ → ℕ → State → List ℤ) (output work : List ℤ) (k : ℕ) → k ≢ 0 → k ≢ 13
-    → (call before R numbers output work .answer ≡ refused k) ↔ (before ≡ k)
-told-earlier before R numbers output work k d h =
-    (λ e. from (call-refused before R numbers output work k e), λ e. call-earlier before R numbers output work (λ z. d (sym e ∙ z)) ∙ ap refused e)
+pub told-earlier : (before : ℕ) (R : Reductions) (left : ℕ → ℕ → State → List ℤ) (output work : List ℤ) (k : ℕ) → k ≢ 0 → k ≢ 13
+    → (call before R left output work .answer ≡ refused k) ↔ (before ≡ k)
+told-earlier before R left output work k d h =
+    (λ e. from (call-refused before R left output work k e), λ e. call-earlier before R left output work (λ z. d (sym e ∙ z)) ∙ ap refused e)
   where
     from : CallRefused before R k → before ≡ k
     from (earlier e _) = e

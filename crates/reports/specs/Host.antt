@@ -13,7 +13,7 @@ use Rattle.reduction_steps.specs.State.{State}
 use Rattle.reduction_steps.specs.Pivot.{pivotRule}
 use Rattle.reports.specs.Reductions.{Reductions, tooWide, reduced}
 use Rattle.reports.specs.Report.{reportList, coordinateList}
-use Rattle.reports.specs.Call.{callChecks, chainChecks, reportSlots, coordinateSlots, workSlots, reductionsOf}
+use Rattle.reports.specs.Call.{written, callChecks, chainChecks, reportSlots, coordinateSlots, workSlots, reductionsOf}
 use Rattle.limits.specs.Limits.{hostLimit, coefficientLimit}
 
 -- ---- numbers as bytes
@@ -83,17 +83,16 @@ abbrev pub orRefusedWith : ℕ → List ℕ → HostCalled → HostCalled
 orRefusedWith zero output later = later
 orRefusedWith (suc n) output later = record { number = suc n; output = output }
 
--- done: the numbers' bytes from the output's start on, untouched past them; or 13
-unfoldable pub finishedWith : Reductions → (ℕ → ℕ → State → List ℤ) → List ℕ → HostCalled
-finishedWith tooWide numbers output = record { number = 13; output = output }
-finishedWith (reduced s r x) numbers output =
-    record { number = 0; output = numbersBytes (numbers s r x) ++ drop (8 * length (numbers s r x)) output }
+-- done, with the output that the two reductions leave; or 13
+unfoldable pub finishedWith : Reductions → (ℕ → ℕ → State → List ℕ) → List ℕ → HostCalled
+finishedWith tooWide left output = record { number = 13; output = output }
+finishedWith (reduced s r x) left output = record { number = 0; output = left s r x }
 
 -- fildwuk_report
 unfoldable pub hostReport : List ℕ → ℕ → List ℕ → HostCalled
 hostReport b p output =
     orRefusedWith (first (callChecks hostLimit b p reportSlots (slotsIn output) (workSlots (chainCells b) p))) output
-    (finishedWith (reductionsOf pivotRule (chainCells b) p) (λ s r x. reportList (count (chainCells b) p) s r x) output)
+    (finishedWith (reductionsOf pivotRule (chainCells b) p) (λ s r x. written (numbersBytes (reportList (count (chainCells b) p) s r x)) output) output)
 
 -- fildwuk_coordinates
 unfoldable pub hostCoordinates : List ℕ → ℕ → List ℕ → List ℕ → HostCalled
@@ -102,4 +101,4 @@ hostCoordinates b p chain output =
     (first (callChecks hostLimit b p coordinateSlots (slotsIn output) (workSlots (chainCells b) p)
     ++ chainChecks coefficientLimit b p (chainFrom (count (chainCells b) p) chain)))
     output
-    (finishedWith (reductionsOf pivotRule (chainCells b) p) (λ s r x. coordinateList (count (chainCells b) p) s x (chainFrom (count (chainCells b) p) chain)) output)
+    (finishedWith (reductionsOf pivotRule (chainCells b) p) (λ s r x. written (numbersBytes (coordinateList (count (chainCells b) p) s x (chainFrom (count (chainCells b) p) chain))) output) output)

@@ -23,16 +23,21 @@ use Rattle.reduction_steps.specs.State.{State}
 use Rattle.reduction_steps.specs.Pivot.{pivotRule}
 use Rattle.reports.specs.Reductions.{Reductions}
 use Rattle.reports.specs.Report.{Counts, reportList, coordinateList}
-use Rattle.reports.specs.Call.{done, refused, callChecks, chainChecks, reportSlots, coordinateSlots, workSlots, reductionsOf, reportCall, coordinateCall}
+use Rattle.reports.specs.Call.{Called, done, refused, written, callChecks, chainChecks, reportSlots, coordinateSlots, workSlots, reductionsOf, reportCall, coordinateCall}
 use Rattle.limits.specs.Limits.{hostLimit, coefficientLimit}
 use Rattle.reports.specs.RefusalLaws.{sheet-told, sheet-passed}
-use Rattle.reports.specs.CallLaws.{call, ReducedWith, CallRefused, earlier, wide, call-done, call-refused, call-output}
+use Rattle.reports.specs.CallLaws.{call, numbersLeft, ReducedWith, CallRefused, earlier, wide, call-done, call-refused, call-output}
+use Rattle.reports.specs.HostLaws.{length-numbersBytes}
 use Rattle.reports.specs.Host.{HostCalled, numbersBytes, chainFrom, slotsIn, orRefusedWith, finishedWith, hostReport, hostCoordinates}
 
 -- ---- a host call: the refusals before the reduction, then what the reductions come to
 
-abbrev pub hostCall : ℕ → Reductions → (ℕ → ℕ → State → List ℤ) → List ℕ → HostCalled
-hostCall before R numbers output = orRefusedWith before output (finishedWith R numbers output)
+abbrev pub hostCall : ℕ → Reductions → (ℕ → ℕ → State → List ℕ) → List ℕ → HostCalled
+hostCall before R left output = orRefusedWith before output (finishedWith R left output)
+
+-- what is left where the bytes of these numbers are written from the output's start on
+abbrev pub bytesLeft : (ℕ → ℕ → State → List ℤ) → List ℕ → ℕ → ℕ → State → List ℕ
+bytesLeft numbers output s r x = written (numbersBytes (numbers s r x)) output
 
 -- the number k, and the output is untouched
 pub record HostRefused (called : HostCalled) (k : ℕ) (output : List ℕ) : Type 0 where
@@ -45,31 +50,37 @@ pub record HostDone (called : HostCalled) (many : ℕ) (numbers : List ℤ) (out
   pub output-is : called .output ≡ numbersBytes (take many numbers) ++ drop (8 * many) output
 
 module _ (before : ℕ) (R : Reductions) (numbers : ℕ → ℕ → State → List ℤ) (slots work : List ℤ) (output : List ℕ) where
-  host-refused : (k : ℕ) → call before R numbers slots work .answer ≡ refused k → HostRefused (hostCall before R numbers output) k output
+  abbrev library : Called
+  library = call before R (numbersLeft numbers slots) slots work
+
+  abbrev host : HostCalled
+  host = hostCall before R (bytesLeft numbers output) output
+
+  host-refused : (k : ℕ) → library .answer ≡ refused k → HostRefused host k output
   unfolding finishedWith
-  host-refused k e = go before R (call-refused before R numbers slots work k e)
+  host-refused k e = go before R (call-refused before R (numbersLeft numbers slots) slots work k e)
     where
-      go : (before : ℕ) (R : Reductions) → CallRefused before R k → HostRefused (hostCall before R numbers output) k output
+      go : (before : ℕ) (R : Reductions) → CallRefused before R k → HostRefused (hostCall before R (bytesLeft numbers output) output) k output
       go zero R (earlier e d) = absurd (d (sym e))
       go (suc n) R (earlier e d) = record { number-is = e; output-is = refl }
       go zero R (wide z e t) = rw e (record { number-is = sym t; output-is = refl })
       go (suc n) R (wide z e t) = absurd (omega arith)
 
   host-done : {counts : Counts} (many : ℕ) → before ≡ 0 → (c : ReducedWith R counts) → length (numbers (c .rows) (c .rank) (c .state)) ≡ many
-      → HostDone (hostCall before R numbers output) many (call before R numbers slots work .output) output
+      → HostDone host many (library .output) output
   unfolding finishedWith
   host-done many z c size = record { number-is = rw (z, c .reductions); output-is = bytes }
     where
       list : List ℤ
       list = numbers (c .rows) (c .rank) (c .state)
 
-      same : take many (call before R numbers slots work .output) ≡ list
+      same : take many (library .output) ≡ list
       same =
-          ap (take many) (call-output before R numbers slots work z (c .rows) (c .rank) (c .state) (c .reductions))
+          ap (take many) (call-output before R (numbersLeft numbers slots) slots work z (c .rows) (c .rank) (c .state) (c .reductions))
           ∙ take-at list (drop (length list) slots) many size
 
-      bytes : hostCall before R numbers output .output ≡ numbersBytes (take many (call before R numbers slots work .output)) ++ drop (8 * many) output
-      bytes = rw (same, ← size, z, c .reductions)
+      bytes : host .output ≡ numbersBytes (take many (library .output)) ++ drop (8 * many) output
+      bytes = rw (same, ← size, z, c .reductions) (ap (λ (n : ℕ). numbersBytes list ++ drop n output) (length-numbersBytes list))
 
 -- ---- the room of a host call
 
@@ -143,10 +154,10 @@ module _ (b : List ℕ) (p : ℕ) (output : List ℕ) (slots work : List ℤ) (s
   reportBefore : ℕ
   reportBefore = first (callChecks hostLimit b p reportSlots (length slots) (length work))
 
-  report-same : hostReport b p output ≡ hostCall reportBefore (reductionsOf pivotRule (chainCells b) p) reportNumbers output
+  report-same : hostReport b p output ≡ hostCall reportBefore (reductionsOf pivotRule (chainCells b) p) (bytesLeft reportNumbers output) output
   unfolding hostReport reportBefore reportNumbers
   report-same =
-      ap (λ (n : ℕ). hostCall n (reductionsOf pivotRule (chainCells b) p) reportNumbers output)
+      ap (λ (n : ℕ). hostCall n (reductionsOf pivotRule (chainCells b) p) (bytesLeft reportNumbers output) output)
       (sym (same-refusal b p reportSlots reportRoom (slotsIn output) (length slots) (length work) size space (λ e. report-room b e p)))
 
   pub report-refused : (k : ℕ) → reportCall hostLimit b p slots work .answer ≡ refused k → HostRefused (hostReport b p output) k output
@@ -159,7 +170,7 @@ module _ (b : List ℕ) (p : ℕ) (output : List ℕ) (slots work : List ℤ) (s
       → HostDone (hostReport b p output) many (reportCall hostLimit b p slots work .output) output
   unfolding reportCall reportBefore reportNumbers
   report-done {counts} many e c long =
-      let d = call-done reportBefore (reductionsOf pivotRule (chainCells b) p) reportNumbers slots work counts e in
+      let d = call-done reportBefore (reductionsOf pivotRule (chainCells b) p) (numbersLeft reportNumbers slots) slots work counts e in
       rw report-same (host-done reportBefore (reductionsOf pivotRule (chainCells b) p) reportNumbers slots work output many (d .passes) c long)
 
 -- ---- the coordinates
@@ -177,7 +188,7 @@ module _ (b : List ℕ) (p : ℕ) (chain output : List ℕ) (z slots work : List
   coordinateBefore y = first (sheetChecked ++ chainChecks coefficientLimit b p y)
 
   answered : List ℤ → HostCalled
-  answered y = hostCall (coordinateBefore y) (reductionsOf pivotRule (chainCells b) p) (coordinateNumbers y) output
+  answered y = hostCall (coordinateBefore y) (reductionsOf pivotRule (chainCells b) p) (bytesLeft (coordinateNumbers y) output) output
 
   -- the checks 1 to 9 of the library's call decide, or those of the chain
   before-is : (y : List ℤ) → coordinateBefore y ≡ orElse (first sheetChecked) (first (chainChecks coefficientLimit b p y))
@@ -195,7 +206,7 @@ module _ (b : List ℕ) (p : ℕ) (chain output : List ℕ) (z slots work : List
   coordinates-same : hostCoordinates b p chain output ≡ answered z
   unfolding hostCoordinates answered sheetChecked coordinateNumbers callChecks
   coordinates-same =
-      ap (λ (n : ℕ). hostCall n (reductionsOf pivotRule (chainCells b) p) (coordinateNumbers y) output)
+      ap (λ (n : ℕ). hostCall n (reductionsOf pivotRule (chainCells b) p) (bytesLeft (coordinateNumbers y) output) output)
       (first-append (callChecks hostLimit b p coordinateSlots (slotsIn output) (workSlots (chainCells b) p)) (chainChecks coefficientLimit b p y) refl
       ∙ ap (λ (n : ℕ). orElse n (first (chainChecks coefficientLimit b p y)))
       (sym (same-refusal b p coordinateSlots coordinateRoom (slotsIn output) (length slots) (length work) size space (λ e. counts-within b e p)))
@@ -216,5 +227,5 @@ module _ (b : List ℕ) (p : ℕ) (chain output : List ℕ) (z slots work : List
       → HostDone (hostCoordinates b p chain output) many (coordinateCall hostLimit b p z slots work .output) output
   unfolding coordinateCall answered coordinateBefore sheetChecked coordinateNumbers
   coordinates-done {counts} many e c long =
-      let d = call-done (coordinateBefore z) (reductionsOf pivotRule (chainCells b) p) (coordinateNumbers z) slots work counts e in
+      let d = call-done (coordinateBefore z) (reductionsOf pivotRule (chainCells b) p) (numbersLeft (coordinateNumbers z) slots) slots work counts e in
       rw coordinates-same (host-done (coordinateBefore z) (reductionsOf pivotRule (chainCells b) p) (coordinateNumbers z) slots work output many (d .passes) c long)
