@@ -1,5 +1,5 @@
 /* What a magnetic solver does with Fildwuk: it reads a sheet, gives each free loop of dimension 1 an unknown current and none to a twisted one,
- * and asks for the coordinates of a loop. Usage: solver FILE.sheet */
+ * and asks for the coordinates of all its loops in one call. Usage: solver FILE.sheet */
 #include <inttypes.h>
 #include <stdio.h>
 #include <string.h>
@@ -8,8 +8,10 @@
 
 static uint8_t sheet[1024];
 static uint8_t report[FILDWUK_REPORT_BYTES(FILDWUK_CELLS)];
-static uint8_t coordinates[FILDWUK_COORDINATE_BYTES(FILDWUK_CELLS)];
-static uint8_t chain[FILDWUK_CHAIN_BYTES(FILDWUK_CELLS)];
+
+/* A report has at most as many loops as the dimension has cells. */
+static uint8_t chains[FILDWUK_CHAINS_BYTES(FILDWUK_CELLS, FILDWUK_CELLS)];
+static uint8_t lists[FILDWUK_COORDINATE_LISTS_BYTES(FILDWUK_CELLS, FILDWUK_CELLS)];
 
 /* Number i of a report or of coordinates. */
 static int64_t number(const uint8_t *bytes, size_t i) {
@@ -19,16 +21,26 @@ static int64_t number(const uint8_t *bytes, size_t i) {
     return (int64_t)bits;
 }
 
-/* Puts coefficient x at place i of the chain. */
+/* Puts coefficient x at place i of the chains. */
 static void put(size_t i, int32_t x) {
     for (int k = 0; k < 4; k++)
-        chain[4 * i + (size_t)k] = (uint8_t)((uint32_t)x >> (8 * k) & 255);
+        chains[4 * i + (size_t)k] = (uint8_t)((uint32_t)x >> (8 * k) & 255);
 }
 
-/* The generator at place j of the report, with n coefficients, as a chain. */
-static void take_generator(size_t t, size_t j, size_t n) {
-    for (size_t i = 0; i < n; i++)
-        put(i, (int32_t)number(report, 2 + t + j * n + i));
+/* The loops of a report with t orders, each with n coefficients, as chains one after another. */
+static void take_loops(size_t t, size_t loops, size_t n) {
+    for (size_t i = 0; i < loops * n; i++)
+        put(i, (int32_t)number(report, 2 + t + i));
+}
+
+/* Prints the coordinates of all loops; the list of each has n slots, of which the first are its coordinates, one for each loop. */
+static void print_lists(size_t loops, size_t n) {
+    for (size_t j = 0; j < loops; j++) {
+        printf("coordinates of loop %zu:", j);
+        for (size_t i = 0; i < loops; i++)
+            printf(" %" PRId64, number(lists, j * n + i));
+        printf("\n");
+    }
 }
 
 int main(int argc, char **argv) {
@@ -50,13 +62,12 @@ int main(int argc, char **argv) {
         printf("loop %zu closes off when run %" PRId64 " times: no unknown\n", j, number(report, 2 + j));
     for (size_t j = t; j < t + b; j++)
         printf("loop %zu is free: unknown current I%zu\n", j, j - t);
-    for (size_t j = 0; j < t + b; j++) {
-        take_generator(t, j, edges);
-        answer = fildwuk_coordinates(sheet, length, 1, chain, 4 * edges, coordinates, sizeof coordinates);
-        printf("coordinates of loop %zu:", j);
-        for (size_t i = 0; answer == FILDWUK_DONE && i < t + b; i++)
-            printf(" %" PRId64, number(coordinates, i));
-        printf("%s\n", answer == FILDWUK_DONE ? "" : " refused");
+    take_loops(t, t + b, edges);
+    answer = fildwuk_coordinate_lists(sheet, length, 1, (uint32_t)(t + b), chains, FILDWUK_CHAINS_BYTES(t + b, edges), lists, sizeof lists);
+    if (answer != FILDWUK_DONE) {
+        printf("coordinates refused: %" PRIu32 "\n", answer);
+        return 1;
     }
+    print_lists(t + b, edges);
     return 0;
 }

@@ -1,10 +1,10 @@
-/* Fildwuk: verified homology of conductor meshes. The host calls of document 01.
+/* Fildwuk: verified homology of conductor meshes. The host calls of documents 01 and 02.
  *
  * Link with libfildwuk.a: `pkg-config --cflags --libs fildwuk` after `bash install PREFIX`, or target/staticlib/ after `rt staticlib fildwuk`.
  *
- * Every pointer is lent for the time of the call and not kept. A call reads `sheet` and `chain`, and writes nothing but its output. The output
- * must not overlap the sheet or the chain, and nobody else may write to any of them while the call runs. No pointer may be null, also where its
- * length is 0. The calls keep no state: they may run at the same time on several threads, each with its own output. They always return.
+ * Every pointer is lent for the time of the call and not kept. A call reads `sheet` and `chain` or `chains`, and writes nothing but its output.
+ * The output must not overlap the sheet or the chains, and nobody else may write to any of them while the call runs. No pointer may be null, also
+ * where its length is 0. The calls keep no state: they may run at the same time on several threads, each with its own output. They always return.
  *
  * Each call has its own work arrays on the caller's stack. 256 KiB of stack are enough for any sheet: how deep the calls go is bounded by proof,
  * whatever the sheet, and with the frames of the library as built they take about 60 KiB. docs/SOLVER.md, "Stack", has the figures.
@@ -21,7 +21,8 @@
 extern "C" {
 #endif
 
-/* What a call answers. A refusal leaves the output untouched. The refusals are tried in the order of their numbers. */
+/* What a call answers. A refusal leaves the output untouched. The refusals are tried in the order of their numbers, save that 11 and 12 are
+ * tried chain by chain. */
 enum fildwuk_answer {
     FILDWUK_DONE = 0,
     FILDWUK_SHEET_TOO_SHORT = 1,       /* the sheet has fewer than 16 bytes */
@@ -33,9 +34,9 @@ enum fildwuk_answer {
     FILDWUK_FACE_MISSING = 7,          /* a face is missing */
     FILDWUK_DIMENSION_EXCEEDS_TOP = 8, /* the dimension exceeds 3 */
     FILDWUK_SLICE_TOO_SHORT = 9,       /* the output is too short */
-    FILDWUK_CHAIN_LENGTH_DIFFERS = 10, /* the chain has other than 4 * n bytes */
+    FILDWUK_CHAIN_LENGTH_DIFFERS = 10, /* the chain has other than 4 * n bytes, or the chains have other than 4 * number * n */
     FILDWUK_COEFFICIENT_EXCEEDS = 11,  /* a coefficient lies outside -32767 to 32767 */
-    FILDWUK_BOUNDARY_NOT_ZERO = 12,    /* the chain is no cycle */
+    FILDWUK_BOUNDARY_NOT_ZERO = 12,    /* a chain is no cycle */
     FILDWUK_TOO_WIDE = 13              /* the reduction makes an entry beyond 1048575 */
 };
 
@@ -47,6 +48,10 @@ enum fildwuk_answer {
 #define FILDWUK_COORDINATE_BYTES(n) (8 * (size_t)(n))
 #define FILDWUK_CHAIN_BYTES(n) (4 * (size_t)(n))
 
+/* The bytes to lend for so many chains of n cells each, and for their coordinate lists. */
+#define FILDWUK_CHAINS_BYTES(number, n) ((size_t)(number) * FILDWUK_CHAIN_BYTES(n))
+#define FILDWUK_COORDINATE_LISTS_BYTES(number, n) ((size_t)(number) * FILDWUK_COORDINATE_BYTES(n))
+
 /* The report of a dimension: the free rank b, the number t of torsion orders, the t orders, then t + b generators of n coefficients each, first
  * those of the orders, then the free ones. `report_len` must be at least FILDWUK_REPORT_BYTES(n); an incomplete number at the end gives no slot.
  * Bytes past the report stay as they were. */
@@ -56,6 +61,16 @@ uint32_t fildwuk_report(const uint8_t *sheet, size_t sheet_len, uint32_t dimensi
  * FILDWUK_CHAIN_BYTES(n) bytes. `coordinates_len` must be at least FILDWUK_COORDINATE_BYTES(n). Bytes past the t + b numbers stay as they were. */
 uint32_t fildwuk_coordinates(const uint8_t *sheet, size_t sheet_len, uint32_t dimension, const uint8_t *chain, size_t chain_len,
                              uint8_t *coordinates, size_t coordinates_len);
+
+/* The coordinate lists of several cycles of one dimension, with one reduction for all. The chains stand one after another and have exactly
+ * FILDWUK_CHAINS_BYTES(number, n) bytes. Each list has n slots of 8 bytes, list i from byte i * FILDWUK_COORDINATE_BYTES(n) on: its first t + b
+ * slots get the numbers that fildwuk_coordinates gives for chain i, its other slots stay as they were. `coordinates_len` must be at least
+ * FILDWUK_COORDINATE_LISTS_BYTES(number, n), also where t + b is less than n. Bytes past the lists stay as they were.
+ *
+ * The first faulty chain decides between the refusals 11 and 12, and in one chain 11 comes first. Like every refusal they leave all lists as they
+ * were. With no chains, 1 to 10 and 13 still apply. Where n is 0, any number of chains is right, with no bytes. */
+uint32_t fildwuk_coordinate_lists(const uint8_t *sheet, size_t sheet_len, uint32_t dimension, uint32_t number, const uint8_t *chains,
+                                  size_t chains_len, uint8_t *coordinates, size_t coordinates_len);
 
 #ifdef __cplusplus
 }

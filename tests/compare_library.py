@@ -1,5 +1,5 @@
 #!/usr/bin/env python3
-"""Compares the library's calls, at its count limit of 256, with the model: meshes near the limit, doubling towers, damaged sheets.
+"""Compares the library's calls, at its count limit of 256, with the model: meshes near the limit, doubling towers, random and damaged sheets.
 
 Each call is lent slices of the lengths that check 9 wants, some longer and some too short, and is held to its answer, its output and its work slice.
 """
@@ -7,33 +7,72 @@ Each call is lent slices of the lengths that check 9 wants, some longer and some
 import argparse
 import random
 import struct
-import subprocess
 from array import array
 from collections import Counter
+from dataclasses import dataclass
 from pathlib import Path
 
+from drivers import Expected, count_differing
 from make_sheets import fault_sheets
-from model import homology, meshes, sheet_cases
-from model.calls import library_coordinates, library_report
+from model import homology, list_cases, meshes, random_meshes, sheet_cases
+from model.calls import library_coordinate_lists, library_coordinates, library_report
 from model.matrices import apply, boundary
-from model.sheet import DIMENSIONS, LIBRARY_COUNT_LIMIT, Refused, from_facets, parse, refusal
+from model.sheet import DIMENSIONS, LIBRARY_COUNT_LIMIT, PROGRAM_COUNT_LIMIT, Refused, from_facets, parse, refusal
 
 DRIVER = Path("target/host/library_driver")
 SLOT = struct.unpack("<q", b"\xa5" * 8)[0]
 WORK_SLOT = struct.unpack("<i", b"\xa5" * 4)[0]
+NUMBER_BITS = 64
 
 # Changes of the lengths that check 9 wants, for the output and the work slice.
 EXACT = (0, 0)
 CHANGES = [(3, 5), (-1, 0), (0, -1)]
 
+# The cases of coordinate lists that are tried on a sheet with more than 48 cells in a dimension, besides lists of cycles.
+CASES_OF_LARGE_SHEETS = 20
 
-def sheets_to_compare():
+
+@dataclass(frozen=True)
+class Call:
+    """A call: R, C or L for the report, the coordinates or the coordinate lists, and what it is lent besides the sheet."""
+
+    kind: str
+    p: int
+    chains: list
+    output: int
+    work: int
+    number: int = 1
+    name: str = ""
+
+    def request(self, data):
+        """The bytes for the driver."""
+        head = struct.pack("<2IQ3I", len(data), self.p, self.number, len(self.chains), self.output, self.work)
+        return self.kind.encode() + head + data + array("i", self.chains).tobytes()
+
+    def due(self, data):
+        """The model's answer, and both slices after the call."""
+        lent, room = [SLOT] * self.output, [WORK_SLOT] * self.work
+        if self.kind == "R":
+            return library_report(data, self.p, lent, room)
+        if self.kind == "C":
+            return library_coordinates(data, self.p, self.chains, lent, room)
+        return library_coordinate_lists(data, self.p, self.number, self.chains, lent, room)
+
+    def expected(self, name, data):
+        """The call with what the driver is to write, by the model."""
+        number, lent, room = self.due(data)
+        written = struct.pack("<I", number) + array("q", lent).tobytes() + array("i", room).tobytes()
+        return Expected(f"{name}, {self.kind} in dimension {self.p} {self.name}".strip(), self.request(data), number, written)
+
+
+def sheets_to_compare(rng):
     """Sheets by name."""
     sheets = {f"tower {floors}": from_facets(meshes.tower(floors)) for floors in (1, 3, 10, 19, 20)}
     sheets["open tower 20"] = from_facets(meshes.open_tower(20))
     sheets["256 cells of each dimension"] = sheet_cases.full(LIBRARY_COUNT_LIMIT)
     sheets.update({name: from_facets(facets) for name, facets in meshes.sized().items()})
     sheets.update({name: data for name, data in list(fault_sheets().items())[::9]})
+    sheets.update({f"random {i}": from_facets(random_meshes.complex_of(rng, PROGRAM_COUNT_LIMIT)) for i in range(10)})
     return sheets
 
 
@@ -76,27 +115,66 @@ def coordinate_slots(sheet, p):
 
 
 def calls(rng, data):
-    """The calls to make on a sheet: kind, dimension, chain, output and work lengths."""
+    """The reports and coordinates to ask for on a sheet."""
     accepted = refusal(data, LIBRARY_COUNT_LIMIT) == 0
     for p in range(DIMENSIONS + 1) if accepted else [rng.randrange(DIMENSIONS + 1)]:
         tried = list(chains(rng, data, parse(data, LIBRARY_COUNT_LIMIT), p)) if accepted and p < DIMENSIONS else [[]]
         for change in (EXACT, rng.choice(CHANGES)):
-            yield b"R", p, [], *lengths(data, p, homology.report_slots, change)
-            yield b"C", p, tried[0], *lengths(data, p, coordinate_slots, change)
+            yield Call("R", p, [], *lengths(data, p, homology.report_slots, change))
+            yield Call("C", p, tried[0], *lengths(data, p, coordinate_slots, change))
         for chain in tried[1:]:
-            yield b"C", p, chain, *lengths(data, p, coordinate_slots, EXACT)
+            yield Call("C", p, chain, *lengths(data, p, coordinate_slots, EXACT))
 
 
-def request(data, kind, p, chain, output, work):
-    """The bytes of a call for the driver."""
-    return kind + struct.pack("<5I", len(data), p, len(chain), output, work) + data + array("i", chain).tobytes()
+def list_call(case, p, work, change=EXACT):
+    """The call of a case, with the slices changed by so many slots."""
+    return Call("L", p, case.chains, max(0, case.slots + change[0]), max(0, work + change[1]), case.number, case.name)
 
 
-def due(data, kind, p, chain, output, work):
-    """The model's answer, and the bytes that the driver writes for it."""
-    lent, room = [SLOT] * output, [WORK_SLOT] * work
-    number, lent, room = library_report(data, p, lent, room) if kind == b"R" else library_coordinates(data, p, chain, lent, room)
-    return number, struct.pack("<I", number) + array("q", lent).tobytes() + array("i", room).tobytes()
+def list_cases_of(rng, data, p, large):
+    """Every case of coordinate lists, or on a large sheet the cycles and some of the others."""
+    cases = list_cases.cases(rng, data, p, LIBRARY_COUNT_LIMIT, NUMBER_BITS, 12 if large else rng.randint(20, 60))
+    sound = [case for case in cases if case.due == 0]
+    others = [case for case in cases if case.due != 0]
+    return sound + rng.sample(others, min(CASES_OF_LARGE_SHEETS, len(others))) if large else cases
+
+
+def list_calls(rng, data):
+    """Coordinate lists of an accepted sheet: the cases, and lists of cycles with longer slices and with slices too short."""
+    sheet = parse(data, LIBRARY_COUNT_LIMIT)
+    for p in range(DIMENSIONS):
+        work = homology.work_slots(sheet, p)
+        cases = list_cases_of(rng, data, p, max(map(sheet.count, range(DIMENSIONS))) > PROGRAM_COUNT_LIMIT)
+        yield from (list_call(case, p, work) for case in cases)
+        yield from (list_call(case, p, work, change) for case in cases[:3] for change in CHANGES)
+
+
+def list_calls_anywhere(rng, p):
+    """Coordinate lists of no chains and of some, also of very many, whatever the sheet."""
+    for number in (0, rng.choice([1, 2, 3]), rng.choice(list_cases.large_numbers(NUMBER_BITS))):
+        coefficients = rng.choice([0, number if number < 4 else 1])
+        yield Call("L", p, [0] * coefficients, rng.choice([0, 1, 6]), rng.choice([0, 9]), number)
+
+
+def all_calls(rng, list_rng, data):
+    """Every call to make on a sheet."""
+    yield from calls(rng, data)
+    yield from list_calls_anywhere(list_rng, list_rng.choice([*range(DIMENSIONS + 1), 2 ** 32 - 1]))
+    if refusal(data, LIBRARY_COUNT_LIMIT) == 0:
+        yield from list_calls(list_rng, data)
+
+
+def count_told(made):
+    """How many calls of each kind have each answer due."""
+    told = Counter((call.kind, expected.number) for call, expected in made)
+    told.update(("L of no chains", expected.number) for call, expected in made if call.kind == "L" and call.number == 0)
+    return told
+
+
+def missing(told):
+    """The answers that were never due."""
+    wanted = {"R": [*range(10), 13], "C": range(14), "L": range(14), "L of no chains": [*range(11), 13]}
+    return [(kind, number) for kind, numbers in wanted.items() for number in numbers if not told[kind, number]]
 
 
 def main():
@@ -105,24 +183,21 @@ def main():
     parser.add_argument("--driver", type=Path, default=DRIVER, metavar="FILE", help="the built driver (target/host/library_driver)")
     parser.add_argument("--sheet", metavar="NAME", help="one sheet alone")
     options = parser.parse_args()
-    rng = random.Random(4)
-    sheets = sheets_to_compare()
+    rng, list_rng = random.Random(4), random.Random(5)
+    sheets = sheets_to_compare(list_rng)
     if options.sheet:
         sheets = {options.sheet: sheets[options.sheet]}
     wrong, told = 0, Counter()
     for name, data in sheets.items():
-        made = list(calls(rng, data))
-        answers = [due(data, *call) for call in made]
-        told.update((call[0].decode(), number) for call, (number, _) in zip(made, answers))
-        run = subprocess.run([options.driver], input=b"".join(request(data, *call) for call in made), capture_output=True, check=False)
-        if run.returncode or run.stdout != b"".join(answer for _, answer in answers):
-            wrong += 1
-            print(f"{name}: status {run.returncode}, {len(run.stdout)} bytes, due {[number for number, _ in answers]}")
-    for kind, call in (("R", "report"), ("C", "coordinates")):
-        print(f"{call}: " + ", ".join(f"{told[kind, n]} answered {n}" for n in range(14) if told[kind, n]))
-    print(f"{len(sheets)} sheets, {sum(told.values())} calls, {wrong} sheets differ")
-    missing = [] if options.sheet else [n for n in range(14) if not told["C", n]] + [n for n in (*range(10), 13) if not told["R", n]]
-    raise SystemExit(1 if wrong or missing else 0)
+        made = [(call, call.expected(name, data)) for call in all_calls(rng, list_rng, data)]
+        told.update(count_told(made))
+        wrong += count_differing(options.driver, [expected for _, expected in made])
+    for kind in dict.fromkeys(kind for kind, _ in told):
+        print(f"{kind}: " + ", ".join(f"{told[kind, n]} answered {n}" for n in range(14) if told[kind, n]))
+    print(f"{len(sheets)} sheets, {sum(told[kind, n] for kind in 'RCL' for n in range(14))} calls, {wrong} differ")
+    if missing(told) and not options.sheet:
+        print("never due:", missing(told))
+    raise SystemExit(1 if wrong or (missing(told) and not options.sheet) else 0)
 
 
 if __name__ == "__main__":

@@ -1,5 +1,5 @@
 #!/usr/bin/env python3
-"""Checks the model of document 01 against the values that 01 gives and the laws it obeys.
+"""Checks the model of documents 01 and 02 against the values that they give and the laws it obeys.
 
 Options and names of tests are those of unittest.
 """
@@ -8,13 +8,15 @@ import sys
 import unittest
 
 from checks.calls import Calls
-from checks.homology import Coordinates, RefusalOrder, Reports
+from checks.homology import Coordinates, RefusalOrder, Reports, SlicesOfCheck9
+from checks.lists import ListRefusalOrder, Lists, ListSlices, NoChainsRefusalOrder
 from checks.meshes import Meshes
 from checks.reductions import Reductions
 from checks.sheets import Boundaries, Sheets
 
-__all__ = ["Boundaries", "Calls", "Coordinates", "Meshes", "Reductions", "RefusalOrder",
-           "Reports", "Sheets"]
+__all__ = ["Boundaries", "Calls", "Coordinates", "ListRefusalOrder", "Lists", "ListSlices",
+           "Meshes", "NoChainsRefusalOrder", "Reductions", "RefusalOrder", "Reports", "Sheets",
+           "SlicesOfCheck9"]
 
 if __name__ == "__main__":
     if {"-h", "--help"} & set(sys.argv[1:]):

@@ -109,6 +109,9 @@ class Coordinates(unittest.TestCase):
 class RefusalOrder(unittest.TestCase):
     """Each refusal of the coordinate call alone, and every two: the lower number is told."""
 
+    call = staticmethod(coordinates)
+    numbers = range(1, 14)
+
     def setting(self, numbers):
         draft = sheet_cases.Draft()
         faults = {number: edit for number, edit in sheet_cases.faults(256).values()}
@@ -128,15 +131,17 @@ class RefusalOrder(unittest.TestCase):
                 "coordinate_length": edges - 1 if 9 in numbers else edges}
 
     def test_alone_and_in_pairs(self):
-        for number in range(1, 14):
-            self.assertEqual(answer(coordinates, **self.setting({number})), number)
-        for pair in combinations(range(1, 14), 2):
-            self.assertEqual(answer(coordinates, **self.setting(set(pair))), min(pair), pair)
+        for number in self.numbers:
+            self.assertEqual(answer(self.call, **self.setting({number})), number)
+        for pair in combinations(self.numbers, 2):
+            self.assertEqual(answer(self.call, **self.setting(set(pair))), min(pair), pair)
 
     def test_nothing_is_refused_without_a_fault(self):
-        self.assertEqual(answer(coordinates, **self.setting(set())), 0)
+        self.assertEqual(answer(self.call, **self.setting(set())), 0)
 
-    def test_lengths_of_check_9(self):
+
+class SlicesOfCheck9(unittest.TestCase):
+    def test_lengths(self):
         sheet = parse(HOLLOW, 48)
         self.assertEqual([report_slots(sheet, p) for p in range(4)], [14, 14, 2, 2])
         self.assertEqual([work_slots(sheet, p) for p in range(4)], [27, 27, 0, 0])

@@ -1,5 +1,6 @@
 /* Memory to lend to a call: a block that lies against a page that nobody may touch, so that a call that reads or writes beyond it ends the
- * program. The rest of the block's pages holds a pattern, which `intact` checks. */
+ * program. The rest of the block's pages holds a pattern, which `intact` checks. Also what the drivers read and write, and a limit to the
+ * time of a call. */
 #ifndef FENCED_H
 #define FENCED_H
 
@@ -8,6 +9,7 @@
 #include <stdlib.h>
 #include <string.h>
 #include <sys/mman.h>
+#include <sys/time.h>
 #include <unistd.h>
 
 enum { PATTERN = 0xa5 };
@@ -53,6 +55,13 @@ static int intact(struct fenced block) {
 static void release(struct fenced block) {
     size_t page = (size_t)sysconf(_SC_PAGESIZE);
     munmap(block.pages - page, block.room + 2 * page);
+}
+
+/* Ends the program, by a signal, half a second of processor time from now; a call that walks over the largest number takes longer. */
+static void limit_time(void) {
+    struct itimerval limit = {{0, 0}, {0, 500000}};
+    if (setitimer(ITIMER_VIRTUAL, &limit, NULL) != 0)
+        exit(2);
 }
 
 /* A 4-byte number of standard input, low byte first; 0 where the input ends. */

@@ -1,4 +1,4 @@
-/* The header in C and in C++: its numbers, its sizes, and both calls, on the hollow triangle in dimension 1, whose only generator is 1, -1, 1. */
+/* The header in C and in C++: its numbers, its sizes, and its calls, on the hollow triangle in dimension 1, whose only generator is 1, -1, 1. */
 #include "fildwuk.h"
 #include "fildwuk.h"
 
@@ -17,12 +17,36 @@ CHECK(FILDWUK_COEFFICIENT_EXCEEDS == 11 && FILDWUK_BOUNDARY_NOT_ZERO == 12 && FI
 CHECK(FILDWUK_CELLS == 48 && FILDWUK_REPORT_BYTES(FILDWUK_CELLS) == 18832);
 CHECK(FILDWUK_COORDINATE_BYTES(FILDWUK_CELLS) == 384 && FILDWUK_CHAIN_BYTES(FILDWUK_CELLS) == 192);
 CHECK(FILDWUK_REPORT_BYTES(1 + 1) == 64 && FILDWUK_COORDINATE_BYTES(1 + 1) == 16 && FILDWUK_CHAIN_BYTES(1 + 1) == 8);
+CHECK(FILDWUK_CHAINS_BYTES(5, FILDWUK_CELLS) == 960 && FILDWUK_COORDINATE_LISTS_BYTES(5, FILDWUK_CELLS) == 1920);
+CHECK(FILDWUK_CHAINS_BYTES(1 + 2, 1 + 1) == 24 && FILDWUK_COORDINATE_LISTS_BYTES(1 + 2, 1 + 1) == 48 && FILDWUK_CHAINS_BYTES(0, 3) == 0);
+CHECK(48 / FILDWUK_CHAINS_BYTES(3, 2) == 2 && 96 / FILDWUK_COORDINATE_LISTS_BYTES(3, 2) == 2);
+CHECK(FILDWUK_CHAINS_BYTES(UINT32_MAX, 48) / 192 == UINT32_MAX && FILDWUK_COORDINATE_LISTS_BYTES(UINT32_MAX, 48) / 384 == UINT32_MAX);
 
 static const uint8_t SHEET[34] = {3, 0, 16, 0, 3, 0, 22, 0, 0, 0, 34, 0, 0, 0, 34, 0, 0, 0, 1, 0, 2, 0, 0, 0, 1, 0, 0, 0, 2, 0, 1, 0, 2, 0};
 static const uint8_t CHAIN[FILDWUK_CHAIN_BYTES(3)] = {255, 255, 255, 255, 1, 0, 0, 0, 255, 255, 255, 255};
 static const uint8_t REPORT[40] = {1, 0, 0, 0, 0, 0, 0, 0, 0,   0,   0,   0,   0,   0,   0,   0,   1, 0, 0, 0,
                                    0, 0, 0, 0, 255, 255, 255, 255, 255, 255, 255, 255, 1, 0, 0, 0, 0, 0, 0, 0};
 static const uint8_t COORDINATES[8] = {255, 255, 255, 255, 255, 255, 255, 255};
+
+/* Two chains, the generator taken 2 and -1 times, and their lists: a slot each, and two slots that stay 7. */
+static const uint8_t CHAINS[FILDWUK_CHAINS_BYTES(2, 3)] = {2,   0,   0,   0,   254, 255, 255, 255, 2,   0,   0,   0,
+                                                           255, 255, 255, 255, 1,   0,   0,   0,   255, 255, 255, 255};
+static const uint8_t LISTS[FILDWUK_COORDINATE_LISTS_BYTES(2, 3)] = {
+    2,   0,   0,   0,   0,   0,   0,   0,   7, 7, 7, 7, 7, 7, 7, 7, 7, 7, 7, 7, 7, 7, 7, 7,
+    255, 255, 255, 255, 255, 255, 255, 255, 7, 7, 7, 7, 7, 7, 7, 7, 7, 7, 7, 7, 7, 7, 7, 7};
+
+/* 0 where the call for both chains is refused and done as it must be and leaves the lists, else a number above 4. */
+static int check_lists(void) {
+    static uint8_t lists[FILDWUK_COORDINATE_LISTS_BYTES(2, 3)];
+    memset(lists, 7, sizeof lists);
+    if (fildwuk_coordinate_lists(SHEET, sizeof SHEET, 1, 3, CHAINS, sizeof CHAINS, lists, sizeof lists) != FILDWUK_SLICE_TOO_SHORT)
+        return 5;
+    if (fildwuk_coordinate_lists(SHEET, sizeof SHEET, 1, 1, CHAINS, sizeof CHAINS, lists, sizeof lists) != FILDWUK_CHAIN_LENGTH_DIFFERS)
+        return 6;
+    if (fildwuk_coordinate_lists(SHEET, sizeof SHEET, 1, 2, CHAINS, sizeof CHAINS, lists, sizeof lists) != FILDWUK_DONE)
+        return 7;
+    return memcmp(lists, LISTS, sizeof LISTS) == 0 ? 0 : 8;
+}
 
 int main(void) {
     static uint8_t report[FILDWUK_REPORT_BYTES(3)], coordinates[FILDWUK_COORDINATE_BYTES(3)];
@@ -32,5 +56,5 @@ int main(void) {
         return 2;
     if (memcmp(report, REPORT, sizeof REPORT) != 0)
         return 3;
-    return memcmp(coordinates, COORDINATES, sizeof COORDINATES) == 0 ? 0 : 4;
+    return memcmp(coordinates, COORDINATES, sizeof COORDINATES) == 0 ? check_lists() : 4;
 }

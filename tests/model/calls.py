@@ -1,4 +1,4 @@
-"""What the calls and the program of 01 leave behind: lent slices, lent bytes, printed text."""
+"""What the calls and the program leave behind: lent slices, lent bytes, printed text."""
 
 import struct
 
@@ -41,6 +41,20 @@ def library_coordinates(data, p, chain, lent, work,
     return DONE, overwrite(lent, numbers), cleared(work, DONE)
 
 
+def library_coordinate_lists(data, p, number, chains, lent, work,
+                             count_limit=LIBRARY_COUNT_LIMIT, limit=ENTRY_LIMIT):
+    """The call for many chains: its answer (0 or the refusal), and both slices after it."""
+    try:
+        found = homology.coordinate_lists(data, p, number, chains, count_limit, limit,
+                                          len(lent), len(work))
+    except Refused as refused:
+        return refused.number, list(lent), cleared(work, refused.number)
+    after = list(lent)
+    for slot, coordinate in found.slots().items():
+        after[slot] = coordinate
+    return DONE, after, cleared(work, DONE)
+
+
 def written(lent, numbers):
     """The lent bytes with the numbers at their start, 8 bytes each, low byte first."""
     return struct.pack(f"<{len(numbers)}q", *numbers) + bytes(lent[NUMBER_BYTES * len(numbers):])
@@ -57,7 +71,7 @@ def host_report(data, p, lent):
 
 
 def coefficients(chain_bytes):
-    """The coefficients in the bytes of a chain, None where the last is incomplete."""
+    """The coefficients in the bytes of a chain or of several, None where the last is incomplete."""
     if len(chain_bytes) % COEFFICIENT_BYTES:
         return None
     return list(struct.unpack(f"<{len(chain_bytes) // COEFFICIENT_BYTES}i", chain_bytes))
@@ -71,6 +85,20 @@ def host_coordinates(data, p, chain_bytes, lent):
     except Refused as refused:
         return refused.number, bytes(lent)
     return DONE, written(lent, numbers)
+
+
+def host_coordinate_lists(data, p, number, chains_bytes, lent):
+    """The call of the host for many chains: its answer and the lent bytes after it."""
+    try:
+        found = homology.coordinate_lists(data, p, number, coefficients(chains_bytes),
+                                          PROGRAM_COUNT_LIMIT,
+                                          coordinate_length=len(lent) // NUMBER_BYTES)
+    except Refused as refused:
+        return refused.number, bytes(lent)
+    after = bytearray(lent)
+    for slot, coordinate in found.slots().items():
+        struct.pack_into("<q", after, NUMBER_BYTES * slot, coordinate)
+    return DONE, bytes(after)
 
 
 def dimension_lines(data, p, count_limit, limit):

@@ -1,6 +1,7 @@
-"""The report and the coordinates of 01, with refusals 1 to 13 in order.
+"""The report and the coordinates of 01, and the coordinate lists of Note 1 in 02.
 
-A slice length that is not given is long enough. Refusals are raised as Refused.
+Refusals 1 to 13 are tried in order. A slice length that is not given is long
+enough. Refusals are raised as Refused.
 """
 
 from dataclasses import dataclass
@@ -121,6 +122,12 @@ def coordinate(kind, value):
     return value if kind == FREE else value % kind
 
 
+def coordinate_list(found, chain):
+    """The coordinates of a cycle, in the report's order."""
+    values = apply(found.rows, chain)
+    return [coordinate(found.kinds[i], values[i]) for i in found.places()]
+
+
 def coordinates(data, p, chain, count_limit=LIBRARY_COUNT_LIMIT, limit=ENTRY_LIMIT,
                 coordinate_length=None, work_length=None):
     """The coordinates of a chain of dimension p; None is a chain of no whole length."""
@@ -134,6 +141,49 @@ def coordinates(data, p, chain, count_limit=LIBRARY_COUNT_LIMIT, limit=ENTRY_LIM
         raise Refused(11)
     if not is_cycle(sheet, p, chain):
         raise Refused(12)
+    return coordinate_list(reduced(sheet, p, limit), chain)
+
+
+@dataclass(frozen=True)
+class CoordinateLists:
+    """Coordinate lists, each of which starts so many slots after the one before."""
+
+    apart: int
+    lists: list
+
+    def slots(self):
+        """The number in each slot that is written."""
+        return {i * self.apart + j: number
+                for i, numbers in enumerate(self.lists) for j, number in enumerate(numbers)}
+
+
+def parted(chains, n):
+    """The chains of n coefficients that stand one after another; where n is 0, none has any."""
+    return [chains[start:start + n] for start in range(0, len(chains), n)] if n else []
+
+
+def first_fault(matrix, chains):
+    """11 or 12 as the first faulty chain has it, 0 where none is faulty."""
+    for chain in chains:
+        if max(map(abs, chain)) > COEFFICIENT_LIMIT:
+            return 11
+        if any(apply(matrix, chain)):
+            return 12
+    return 0
+
+
+def coordinate_lists(data, p, number, chains, count_limit=LIBRARY_COUNT_LIMIT, limit=ENTRY_LIMIT,
+                     coordinate_length=None, work_length=None):
+    """The lists of so many chains of dimension p; None are chains of no whole length."""
+    sheet = admit(data, p, count_limit)
+    n = sheet.count(p)
+    if shorter(coordinate_length, number * n) or shorter(work_length, work_slots(sheet, p)):
+        raise Refused(9)
+    if chains is None or len(chains) != number * n:
+        raise Refused(10)
+    each = parted(chains, n)
+    fault = first_fault(boundary(sheet, p), each)
+    if fault:
+        raise Refused(fault)
     found = reduced(sheet, p, limit)
-    values = apply(found.rows, chain)
-    return [coordinate(found.kinds[i], values[i]) for i in found.places()]
+    return CoordinateLists(n, [coordinate_list(found, chain) for chain in each])

@@ -4,13 +4,12 @@ use mathlib.Core.Path.{_≡_, refl, sym, _∙_, ap}
 use mathlib.Core.Logic.{_↔_}
 use mathlib.Core.Bool.{Bool, true, false, not}
 use mathlib.Core.List.{List, [], _∷_}
-use Prim.Native.Nat.{ℕ, _≤_, _<_, zero-le}
+use Prim.Native.Nat.{ℕ, _≤_}
 use native.Mathlib.Omega.{arith}
-use native.Mathlib.Decide.{decLt}
-use borrow.Author.Tests.{ltb-false, le-ltb, eqb-true, eq-eqb, not-false}
-use lib.Dec.{eqb, ltb}
-use lib.ListN.{length, List·getD-eq-default}
-use lib.IntN.{ℤ, pos, natAbs}
+use borrow.Author.Tests.{eqb-true, eq-eqb, not-false}
+use lib.Dec.{eqb}
+use lib.ListN.{length}
+use lib.IntN.{ℤ, natAbs}
 use Rattle.integers.specs.Order.{natAbs-zero}
 use Rattle.matrices.specs.Vector.{apply}
 use Rattle.complexes.specs.Boundary.{countBelow, boundary}
@@ -19,28 +18,10 @@ use Rattle.sheet_format.specs.FirstLaws.{first-zero, first-append-absent}
 use Rattle.sheet_format.specs.CheckLaws.{some-false}
 use Rattle.complexes.specs.Complex.{count}
 use Rattle.reports.specs.Call.{chainChecks, chainLengthDiffers, coefficientExceeds, boundaryNotZero}
+use Rattle.reports.specs.ChainsLaws.{coefficients-iff}
 use Rattle.answers.specs.Homology.{IsCycle}
 use Rattle.answers.specs.Right.{slot}
 use Rattle.answers.specs.Called.{NoCycle}
-
--- ---- 11
-
-coefficients-iff : (limit : ℕ) (z : List ℤ) → (coefficientExceeds limit z ≡ false) ↔ ((i : ℕ) → natAbs (slot z i) ≤ limit)
-unfolding coefficientExceeds
-coefficients-iff limit z = (forward, backward)
-  where
-    exceeds : ℕ → Bool
-    exceeds i = ltb limit (natAbs (slot z i))
-
-    at : ((i : ℕ) → i < length z → exceeds i ≡ false) → (i : ℕ) → Dec (i < length z) → natAbs (slot z i) ≤ limit
-    at h i (yes l) = ltb-false limit (natAbs (slot z i)) (h i l)
-    at h i (no l) = rw (List·getD-eq-default z (pos 0) {n = i} (omega arith)) zero-le
-
-    forward : some (length z) exceeds ≡ false → (i : ℕ) → natAbs (slot z i) ≤ limit
-    forward e i = at (some-false (length z) exceeds .0 e) i (decLt i (length z))
-
-    backward : ((i : ℕ) → natAbs (slot z i) ≤ limit) → some (length z) exceeds ≡ false
-    backward h = some-false (length z) exceeds .1 (λ i l. le-ltb limit (natAbs (slot z i)) (h i))
 
 -- ---- 12
 

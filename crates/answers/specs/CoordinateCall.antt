@@ -19,7 +19,7 @@ use Rattle.reports.specs.Report.{Counts, coordinateList}
 use Rattle.reports.specs.ReportLaws.{coordinates-fit}
 use Rattle.reports.specs.Call.{Called, done, written, callChecks, chainChecks, coordinateSlots, reductionsOf, coordinateCall}
 use Rattle.limits.specs.Limits.{entryLimit, coefficientLimit}
-use Rattle.reports.specs.RefusalLaws.{callChecks-zero, call-chain-zero, call-chain-narrow}
+use Rattle.reports.specs.RefusalLaws.{callChecks-zero, call-chain-zero, call-chain-narrow, chainChecks-narrow}
 use Rattle.reports.specs.WrittenLaws.{getD-written}
 use Rattle.reports.specs.CallLaws.{numbersLeft, ReducedWith, call-output}
 use Rattle.answers.specs.Homology.{IsCycle}
@@ -49,10 +49,10 @@ module _ (limit : ℕ) (b : List ℕ) (p : ℕ) (z coordinates work : List ℤ) 
   coordinatesCalled = coordinateCall limit b p z coordinates work
 
   coordinates-narrow : coordinatesBefore ≢ 13
-  coordinates-narrow = call-chain-narrow limit b p coordinateSlots (length coordinates) (length work) coefficientLimit z
+  coordinates-narrow = call-chain-narrow limit b p coordinateSlots (length coordinates) (length work) (chainChecks coefficientLimit b p z) (chainChecks-narrow coefficientLimit b p z)
 
   pub coordinates-passed : (coordinatesBefore ≡ 0) ↔ ((sheetBefore ≡ 0) × (first (chainChecks coefficientLimit b p z) ≡ 0))
-  coordinates-passed = call-chain-zero limit b p coordinateSlots (length coordinates) (length work) coefficientLimit z
+  coordinates-passed = call-chain-zero limit b p coordinateSlots (length coordinates) (length work) (chainChecks coefficientLimit b p z)
 
   coordinates-chains : Bytes b → coordinatesBefore ≡ 0 → ChainComplex limit (chainCells b)
   coordinates-chains bytes e = passed-chains limit b p coordinateSlots (length coordinates) (length work) bytes (coordinates-passed .0 e .0)

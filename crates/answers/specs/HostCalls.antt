@@ -1,5 +1,5 @@
--- A host call whose refusals before the reduction come to `before` and whose reductions to R: the output that it leaves (host-left, host-kept), and
--- the numbers that a caller reads from its bytes (host-reads). On an accepted sheet: what it answers (host-answers) and the reductions (host-done).
+-- A host call whose refusals before the reduction come to `before` and whose reductions to R: the output that it leaves (host-left, host-output,
+-- host-kept), and the numbers that a caller reads from its bytes (host-reads). On an accepted sheet: what it answers (host-answers) and the reductions (host-done).
 use mathlib.Core.Path.{_≡_, refl, sym, _∙_, ap}
 use mathlib.Core.Logic.{_≢_}
 use mathlib.Core.Bool.{true}
@@ -52,6 +52,16 @@ module _ (left : ℕ → ℕ → State → List ℕ) (output : List ℕ) where
   pub host-left : (before : ℕ) (R : Reductions) → hostCall before R left output .number ≢ 0 → hostCall before R left output .output ≡ output
   host-left before R d = untouched before R (rw (number before R) at d)
 
+  -- where nothing is refused and the reductions are done
+  module _ (before : ℕ) (R : Reductions) (passes : before ≡ 0) (s r : ℕ) (x : State) (e : R ≡ reduced s r x) where
+    pub host-number : hostCall before R left output .number ≡ 0
+    unfolding finishedWith
+    host-number = rw (passes, e)
+
+    pub host-output : hostCall before R left output .output ≡ left s r x
+    unfolding finishedWith
+    host-output = rw (passes, e)
+
 module _ (numbers : ℕ → ℕ → State → List ℤ) (output : List ℕ) where
   module _ {rule : Rule} {K : Sections} {p before : ℕ} (d : HostDone rule K p before) where
     abbrev called : HostCalled
@@ -60,18 +70,17 @@ module _ (numbers : ℕ → ℕ → State → List ℤ) (output : List ℕ) wher
     abbrev list : List ℤ
     list = numbers (d .rows) (d .rank) (d .state)
 
-    host-output : called .output ≡ numbersBytes list ++ drop (length (numbersBytes list)) output
-    unfolding finishedWith
-    host-output = rw (d .passes, d .reductions)
+    output-is : called .output ≡ numbersBytes list ++ drop (length (numbersBytes list)) output
+    output-is = host-output (bytesLeft numbers output) output before (reductionsOf rule K p) (d .passes) (d .rows) (d .rank) (d .state) (d .reductions)
 
     -- number i of the bytes
     pub host-reads : (i : ℕ) → i < length list → Word (slot list i) → numberAt (called .output) i ≡ slot list i
-    host-reads i h w = ap (λ (o : List ℕ). numberAt o i) host-output ∙ numberAt-numbersBytes list (drop (length (numbersBytes list)) output) i h w
+    host-reads i h w = ap (λ (o : List ℕ). numberAt o i) output-is ∙ numberAt-numbersBytes list (drop (length (numbersBytes list)) output) i h w
 
     pub host-kept : 8 * length list ≤ length output → KeptPast 0 (8 * length list) output (called .output)
     host-kept h = record {
-      size = ap length host-output ∙ length-written (numbersBytes list) output (omega (arith, long));
-      past = λ i l. ap (λ (o : List ℕ). getD o i 0) host-output ∙ getD-written-past (numbersBytes list) output 0 i (omega (arith, long));
+      size = ap length output-is ∙ length-written (numbersBytes list) output (omega (arith, long));
+      past = λ i l. ap (λ (o : List ℕ). getD o i 0) output-is ∙ getD-written-past (numbersBytes list) output 0 i (omega (arith, long));
     }
       where
         long : length (numbersBytes list) ≡ 8 * length list

@@ -22,7 +22,7 @@ use Rattle.reports.specs.Report.{freeRank, torsionCount, coordinateList}
 use Rattle.reports.specs.ReportLaws.{coordinates-fit}
 use Rattle.reports.specs.Call.{callChecks, chainChecks, coordinateSlots, workSlots, reductionsOf}
 use Rattle.limits.specs.Limits.{hostLimit, entryLimit, coefficientLimit}
-use Rattle.reports.specs.RefusalLaws.{callChecks-zero, call-chain-zero, call-chain-narrow}
+use Rattle.reports.specs.RefusalLaws.{callChecks-zero, call-chain-zero, call-chain-narrow, chainChecks-narrow}
 use Rattle.reports.specs.Host.{coefficientIn, otherLength, chainFrom, slotsIn, hostCoordinates, numberAt}
 use Rattle.reports.specs.HostCallLaws.{bytesLeft}
 use Rattle.answers.specs.Right.{slot}
@@ -71,7 +71,7 @@ module _ (b : List ℕ) (bytes : Bytes b) (p : ℕ) (chain output : List ℕ) wh
   left = bytesLeft numbers output
 
   passed : (hostCoordinatesBefore ≡ 0) ↔ ((hostSheetBefore ≡ 0) × (first (chainChecks coefficientLimit b p given) ≡ 0))
-  passed = call-chain-zero hostLimit b p coordinateSlots (slotsIn output) (workSlots (chainCells b) p) coefficientLimit given
+  passed = call-chain-zero hostLimit b p coordinateSlots (slotsIn output) (workSlots (chainCells b) p) (chainChecks coefficientLimit b p given)
 
   chains : hostCoordinatesBefore ≡ 0 → ChainComplex hostLimit (chainCells b)
   chains e = passed-chains hostLimit b p coordinateSlots (slotsIn output) (workSlots (chainCells b) p) bytes (passed .0 e .0)
@@ -80,7 +80,7 @@ module _ (b : List ℕ) (bytes : Bytes b) (p : ℕ) (chain output : List ℕ) wh
   unfolding hostCoordinates
   host-coordinates-answer =
       host-answers pivotRule-is-rule (chainCells b) p hostCoordinatesBefore chains left output
-      (call-chain-narrow hostLimit b p coordinateSlots (slotsIn output) (workSlots (chainCells b) p) coefficientLimit given)
+      (call-chain-narrow hostLimit b p coordinateSlots (slotsIn output) (workSlots (chainCells b) p) (chainChecks coefficientLimit b p given) (chainChecks-narrow coefficientLimit b p given))
 
   pub host-coordinates-left : hostCoordinates b p chain output .number ≢ 0 → hostCoordinates b p chain output .output ≡ output
   unfolding hostCoordinates

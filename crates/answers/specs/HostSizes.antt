@@ -1,4 +1,4 @@
--- The calls at the host limit. Once done they give no more numbers than the slots that check 9 asks for (report-sized, coordinates-sized).
+-- The report call at the host limit. Once done it gives no more numbers than the slots that check 9 asks for (report-sized).
 -- Where a host call has its room, an accepted sheet is refused only as too wide (accepted-passes, accepted-refused).
 use mathlib.Core.Path.{_≡_}
 use mathlib.Core.List.{List}
@@ -16,7 +16,7 @@ use Rattle.reduction_steps.specs.Pivot.{pivotRule}
 use Rattle.reports.specs.Report.{Counts, kind, torsionCount, reportList, coordinateList}
 use Rattle.reports.specs.ReportLaws.{length-reported-le}
 use Rattle.reports.specs.Reductions.{tooWide}
-use Rattle.reports.specs.Call.{done, refused, reportSlots, coordinateSlots, workSlots, callChecks, reductionsOf, reportCall, coordinateCall}
+use Rattle.reports.specs.Call.{done, refused, reportSlots, workSlots, callChecks, reductionsOf, reportCall}
 use Rattle.limits.specs.Limits.{hostLimit}
 use Rattle.reports.specs.RefusalLaws.{Passed, callChecks-zero}
 use Rattle.reports.specs.CallLaws.{ReducedWith, CallRefused, earlier, wide, call-refused}
@@ -24,7 +24,6 @@ use Rattle.reports.specs.HostCallLaws.{reportRoom, workRoom, counts-within}
 use Rattle.answers.specs.Numbers.{report-length, coordinates-length}
 use Rattle.answers.specs.Calls.{Answered}
 use Rattle.answers.specs.ReportCall.{reportBefore, reportLeft, report-answered}
-use Rattle.answers.specs.CoordinateCall.{coordinatesBefore, coordinates-passed, coordinates-answered}
 
 -- the numbers of a report
 abbrev pub reportNumbersOf : List ℕ → ℕ → Counts → ℕ
@@ -58,11 +57,6 @@ pub record ReportSized (b : List ℕ) (p : ℕ) (report : List ℤ) (counts : Co
   pub is-sized : Sized b p counts
   pub fits : reportNumbersOf b p counts ≤ length report
 
--- a coordinate call that is done, with this coordinate slice
-pub record CoordinatesSized (b : List ℕ) (p : ℕ) (coordinates : List ℤ) (counts : Counts) : Type 0 where
-  pub is-sized : Sized b p counts
-  pub fits : counts .torsion + counts .free ≤ length coordinates
-
 module _ (b : List ℕ) (bytes : Bytes b) (p : ℕ) where
   pub report-sized : (report work : List ℤ) (counts : Counts) → reportCall hostLimit b p report work .answer ≡ done counts → ReportSized b p report counts
   report-sized report work counts e = record { is-sized = s; fits = omega (arith, numbers-fit s, h .output-slots) }
@@ -75,18 +69,6 @@ module _ (b : List ℕ) (bytes : Bytes b) (p : ℕ) where
 
       s : Sized b p counts
       s = sized b p (reportBefore hostLimit b p report work) counts (h .accepted) d
-
-  pub coordinates-sized : (z coordinates work : List ℤ) (counts : Counts) → coordinateCall hostLimit b p z coordinates work .answer ≡ done counts → CoordinatesSized b p coordinates counts
-  coordinates-sized z coordinates work counts e = record { is-sized = s; fits = omega (arith, s .total-within, h .output-slots) }
-    where
-      d : Answered pivotRule (chainCells b) p (coordinatesBefore hostLimit b p z coordinates work) counts
-      d = coordinates-answered hostLimit b p z coordinates work bytes e
-
-      h : Passed hostLimit b p coordinateSlots (length coordinates) (length work)
-      h = callChecks-zero hostLimit b p coordinateSlots (length coordinates) (length work) .0 (coordinates-passed hostLimit b p z coordinates work .0 (d .passes) .0)
-
-      s : Sized b p counts
-      s = sized b p (coordinatesBefore hostLimit b p z coordinates work) counts (h .accepted) d
 
 -- ---- an accepted sheet, where a host call has its room
 

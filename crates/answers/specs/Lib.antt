@@ -17,9 +17,11 @@ pub mod CoordinatesRight
 pub mod Calls
 pub mod ReportCall
 pub mod CoordinateCall
+pub mod CoordinateLists
 pub mod HostSizes
 pub mod Fits
 pub mod HostCalls
 pub mod HostReport
 pub mod HostCoordinates
+pub mod HostCoordinateLists
 pub mod ProgramText

@@ -1,10 +1,11 @@
--- What a call on a dimension was given (`Lent`), and what its callees answered.
+-- What a call on a dimension asked for (`Asked`) and was given (`Lent`), and what its callees answered.
 --     admit-refused, admit-granted     the first of the checks 1 to 9; `Granted`, what they ask, the sizes of the dimension and the chain complex
+--     regrant                          the same for other chains that want as many slots
 --     twice-refused, twice-done        the two reductions went too wide; they left the state that is written
 use mathlib.Core.Path.{_≡_, subst}
 use mathlib.Core.List.{List}
-use Prim.Native.Nat.{ℕ, _≤_}
-use Rattle.complexes.specs.Complex.{Sections}
+use Prim.Native.Nat.{ℕ, _*_, _≤_}
+use Rattle.complexes.specs.Complex.{Sections, count}
 use Rattle.complexes.specs.ChainComplex.{ChainComplex}
 use lib.IntN.{ℤ}
 use lib.ListN.{length}
@@ -24,6 +25,7 @@ use Rattle.calls.specs.Slices.{ReducedTwice, TwiceReduced}
 use Rattle.calls.specs.Admission.{sizesIn, slotsFor, SizesRead, Admits}
 use Rattle.calls.specs.declared.admission.Sizes.{Sizes}
 use Rattle.calls.specs.declared.admission.Request.{Request}
+use Rattle.calls.specs.declared.admission.Request.the-variants.{Coordinates}
 use Rattle.calls.specs.declared.admission.Admission.{Admission}
 use Rattle.calls.specs.declared.admission.Admission.the-variants.{Admitted, Refused}
 use Rattle.calls.specs.declared.reductions.Reductions as answer
@@ -34,7 +36,15 @@ use Rattle.calls.proofs.Sheet.{accepted-library, sheet-chains}
 abbrev pub slotsAsked : Request → Sections → ℕ → ℕ
 slotsAsked request K q = slotsFor request (sizesIn K q)
 
--- what a call on a dimension was given
+-- what a call asks for on a dimension: the slots of its output and of its work slice
+pub record Asked : Type 0 where
+  pub limit : ℕ
+  pub sheet : List ℕ
+  pub dimension : ℕ
+  pub slots : ℕ
+  pub work : ℕ
+
+-- what a call of the library on a dimension was given
 pub record Lent : Type 0 where
   pub limit : ℕ
   pub sheet : List ℕ
@@ -42,45 +52,64 @@ pub record Lent : Type 0 where
   pub output : List ℤ
   pub work : List ℤ
 
+abbrev pub asked : Lent → Asked
+asked l = record { limit = l .limit; sheet = l .sheet; dimension = l .dimension; slots = length (l .output); work = length (l .work) }
+
 -- ---- the checks 1 to 9
 
-module _ (l : Lent) (request : Request) where
+module _ (l : Asked) (request : Request) where
   pub record Granted (n : Sizes) : Type 0 where
-    pub passed : Passed (l .limit) (l .sheet) (l .dimension) (slotsAsked request) (length (l .output)) (length (l .work))
+    pub passed : Passed (l .limit) (l .sheet) (l .dimension) (slotsAsked request) (l .slots) (l .work)
     pub sizes : SizesRead (chainCells (l .sheet)) (l .dimension) n
     pub library : Accepted (l .sheet)
     pub chains : ChainComplex libraryLimit (chainCells (l .sheet))
 
   abbrev Answered : Admission → Type 0
-  Answered = Admits (l .limit) (l .sheet) (l .dimension) request (length (l .output)) (length (l .work))
+  Answered = Admits (l .limit) (l .sheet) (l .dimension) request (l .slots) (l .work)
 
   module _ (r : Admission) (h : Answered r) where
     pub admit-refused : {x : Refusal} → r ≡ Refused x
-        → first (callChecks (l .limit) (l .sheet) (l .dimension) (slotsAsked request) (length (l .output)) (length (l .work))) ≡ numberOf x
+        → first (callChecks (l .limit) (l .sheet) (l .dimension) (slotsAsked request) (l .slots) (l .work)) ≡ numberOf x
     admit-refused e = subst Answered e h
 
     pub admit-granted : {n : Sizes} → l .limit ≤ libraryLimit → Bytes (l .sheet) → r ≡ Admitted n → Granted n
     admit-granted within bytes e =
         let k = subst Answered e h in
-        let passed = callChecks-zero (l .limit) (l .sheet) (l .dimension) (slotsAsked request) (length (l .output)) (length (l .work)) .0 (k .0) in
+        let passed = callChecks-zero (l .limit) (l .sheet) (l .dimension) (slotsAsked request) (l .slots) (l .work) .0 (k .0) in
         let library = accepted-library within (passed .accepted) in
         record { passed = passed; sizes = k .1; library = library; chains = sheet-chains bytes library }
 
+-- what is granted for some chains is granted for others that want as many slots
+pub regrant : (l : Asked) {m number : ℕ} {n : Sizes} → m * count (chainCells (l .sheet)) (l .dimension) ≡ number * count (chainCells (l .sheet)) (l .dimension)
+    → Granted l (Coordinates number) n → Granted l (Coordinates m) n
+regrant l e g =
+    record {
+      passed = record {
+        accepted = g .passed .accepted;
+        dimension = g .passed .dimension;
+        output-slots = rw e (g .passed .output-slots);
+        work-slots = g .passed .work-slots;
+      };
+      sizes = g .sizes;
+      library = g .library;
+      chains = g .chains;
+    }
+
 -- ---- the two reductions
 
-module _ (l : Lent) where
+module _ (l : Asked) where
   abbrev pub twice : Reductions
   twice = reductionsOf pivotRule (chainCells (l .sheet)) (l .dimension)
 
   abbrev Twice : answer.Reductions → List ℤ → Type 0
-  Twice r w = TwiceReduced (chainCells (l .sheet)) (l .dimension) twice (length (l .work)) r w
+  Twice r w = TwiceReduced (chainCells (l .sheet)) (l .dimension) twice (l .work) r w
 
   abbrev pub Reduces : Reduced → List ℤ → Type 0
-  Reduces x w = ReducedTwice (chainCells (l .sheet)) (l .dimension) twice (length (l .work)) x w
+  Reduces x w = ReducedTwice (chainCells (l .sheet)) (l .dimension) twice (l .work) x w
 
   module _ (r : answer.Reductions) {w : List ℤ} where
     pub twice-done : {x : Reduced} → r ≡ variants.Done x → Twice r w → Reduces x w
     twice-done e h = subst (λ (z : answer.Reductions). Twice z w) e h
 
-    pub twice-refused : {x : Refusal} → r ≡ variants.Refused x → Twice r w → (twice ≡ tooWide) × Cleared (length (l .work)) x w
+    pub twice-refused : {x : Refusal} → r ≡ variants.Refused x → Twice r w → (twice ≡ tooWide) × Cleared (l .work) x w
     twice-refused e h = subst (λ (z : answer.Reductions). Twice z w) e h

@@ -24,7 +24,7 @@ use Rattle.calls.specs.Answer.{CallAnswers}
 use Rattle.calls.specs.declared.admission.Sizes.{Sizes}
 use Rattle.calls.specs.declared.admission.Request.the-variants.{Report}
 use Rattle.calls.specs.declared.answer.Answer.the-variants.{Done, Refused}
-use Rattle.calls.proofs.Admitting.{Lent, Granted, twice, Reduces}
+use Rattle.calls.proofs.Admitting.{Lent, asked, Granted, twice, Reduces}
 use Rattle.calls.proofs.Answering.{refuses, goes-wide, is-done}
 use Rattle.calls.proofs.Writing.{inverse-width}
 
@@ -42,22 +42,22 @@ module _ (l : Lent) where
 
   pub report-refuses : {x : Refusal} → before-report ≡ numberOf x → CallAnswers called (Refused x) (l .output) (l .work)
   unfolding reportCall
-  report-refuses e = refuses before-report (twice l) left (l .output) (l .work) e
+  report-refuses e = refuses before-report (twice (asked l)) left (l .output) (l .work) e
 
-  module _ {n : Sizes} (g : Granted l Report n) where
+  module _ {n : Sizes} (g : Granted (asked l) Report n) where
     passes : before-report ≡ 0
     passes = callChecks-zero (l .limit) (l .sheet) (l .dimension) reportSlots (length (l .output)) (length (l .work)) .1 (g .passed)
 
-    pub report-wide : {x : Refusal} {work′ : List ℤ} → (twice l ≡ tooWide) × Cleared (length (l .work)) x work′
+    pub report-wide : {x : Refusal} {work′ : List ℤ} → (twice (asked l) ≡ tooWide) × Cleared (length (l .work)) x work′
         → CallAnswers called (Refused refusal.TooWide) (l .output) work′
     unfolding reportCall
-    report-wide h = goes-wide before-report (twice l) left (l .output) (l .work) passes (h .0) (h .1 .zeros)
+    report-wide h = goes-wide before-report (twice (asked l)) left (l .output) (l .work) passes (h .0) (h .1 .zeros)
 
-    pub report-done : {x : Reduced} {w : List ℤ} → Reduces l x w → {counts : Counts} {report′ work′ : List ℤ} → WroteReport x w (l .output) counts report′
+    pub report-done : {x : Reduced} {w : List ℤ} → Reduces (asked l) x w → {counts : Counts} {report′ work′ : List ℤ} → WroteReport x w (l .output) counts report′
         → work′ ≡ replicate (length w) (pos 0) → CallAnswers called (Done counts) report′ work′
     unfolding reportCall
     report-done {x} {w} h k e =
-        is-done before-report (twice l) left (l .output) (l .work) passes (h .is) (k .free) (k .torsion)
+        is-done before-report (twice (asked l)) left (l .output) (l .work) passes (h .is) (k .free) (k .torsion)
         (k .is
         ∙ ap (λ (cells : ℕ). written (reportList cells (x .layout .matrix .lines) (x .rank) (stateOf (x .layout) w)) (l .output))
         (inverse-width pivotRule-is-rule (g .chains) (g .passed .work-slots) h))

@@ -1,8 +1,8 @@
--- What the two reductions leave can be written: can-report, can-coordinate.
+-- What the two reductions leave can be counted and written: rows-within, can-count, can-report, can-coordinate.
 use mathlib.Core.Path.{_≡_, refl, sym, _∙_}
 use mathlib.Core.List.{List}
-use Prim.Native.Nat.{ℕ, suc, _≤_}
-use native.Mathlib.Nat.{mul-le-mul, le-refl, le-trans}
+use Prim.Native.Nat.{ℕ, suc, _+_, _≤_}
+use native.Mathlib.Nat.{mul-le-mul, le-refl}
 use native.Mathlib.Omega.{arith}
 use lib.IntN.{ℤ, natAbs}
 use lib.ListN.{length}
@@ -15,7 +15,7 @@ use Rattle.limits.specs.Limits.{entryLimit, coefficientLimit, libraryLimit}
 use Rattle.answers.specs.TwoReductions.{Right, reductions-right}
 use Rattle.lines.specs.Slice.{at}
 use Rattle.operations.specs.Laid.{Laid, stateOf}
-use Rattle.writers.specs.Written.{Kinds, CanReport, CanCoordinate}
+use Rattle.writers.specs.Written.{Kinds, CanReport, CanCount, CanCoordinate}
 use Rattle.writers.specs.declared.reduced.Reduced.{Reduced}
 use Rattle.operations.specs.Layouts.{secondLayout}
 use Rattle.calls.specs.Slices.{ReducedTwice}
@@ -54,14 +54,20 @@ module _ {rule : Rule} (is : IsRule rule) {K : Sections} {p n : ℕ} {x : Reduce
     room = rw inverse-width (omega (arith, room, h .rank-below, right .rows-bound, mul-le-mul (right .rows-bound) (le-refl (count K p))));
   }
 
-  pub can-coordinate : {z : List ℤ} {m : ℕ} → count K p ≤ m → length z ≡ count K p
-      → ((j : ℕ) → natAbs (at z j) ≤ coefficientLimit) → CanCoordinate x w z m
-  can-coordinate {z} {m} room size small = record {
+  -- Q has no more rows than there are cells
+  pub rows-within : x .layout .matrix .lines ≤ count K p
+  rows-within = right .rows-bound
+
+  pub can-count : CanCount x w
+  can-count = record { laid = laid; kinds = kinds; rank-below = h .rank-below }
+
+  pub can-coordinate : {z : List ℤ} {from m : ℕ} → from + count K p ≤ m → length z ≡ count K p
+      → ((j : ℕ) → natAbs (at z j) ≤ coefficientLimit) → CanCoordinate x w z from m
+  can-coordinate {z} {from} {m} room size small = record {
     laid = laid;
     small = h .kept .small;
     kinds = kinds;
-    rank-below = h .rank-below;
-    room = le-trans (right .rows-bound) room;
+    room = omega (arith, right .rows-bound, room);
     width = follower-width ∙ sym size;
     width-within = rw size (chains .within p);
     coefficients = small;

@@ -23,10 +23,10 @@ pub record SizesRead (K : Sections) (p : ℕ) (r : Sizes) : Type 0 where
   pub rows-below : r .rows < 65536
   pub columns-below : r .columns < 65536
 
--- the slots that check 9 asks of the output: `reportSlots`, `coordinateSlots`
+-- the slots that check 9 asks of the output: `reportSlots`, `listSlots`
 abbrev pub slotsFor : Request → Sizes → ℕ
 slotsFor Report n = 2 + n .cells + n .cells * n .cells
-slotsFor Coordinates n = n .cells
+slotsFor (Coordinates number) n = number * n .cells
 
 -- the first of the checks 1 to 9 that applies, or the sizes of the dimension
 abbrev pub Admits : ℕ → List ℕ → ℕ → Request → ℕ → ℕ → Admission → Type 0

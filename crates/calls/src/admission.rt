@@ -1,6 +1,7 @@
 // The checks 1 to 9, which come before the work of every call on a dimension.
 ghost use mathlib.Core.Path.{_≡_};
 ghost use Prim.Native.Nat.{_<_, _≤_};
+ghost use lib.Dec.{ltb};
 ghost use Rattle.complexes.specs.Boundary.{countBelow};
 ghost use Rattle.fields.specs.Read.{ReadsBelow};
 ghost use Rattle.sheet_format.specs.Layout.{top};
@@ -20,10 +21,10 @@ pub struct Sizes {
     pub columns: usize,
 }
 
-// What a call asks of a dimension.
+// What a call asks of a dimension: its report, or the coordinates of so many chains.
 pub enum Request {
     Report,
-    Coordinates,
+    Coordinates(usize),
 }
 
 // The dimension may be worked on, or the call is refused.
@@ -52,15 +53,15 @@ fn sizes_of(s: &[u8], p: usize) -> Sizes
 }
 
 impl Request {
-    // The slots that the output must have.
-    fn output_slots(self, sizes: Sizes) -> usize
+    // Whether an output of so many slots is too short. The number of chains may be any, so that no product is made of it.
+    fn lacks_slots(self, sizes: Sizes, output: usize) -> bool
         requires { ⌜ sizes .cells < 65536 ⌝ }
-        ensures { λ r. ⌜ r ≡ slotsFor self sizes ⌝ }
+        ensures { λ r. ⌜ r ≡ ltb output (slotsFor self sizes) ⌝ }
     {
         let cells = sizes.cells;
         match self {
-            Request::Report => 2 + cells + cells * cells,
-            Request::Coordinates => cells,
+            Request::Report => output < 2 + cells + cells * cells,
+            Request::Coordinates(number) => cells != 0 && output / cells < number,
         }
     }
 }
@@ -84,7 +85,7 @@ pub fn admit(
         return Admission::Refused(Refusal::DimensionExceedsTop);
     }
     let sizes = sizes_of(s, p);
-    if output < request.output_slots(sizes) {
+    if request.lacks_slots(sizes, output) {
         return Admission::Refused(Refusal::SliceTooShort);
     }
     if work < Layout::work_slots(sizes.cells, sizes.rows, sizes.columns) {

@@ -1,6 +1,6 @@
-// The coordinate call.
-ghost use Prim.Native.Nat.{_≤_};
+// The coordinate calls.
 ghost use Rattle.reports.specs.Call.{coordinateCall};
+ghost use Rattle.reports.specs.Lists.{coordinateListsCall};
 ghost use Rattle.limits.specs.Limits.{libraryLimit};
 ghost use Rattle.calls.specs.Answer.{CallAnswers};
 use crate::admission::Admission;
@@ -9,36 +9,37 @@ use crate::admission::admit;
 use crate::answer::Answer;
 use crate::reductions::Reductions;
 use crate::reductions::reduce_twice;
-use chains::chain::boundary_not_zero;
-use chains::chain::coefficient_exceeds;
+use chains::check::Check;
+use chains::check::check_chains;
+use chains::check::nonempty;
 use lines::line::clear;
 use refusal::Refusal;
 use sheet::reader::Sheet;
-use writers::coordinates::write_coordinates;
+use writers::coordinates::write_lists;
+use writers::kind::counts;
 
-// The coordinates of a cycle at a count limit.
-pub fn coordinates_at(
-    sheet: Sheet,
+// The coordinate lists of so many cycles: document 02, Note 1.
+pub fn coordinate_lists(
     s: &[u8],
     dimension: u32,
-    chain: &[i32],
+    number: usize,
+    chains: &[i32],
     coordinates: &mut [i64],
     work: &mut [i32],
 ) -> Answer
-    requires { ⌜ sheet .limit ≤ libraryLimit ⌝ }
     ensures { λ r.
         let left = now (coordinates .exit) in
         let work-left = now (work .exit) in ⌜
         CallAnswers
-        (coordinateCall (sheet .limit) (now (s .entry)) dimension (now (chain .entry)) (now (coordinates .entry)) (now (work .entry)))
+        (coordinateListsCall libraryLimit (now (s .entry)) dimension number (now (chains .entry)) (now (coordinates .entry)) (now (work .entry)))
         r left work-left
         ⌝ }
 {
     let sizes = match admit(
-        sheet,
+        Sheet::library(),
         s,
         dimension,
-        Request::Coordinates,
+        Request::Coordinates(number),
         coordinates.len(),
         work.len(),
     ) {
@@ -46,19 +47,19 @@ pub fn coordinates_at(
         Admission::Admitted(sizes) => sizes,
     };
     let p = dimension as usize;
-    if chain.len() != sizes.cells {
+    let cells = sizes.cells;
+    if chains.len() != number * cells {
         return Answer::Refused(Refusal::ChainLengthDiffers);
     }
-    if coefficient_exceeds(chain, Sheet::COEFFICIENT_LIMIT) {
-        return Answer::Refused(Refusal::CoefficientExceedsLimit);
-    }
-    if boundary_not_zero(s, p, chain) {
-        return Answer::Refused(Refusal::BoundaryNotZero);
+    let lists = nonempty(number, cells);
+    if let Check::Refused(refusal) = check_chains(s, p, cells, lists, chains) {
+        return Answer::Refused(refusal);
     }
     let Reductions::Done(reduced) = reduce_twice(s, p, sizes, work) else {
         return Answer::Refused(Refusal::TooWide);
     };
-    let counts = write_coordinates(reduced, work, chain, coordinates);
+    write_lists(reduced, work, cells, lists, chains, coordinates);
+    let counts = counts(reduced, work);
     clear(work);
     Answer::Done(counts)
 }
@@ -79,5 +80,5 @@ pub fn coordinates(
         r left work-left
         ⌝ }
 {
-    coordinates_at(Sheet::library(), s, dimension, chain, coordinates, work)
+    coordinate_lists(s, dimension, 1, chain, coordinates, work)
 }

@@ -1,6 +1,6 @@
 -- The owner's demands, sentence by sentence, for every sheet b, dimension p, and every length and content of every slice. The contracts of the code
--- say that the library's calls answer and leave what `reportCall` and `coordinateCall` say, the host calls what `hostReport` and `hostCoordinates`
--- say, and that `print_input`, which the program calls between reading and writing, puts `programText`; here is claimed what these are. `Proofs`
+-- say that the library's calls answer and leave what `reportCall`, `coordinateCall` and `coordinateListsCall` say, the host calls what `hostReport`,
+-- `hostCoordinates` and `hostCoordinateLists` say, and that `print_input`, which the program calls between reading and writing, puts `programText`; here is claimed what these are. `Proofs`
 -- proves each claim, and `Met` shows that hypotheses are met. "ends on all input .. nothing undefined happens" (demand 1) is settled by the
 -- proof of every function, "nothing is assumed beyond 01's rule on overlapping slices" (demand 3) by calls without a `requires`. A slice of bytes meets
 -- `Bytes`: the contract of `Sheet::read` says so.
@@ -8,7 +8,7 @@ use mathlib.Core.Path.{_≡_}
 use mathlib.Core.Logic.{_↔_, _≢_}
 use mathlib.Core.List.{List, _++_}
 use Prim.Native.Nat.{ℕ, _+_, _*_, _≤_, _<_}
-use lib.ListN.{length, take}
+use lib.ListN.{length, getD, take}
 use lib.IntN.{ℤ, pos, _-ℤ_}
 use lib.Signed.{_≤ℤ_, _<ℤ_}
 use Rattle.complexes.specs.Complex.{count}
@@ -19,6 +19,7 @@ use Rattle.homology_groups.specs.Chain.{Chain, combination}
 use Rattle.reduction_steps.specs.Pivot.{pivotRule}
 use Rattle.reports.specs.Report.{Counts}
 use Rattle.reports.specs.Call.{done, callChecks, chainChecks, reportSlots, coordinateSlots, workSlots, reportCall, coordinateCall}
+use Rattle.reports.specs.Lists.{chainAt, chainBytes, listSlots, chainsChecks, coordinateListsCall, hostCoordinateLists, FirstFault}
 use Rattle.limits.specs.Limits.{libraryLimit, hostLimit, entryLimit, coefficientLimit}
 use Rattle.reports.specs.Host.{chainFrom, coefficientIn, slotsIn, hostReport, hostCoordinates, numberAt}
 use Rattle.reports.specs.Text.{refusalLine, programText}
@@ -49,6 +50,22 @@ CoordinateNumbers =
     Answers (first (callChecks limit b p coordinateSlots (length coordinates) (length work) ++ chainChecks coefficientLimit b p z)) (TooWide b p)
     (answerNumber (coordinateCall limit b p z coordinates work .answer))
 
+-- the call on many chains:
+abbrev pub ListNumbers : Type 0
+ListNumbers =
+    (limit : ℕ) (b : List ℕ) (p number : ℕ) (chains coordinates work : List ℤ) → Bytes b →
+    Answers
+    (first (callChecks limit b p (listSlots number) (length coordinates) (length work) ++ chainsChecks coefficientLimit b p number chains)) (TooWide b p)
+    (answerNumber (coordinateListsCall limit b p number chains coordinates work .answer))
+
+-- 02, Note 1, "The first faulty chain decides between 11 and 12": where 10 does not apply, a number is told exactly when it is the first that the
+-- checks of a single call tell of a chain
+abbrev pub FirstFaultyChain : Type 0
+FirstFaultyChain =
+    (limit : ℕ) (b : List ℕ) (p number : ℕ) (chains : List ℤ) → length chains ≡ number * count (sectionsOf b) p → (k : ℕ) → k ≢ 0 →
+    (first (chainsChecks limit b p number chains) ≡ k)
+    ↔ FirstFault (λ i. first (chainChecks limit b p (chainAt (count (sectionsOf b) p) chains i))) number k
+
 -- 01, "12. The chain has a nonzero boundary": among 10 to 12 it is told exactly when 10 and 11 do not apply and the chain is no cycle,
 -- whatever the coefficient limit
 abbrev pub NotACycle : Type 0
@@ -66,6 +83,12 @@ abbrev pub CoordinatesLeave : Type 0
 CoordinatesLeave =
     (limit : ℕ) (b : List ℕ) (p : ℕ) (z coordinates work : List ℤ) → Bytes b →
     Leaves (λ f t. t + f) coordinates work (coordinateCall limit b p z coordinates work)
+
+-- the call on many chains, with n_p slots for each list:
+abbrev pub ListsLeave : Type 0
+ListsLeave =
+    (limit : ℕ) (b : List ℕ) (p number : ℕ) (chains coordinates work : List ℤ) → Bytes b →
+    Leaves (λ f t. number * count (sectionsOf b) p) coordinates work (coordinateListsCall limit b p number chains coordinates work)
 
 -- ==== Demand 2
 
@@ -89,6 +112,12 @@ CoordinateCounts =
     (limit : ℕ) (b : List ℕ) (p : ℕ) (z coordinates work : List ℤ) → Bytes b → (counts : Counts) →
     coordinateCall limit b p z coordinates work .answer ≡ done counts → HasCounts (sectionsOf b) p (counts .free) (counts .torsion)
 
+-- .. and so are those of the call on many chains
+abbrev pub ListCounts : Type 0
+ListCounts =
+    (limit : ℕ) (b : List ℕ) (p number : ℕ) (chains coordinates work : List ℤ) → Bytes b → (counts : Counts) →
+    coordinateListsCall limit b p number chains coordinates work .answer ≡ done counts → HasCounts (sectionsOf b) p (counts .free) (counts .torsion)
+
 -- the counts are the group's, so all answers and reports on one sheet and dimension have the same
 abbrev pub SameCounts : Type 0
 SameCounts = (b : List ℕ) (p f t f′ t′ : ℕ) → HasCounts (sectionsOf b) p f t → HasCounts (sectionsOf b) p f′ t′ → (f ≡ f′) × (t ≡ t′)
@@ -97,7 +126,7 @@ SameCounts = (b : List ℕ) (p f t f′ t′ : ℕ) → HasCounts (sectionsOf b)
 
 -- "Take any accepted sheet, any dimension and any two cycles of that dimension. Whenever the coordinates of both are answered with done ..", "whatever
 -- the slices lent for answers and work held before": z is a chain that was given, and the numbers are its coordinates as a caller reads them, from the
--- library at some count limit or from the host
+-- library at some count limit or from the host, of a single call or as list i of a call on many chains
 pub data CoordinatesOf (b : List ℕ) (p : ℕ) : Chain → (ℕ → ℤ) → Type 0 where
   by-library :
       (limit : ℕ) (z coordinates work : List ℤ) (counts : Counts) → coordinateCall limit b p z coordinates work .answer ≡ done counts →
@@ -105,6 +134,15 @@ pub data CoordinatesOf (b : List ℕ) (p : ℕ) : Chain → (ℕ → ℤ) → Ty
   by-host :
       (chain coordinates : List ℕ) → hostCoordinates b p chain coordinates .number ≡ 0 →
       CoordinatesOf b p (coefficientIn chain) (numberAt (hostCoordinates b p chain coordinates .output))
+  by-library-list :
+      (limit number : ℕ) (chains coordinates work : List ℤ) (counts : Counts) →
+      coordinateListsCall limit b p number chains coordinates work .answer ≡ done counts → (i : ℕ) → i < number →
+      CoordinatesOf b p (λ j. slot chains (i * count (sectionsOf b) p + j))
+      (λ j. slot (coordinateListsCall limit b p number chains coordinates work .output) (i * count (sectionsOf b) p + j))
+  by-host-list :
+      (number : ℕ) (chains coordinates : List ℕ) → hostCoordinateLists b p number chains coordinates .number ≡ 0 → (i : ℕ) → i < number →
+      CoordinatesOf b p (λ j. coefficientIn chains (i * count (sectionsOf b) p + j))
+      (λ j. numberAt (hostCoordinateLists b p number chains coordinates .output) (i * count (sectionsOf b) p + j))
 
 -- "Whenever the report on that sheet and dimension is done as well ..": its numbers, as a caller reads them
 pub data ReportOf (b : List ℕ) (p : ℕ) : (ℕ → ℤ) → Type 0 where
@@ -133,6 +171,37 @@ CoordinatesReduced =
     (b : List ℕ) (p : ℕ) → Bytes b → (z : Chain) (c report : ℕ → ℤ) → CoordinatesOf b p z c → ReportOf b p report →
     (f t : ℕ) → HasCounts (sectionsOf b) p f t → (j : ℕ) → j < t → (pos 0 ≤ℤ c j) × (c j <ℤ orderIn report t j)
 
+-- ==== Many chains in one call
+
+-- 02, Note 1, "The lists equal those of single calls in the same order": list i of a call that is done is that of the single call on chain i, which is
+-- done with the same counts, whatever its slices held; the slots behind list i are untouched
+pub record ListSingle (limit : ℕ) (b : List ℕ) (p i : ℕ) (z before after : List ℤ) (counts : Counts) (coordinates work : List ℤ) : Type 0 where
+  pub answer : coordinateCall limit b p z coordinates work .answer ≡ done counts
+  pub same : (j : ℕ) → j < counts .torsion + counts .free → slot after (i * count (sectionsOf b) p + j) ≡ slot (coordinateCall limit b p z coordinates work .output) j
+  pub between : (j : ℕ) → counts .torsion + counts .free ≤ j → j < count (sectionsOf b) p
+      → slot after (i * count (sectionsOf b) p + j) ≡ slot before (i * count (sectionsOf b) p + j)
+
+abbrev pub ListsSingle : Type 0
+ListsSingle =
+    (limit : ℕ) (b : List ℕ) (p number : ℕ) (chains coordinates work : List ℤ) → Bytes b → (counts : Counts) →
+    coordinateListsCall limit b p number chains coordinates work .answer ≡ done counts → (i : ℕ) → i < number →
+    (coordinates′ work′ : List ℤ) → count (sectionsOf b) p ≤ length coordinates′ → workSlots (sectionsOf b) p ≤ length work′ →
+    ListSingle limit b p i (chainAt (count (sectionsOf b) p) chains i) coordinates (coordinateListsCall limit b p number chains coordinates work .output) counts
+    coordinates′ work′
+
+-- the same for the host calls, where f and t are the group's counts
+pub record HostListSingle (b : List ℕ) (p i : ℕ) (chain before after : List ℕ) (f t : ℕ) (coordinates : List ℕ) : Type 0 where
+  pub number : hostCoordinates b p chain coordinates .number ≡ 0
+  pub same : (j : ℕ) → j < t + f → numberAt after (i * count (sectionsOf b) p + j) ≡ numberAt (hostCoordinates b p chain coordinates .output) j
+  pub between : (k : ℕ) → 8 * (t + f) ≤ k → k < 8 * count (sectionsOf b) p
+      → getD after (i * (8 * count (sectionsOf b) p) + k) 0 ≡ getD before (i * (8 * count (sectionsOf b) p) + k) 0
+
+abbrev pub HostListsSingle : Type 0
+HostListsSingle =
+    (b : List ℕ) (p number : ℕ) (chains coordinates : List ℕ) → Bytes b → hostCoordinateLists b p number chains coordinates .number ≡ 0 →
+    (f t : ℕ) → HasCounts (sectionsOf b) p f t → (i : ℕ) → i < number → (coordinates′ : List ℕ) → count (sectionsOf b) p ≤ slotsIn coordinates′ →
+    HostListSingle b p i (chainBytes (count (sectionsOf b) p) chains i) coordinates (hostCoordinateLists b p number chains coordinates .output) f t coordinates′
+
 -- ==== The host calls
 
 -- demands 1 to 3 as for the library: each fault its number in 01's order, too wide exactly, done whenever no refusal applies. fildwuk_report:
@@ -150,6 +219,15 @@ HostCoordinateNumbers =
     ++ chainChecks coefficientLimit b p (chainFrom (count (sectionsOf b) p) chain)))
     (TooWide b p) (hostCoordinates b p chain coordinates .number)
 
+-- fildwuk_coordinate_lists:
+abbrev pub HostListNumbers : Type 0
+HostListNumbers =
+    (b : List ℕ) (p number : ℕ) (chains coordinates : List ℕ) → Bytes b →
+    Answers
+    (first (callChecks hostLimit b p (listSlots number) (slotsIn coordinates) (workSlots (sectionsOf b) p)
+    ++ chainsChecks coefficientLimit b p number (chainFrom (number * count (sectionsOf b) p) chains)))
+    (TooWide b p) (hostCoordinateLists b p number chains coordinates .number)
+
 -- demand 1, "a refusal leaves report and coordinate slices untouched"
 abbrev pub HostReportLeft : Type 0
 HostReportLeft = (b : List ℕ) (p : ℕ) (report : List ℕ) → Bytes b → hostReport b p report .number ≢ 0 → hostReport b p report .output ≡ report
@@ -158,6 +236,11 @@ abbrev pub HostCoordinatesLeft : Type 0
 HostCoordinatesLeft =
     (b : List ℕ) (p : ℕ) (chain coordinates : List ℕ) → Bytes b →
     hostCoordinates b p chain coordinates .number ≢ 0 → hostCoordinates b p chain coordinates .output ≡ coordinates
+
+abbrev pub HostListsLeft : Type 0
+HostListsLeft =
+    (b : List ℕ) (p number : ℕ) (chains coordinates : List ℕ) → Bytes b →
+    hostCoordinateLists b p number chains coordinates .number ≢ 0 → hostCoordinateLists b p number chains coordinates .output ≡ coordinates
 
 -- demand 2, "the free rank, the torsion orders and the generators reported": a report that is done is right, read from the bytes, and what is past its
 -- numbers stays
@@ -181,6 +264,18 @@ abbrev pub HostCoordinateCounts : Type 0
 HostCoordinateCounts =
     (b : List ℕ) (p : ℕ) (chain coordinates : List ℕ) → Bytes b →
     hostCoordinates b p chain coordinates .number ≡ 0 → HostCoordinatesDone b p chain coordinates
+
+-- coordinate lists that are done: f and t are the group's counts, and what is past the last list's n_p slots stays
+pub record HostListsDone (b : List ℕ) (p number : ℕ) (chains coordinates : List ℕ) : Type 0 where
+  pub free : ℕ
+  pub torsion : ℕ
+  pub counts : HasCounts (sectionsOf b) p free torsion
+  pub past : KeptPast 0 (number * (8 * count (sectionsOf b) p)) coordinates (hostCoordinateLists b p number chains coordinates .output)
+
+abbrev pub HostListCounts : Type 0
+HostListCounts =
+    (b : List ℕ) (p number : ℕ) (chains coordinates : List ℕ) → Bytes b →
+    hostCoordinateLists b p number chains coordinates .number ≡ 0 → HostListsDone b p number chains coordinates
 
 -- ==== The program
 

@@ -1,12 +1,13 @@
 -- The hypotheses of the claims are met, shown on the projective plane of crate `projective_plane` in dimension 1, whose one loop has order 2:
 --     plane-report, loop-coordinates, ..   a report and coordinates that are done
 --     twice-bounds, loop-differs           what demand 3 then says: the loop and its opposite differ by a boundary, the loop and twice it do not
+--     plane-lists, plane-list, ..          two chains in one call of the library and of the host, both done, and a list of each
 --     plane-host-report, ..                the same through the host calls, and an accepted sheet for the program
---     triangle-no-cycle                    a chain that is no cycle, on the hollow triangle
+--     triangle-no-cycle, triangle-first    a chain that is no cycle, on the hollow triangle; and the first faulty of two chains
 --     plane-goes-wide                      the two reductions go too wide, at the entry limit 1; at 1,048,575 no sheet that computes here does
 use mathlib.Core.Path.{_≡_, refl, sym, _∙_, ap, subst}
 use mathlib.Core.List.{List, [], _∷_, _++_}
-use Prim.Native.Nat.{ℕ, zero, suc, _+_, _<_}
+use Prim.Native.Nat.{ℕ, zero, suc, _+_, _*_, _<_}
 use native.Mathlib.Omega.{arith}
 use lib.Dec.{T, ltb, ltb→lt}
 use lib.ListN.{length, getD, replicate}
@@ -28,18 +29,19 @@ use Rattle.reduction_steps.specs.Pivot.{release1}
 use Rattle.reduction_steps.specs.PivotLaws.{release1-is-rule}
 use Rattle.limits.specs.Limits.{hostLimit, coefficientLimit}
 use Rattle.reports.specs.Call.{Called, callChecks, chainChecks, coefficientExceeds, boundaryNotZero, reportSlots, coordinateSlots, workSlots, reportCall, coordinateCall}
+use Rattle.reports.specs.Lists.{chainAt, listSlots, cyclesChecks, chainsChecks, coordinateListsCall, hostCoordinateLists, FirstFault}
 use Rattle.reports.specs.Host.{coefficientAt, coefficientIn, chainFrom, slotsIn, numberAt, hostReport, hostCoordinates}
 use Rattle.reports.specs.RefusalLaws.{callChecks-zero}
 use Rattle.answers.specs.Homology.{IsBoundary}
 use Rattle.answers.specs.Right.{slot, HasCounts}
 use Rattle.answers.specs.Wide.{GoesWide}
-use Rattle.answers.specs.Called.{answerNumber, NoCycle}
+use Rattle.answers.specs.Called.{answerNumber, IsDone, NoCycle}
 use Rattle.answers.specs.WideLaws.{wide-iff}
 use Rattle.projective_plane.specs.Plane.{cells, sheet, loop, twice, backwards}
 use Rattle.projective_plane.specs.Examples.{nines, counts, plane-calls, plane-too-wide}
 use Rattle.demands.specs.Claims.{TooWide, CoordinatesOf, ReportOf}
 use Rattle.demands.specs.Claims as claims
-use Rattle.demands.specs.Proofs.{reportNumbers, notACycle, coordinateCounts, coordinatesDecide, hostReportNumbers, hostCoordinateNumbers}
+use Rattle.demands.specs.Proofs.{reportNumbers, listNumbers, firstFaultyChain, listsLeave, notACycle, coordinateCounts, coordinatesDecide, hostReportNumbers, hostCoordinateNumbers, hostListNumbers}
 
 -- ---- a sheet of bytes
 
@@ -154,6 +156,41 @@ plane-host-coordinates =
 pub plane-accepted : refusal hostLimit sheet ≡ 0
 plane-accepted = callChecks-zero hostLimit sheet 1 reportSlots (slotsIn (replicate 1936 9)) (workSlots (sectionsOf sheet) 1) .0 report-admitted .accepted
 
+-- ---- many chains in one call
+
+-- the loop and twice the loop
+lists-admitted : first (callChecks 256 sheet 1 (listSlots 2) (length (nines 30)) (length (nines 600)) ++ chainsChecks coefficientLimit sheet 1 2 (loop ++ twice)) ≡ 0
+unfolding callChecks refusal countField offsetField cellOf cellsOf sectionsOf chainCells some verticesDoNotRise cellsDoNotRise faceMissing without same rises precedes listed start countBelow tabulate
+    chainsChecks cyclesChecks coefficientExceeds boundaryNotZero boundary coefficient sign apply sum
+lists-admitted = refl
+
+pub plane-lists : IsDone (coordinateListsCall 256 sheet 1 2 (loop ++ twice) (nines 30) (nines 600) .answer)
+plane-lists =
+    listsLeave 256 sheet 1 2 (loop ++ twice) (nines 30) (nines 600) plane-bytes .counted
+    (listNumbers 256 sheet 1 2 (loop ++ twice) (nines 30) (nines 600) plane-bytes .is-done .1 (lists-admitted, narrow))
+
+pub plane-list : CoordinatesOf sheet 1 (λ j. slot (loop ++ twice) (1 * 15 + j)) (λ j. slot (coordinateListsCall 256 sheet 1 2 (loop ++ twice) (nines 30) (nines 600) .output) (1 * 15 + j))
+unfolding countField cellOf cellsOf sectionsOf start tabulate
+plane-list = claims.CoordinatesOf.by-library-list 256 2 (loop ++ twice) (nines 30) (nines 600) (plane-lists .counts) (plane-lists .is) 1 (omega arith)
+
+-- two chains of zeros, in 120 bytes
+host-lists-admitted :
+    first
+    (callChecks hostLimit sheet 1 (listSlots 2) (slotsIn (replicate 240 9)) (workSlots (sectionsOf sheet) 1)
+    ++ chainsChecks coefficientLimit sheet 1 2 (chainFrom (2 * count (sectionsOf sheet) 1) (replicate 120 0)))
+    ≡ 0
+unfolding callChecks refusal countField offsetField cellOf cellsOf sectionsOf chainCells some verticesDoNotRise cellsDoNotRise faceMissing without same rises precedes listed start countBelow tabulate
+    chainsChecks cyclesChecks chainFrom coefficientAt coefficientExceeds boundaryNotZero boundary coefficient sign apply sum
+host-lists-admitted = refl
+
+pub plane-host-lists : hostCoordinateLists sheet 1 2 (replicate 120 0) (replicate 240 9) .number ≡ 0
+plane-host-lists = hostListNumbers sheet 1 2 (replicate 120 0) (replicate 240 9) plane-bytes .is-done .1 (host-lists-admitted, narrow)
+
+pub plane-host-list : CoordinatesOf sheet 1 (λ j. coefficientIn (replicate 120 0) (1 * 15 + j))
+    (λ j. numberAt (hostCoordinateLists sheet 1 2 (replicate 120 0) (replicate 240 9) .output) (1 * 15 + j))
+unfolding countField cellOf cellsOf sectionsOf start tabulate
+plane-host-list = claims.CoordinatesOf.by-host-list 2 (replicate 120 0) (replicate 240 9) plane-host-lists 1 (omega arith)
+
 -- ---- no cycle
 
 pub triangle-no-cycle : NoCycle coefficientLimit (sectionsOf hollowTriangle) 1 (pos 1 ∷ pos 0 ∷ pos 0 ∷ [])
@@ -161,4 +198,18 @@ unfolding chainChecks countField cellOf cellsOf sectionsOf chainCells some witho
 triangle-no-cycle = notACycle coefficientLimit hollowTriangle 1 (pos 1 ∷ pos 0 ∷ pos 0 ∷ []) .0 told
   where
     told : first (chainChecks coefficientLimit hollowTriangle 1 (pos 1 ∷ pos 0 ∷ pos 0 ∷ [])) ≡ 12
+    told = refl
+
+-- a chain that is no cycle comes before one with a coefficient beyond the limit
+abbrev pub faulty : List ℤ
+faulty = pos 1 ∷ pos 0 ∷ pos 0 ∷ pos 32768 ∷ pos 0 ∷ pos 0 ∷ []
+
+pub triangle-first : FirstFault (λ i. first (chainChecks coefficientLimit hollowTriangle 1 (chainAt (count (sectionsOf hollowTriangle) 1) faulty i))) 2 12
+unfolding chainsChecks cyclesChecks countField cellOf cellsOf sectionsOf chainCells some without same start countBelow tabulate coefficientExceeds boundaryNotZero boundary coefficient sign apply sum
+triangle-first = firstFaultyChain coefficientLimit hollowTriangle 1 2 faulty size 12 (λ e. absurd (omega arith)) .0 told
+  where
+    size : length faulty ≡ 2 * count (sectionsOf hollowTriangle) 1
+    size = refl
+
+    told : first (chainsChecks coefficientLimit hollowTriangle 1 2 faulty) ≡ 12
     told = refl

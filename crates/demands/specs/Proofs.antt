@@ -1,22 +1,28 @@
 -- The owner's demands: what `Claims` states, proved. The claims speak of the cells of the sheet, the calls of `chainCells`, which are these.
 use mathlib.Core.Path.{_≡_, refl, sym, _∙_, ap, ap₂, subst}
+use mathlib.Core.Logic.{_↔_}
 use mathlib.Core.List.{List}
-use Prim.Native.Nat.{ℕ, _+_, _<_}
+use Prim.Native.Nat.{ℕ, _+_, _*_, _<_}
 use native.Mathlib.Omega.{arith}
-use lib.IntN.{ℤ, _-ℤ_}
+use lib.ListN.{length, drop, replicate, length-replicate}
+use lib.Seq.{getD-take, getD-drop}
+use lib.IntN.{ℤ, pos, _-ℤ_}
 use lib.Signed.{_<ℤ_}
 use Rattle.complexes.specs.Complex.{count}
-use Rattle.sheet_format.specs.Check.{sectionsOf, chainCells}
+use Rattle.sheet_format.specs.Check.{first, sectionsOf, chainCells}
 use Rattle.sheet_format.specs.Sheet.{Bytes}
 use Rattle.sheet_format.specs.Accept.{accepted-iff, sections-layout}
 use Rattle.homology_groups.specs.Chain.{Chain, combination}
 use Rattle.homology_groups.specs.ChainLaws.{boundary-same}
 use Rattle.reduction_steps.specs.State.{State}
 use Rattle.reduction_steps.specs.Pivot.{pivotRule}
-use Rattle.reports.specs.Report.{freeRank, torsionCount}
+use Rattle.reports.specs.Report.{Counts, freeRank, torsionCount}
 use Rattle.reports.specs.Reductions.{Reductions, tooWide, reduced}
-use Rattle.reports.specs.Call.{reductionsOf, reportCall}
-use Rattle.reports.specs.Host.{chainFrom}
+use Rattle.reports.specs.Call.{done, workSlots, reductionsOf, reportCall, coordinateCall}
+use Rattle.reports.specs.Lists.{chainAt, chainBytes, cyclesChecks, FirstFault}
+use Rattle.reports.specs.ChainsLaws.{length-chainAt, fault, cycles-told, chains-sized}
+use Rattle.reports.specs.Host.{chainFrom, coefficientIn, hostCoordinates, numberAt}
+use Rattle.reports.specs.HostChainsLaws.{coefficientIn-part}
 use Rattle.reports.specs.TextLaws.{programText-take}
 use Rattle.answers.specs.Homology.{IsCycle, IsBoundary}
 use Rattle.answers.specs.Right.{slot, orderIn, generatorIn, IsRight, HasCounts}
@@ -26,12 +32,15 @@ use Rattle.answers.specs.ReportRight.{Reads, report-is-right, has-counts, count
 use Rattle.answers.specs.CoordinatesRight.{ReadsCoordinates, coordinates-decide, coordinates-combine, coordinates-reduced}
 use Rattle.answers.specs.ReportCall.{report-answers, report-leaves, report-answered, report-reads}
 use Rattle.answers.specs.CoordinateCall.{coordinates-answer, coordinates-leave, coordinates-answered, coordinates-read, chain-cycle}
+use Rattle.answers.specs.CoordinateLists.{chain-passed, lists-answer, lists-leave, lists-answered, lists-single, lists-between, single-answer}
+use Rattle.answers.specs.HostCoordinateLists.{host-lists-answer, host-lists-left, host-lists-kept, host-listed, host-lists-size, host-lists-between, host-single-number, host-lists-single}
 use Rattle.answers.specs.HostReport.{host-report-answers, host-report-left, host-reported}
 use Rattle.answers.specs.HostCoordinates.{host-coordinates-answer, host-coordinates-left, host-coordinated, given-coefficient}
 use Rattle.answers.specs.ProgramText.{refused-iff, dimensions-printed}
 use Rattle.demands.specs.Claims.{ReportNumbers, CoordinateNumbers, NotACycle, ReportLeaves, CoordinatesLeave, Acceptance, SheetCells, Reports, CoordinateCounts, SameCounts}
 use Rattle.demands.specs.Claims.{CoordinatesOf, ReportOf, CoordinatesDecide, CoordinatesCombine, CoordinatesReduced}
 use Rattle.demands.specs.Claims.{HostReportNumbers, HostCoordinateNumbers, HostReportLeft, HostCoordinatesLeft, HostReports, HostCoordinateCounts}
+use Rattle.demands.specs.Claims.{ListNumbers, FirstFaultyChain, ListsLeave, ListCounts, ListsSingle, HostListsSingle, HostListNumbers, HostListsLeft, HostListCounts}
 use Rattle.demands.specs.Claims.{ProgramRefuses, ProgramPrints, ProgramInput}
 use Rattle.demands.specs.Claims as claims
 
@@ -45,6 +54,33 @@ pub coordinateNumbers : CoordinateNumbers
 unfolding chainCells
 coordinateNumbers = coordinates-answer
 
+pub listNumbers : ListNumbers
+unfolding chainCells
+listNumbers = lists-answer
+
+pub firstFaultyChain : FirstFaultyChain
+unfolding chainCells
+firstFaultyChain limit b p number chains size k nonzero = (
+  λ e. let f = iff .0 (sym (chains-sized limit b p chains number size) ∙ e) in record {
+    place = f .place;
+    within = f .within;
+    told = chain-passed limit b p chains (f .place) (long (f .place) (f .within)) ∙ f .told;
+    earlier = λ i l. chain-passed limit b p chains i (long i (omega (arith, f .within))) ∙ f .earlier i l;
+  },
+  λ f. chains-sized limit b p chains number size ∙ iff .1 (record {
+    place = f .place;
+    within = f .within;
+    told = sym (chain-passed limit b p chains (f .place) (long (f .place) (f .within))) ∙ f .told;
+    earlier = λ i l. sym (chain-passed limit b p chains i (long i (omega (arith, f .within)))) ∙ f .earlier i l;
+  }),
+)
+  where
+    iff : (first (cyclesChecks limit b p number chains) ≡ k) ↔ FirstFault (fault limit b p chains) number k
+    iff = cycles-told limit b p chains number k nonzero
+
+    long : (i : ℕ) → i < number → length (chainAt (count (chainCells b) p) chains i) ≡ count (chainCells b) p
+    long = length-chainAt (count (chainCells b) p) number chains size
+
 pub notACycle : NotACycle
 unfolding chainCells
 notACycle = not-a-cycle-iff
@@ -55,6 +91,10 @@ reportLeaves = report-leaves
 
 pub coordinatesLeave : CoordinatesLeave
 coordinatesLeave = coordinates-leave
+
+pub listsLeave : ListsLeave
+unfolding chainCells
+listsLeave = lists-leave
 
 -- ==== Demand 2
 
@@ -81,8 +121,35 @@ coordinateCounts limit b p z coordinates work bytes counts e =
     let d = coordinates-answered limit b p z coordinates work bytes e in
     as-counted (λ f t. HasCounts (sectionsOf b) p f t) (d .counted .free) (d .counted .torsion) (has-counts (d .right))
 
+pub listCounts : ListCounts
+unfolding chainCells
+listCounts limit b p number chains coordinates work bytes counts e =
+    let d = lists-answered limit b p number chains coordinates work bytes e in
+    as-counted (λ f t. HasCounts (sectionsOf b) p f t) (d .counted .free) (d .counted .torsion) (has-counts (d .right))
+
 pub sameCounts : SameCounts
 sameCounts b p f t f′ t′ = counts-unique
+
+-- ==== Many chains in one call
+
+pub listsSingle : ListsSingle
+unfolding chainCells
+listsSingle limit b p number chains coordinates work bytes counts e i l coordinates′ work′ room space = record {
+  answer = single-answer limit b p number chains coordinates work bytes e i l coordinates′ work′ room space;
+  same = lists-single limit b p number chains coordinates work bytes e i l coordinates′ work′ room space;
+  between = lists-between limit b p number chains coordinates work bytes e i l;
+}
+
+pub hostListsSingle : HostListsSingle
+unfolding chainCells
+hostListsSingle b p number chains coordinates bytes e f t counts i l coordinates′ room =
+    let h = host-listed b bytes p number chains coordinates e in
+    let own = counts-unique counts (has-counts (h .right)) in
+    record {
+      number = host-single-number b bytes p number chains coordinates e i l coordinates′ room;
+      same = λ j m. host-lists-single b bytes p number chains coordinates e i l coordinates′ room j (omega (arith, own .0, own .1));
+      between = λ k m. host-lists-between b bytes p number chains coordinates e i l k (omega (arith, own .0, own .1));
+    }
 
 -- ==== Demand 3
 
@@ -107,9 +174,11 @@ record CoordinatesBehind (b : List ℕ) (p : ℕ) (z : Chain) (c : ℕ → ℤ) 
   cycle : IsCycle (sectionsOf b) p (slot chain)
   reads : ReadsCoordinates (sectionsOf b) p rows rank state chain c
 
-coordinates-behind : (b : List ℕ) (p : ℕ) → Bytes b → (z : Chain) (c : ℕ → ℤ) → CoordinatesOf b p z c → CoordinatesBehind b p z c
+-- of a single call
+single-behind : (limit : ℕ) (b : List ℕ) (p : ℕ) → Bytes b → (z coordinates work : List ℤ) (counts : Counts) → coordinateCall limit b p z coordinates work .answer ≡ done counts
+    → CoordinatesBehind b p (slot z) (slot (coordinateCall limit b p z coordinates work .output))
 unfolding chainCells
-coordinates-behind b p bytes _ _ (claims.CoordinatesOf.by-library limit z coordinates work counts e) =
+single-behind limit b p bytes z coordinates work counts e =
     let d = coordinates-answered limit b p z coordinates work bytes e in
     record {
       rows = d .counted .rows;
@@ -122,7 +191,11 @@ coordinates-behind b p bytes _ _ (claims.CoordinatesOf.by-library limit z coordi
       cycle = chain-cycle limit b p z coordinates work (d .passes);
       reads = coordinates-read limit b p z coordinates work bytes e;
     }
-coordinates-behind b p bytes _ _ (claims.CoordinatesOf.by-host chain coordinates e) =
+
+host-behind : (b : List ℕ) (p : ℕ) → Bytes b → (chain coordinates : List ℕ) → hostCoordinates b p chain coordinates .number ≡ 0
+    → CoordinatesBehind b p (coefficientIn chain) (numberAt (hostCoordinates b p chain coordinates .output))
+unfolding chainCells
+host-behind b p bytes chain coordinates e =
     let d = host-coordinated b bytes p chain coordinates e in
     let R = d .behind in
     record {
@@ -136,6 +209,46 @@ coordinates-behind b p bytes _ _ (claims.CoordinatesOf.by-host chain coordinates
       cycle = d .chain-passed .cycle;
       reads = d .reads;
     }
+
+-- the same stand behind other numbers that read the same for the same coefficients
+behind-same : (b : List ℕ) (p : ℕ) {z z′ : Chain} {c c′ : ℕ → ℤ} (f t : ℕ) → HasCounts (sectionsOf b) p f t → ((i : ℕ) → i < count (sectionsOf b) p → z i ≡ z′ i)
+    → ((j : ℕ) → j < t + f → c′ j ≡ c j) → CoordinatesBehind b p z c → CoordinatesBehind b p z′ c′
+behind-same b p f t counts same list B =
+    let own = counts-unique counts (has-counts (B .right)) in
+    record {
+      rows = B .rows;
+      rank = B .rank;
+      state = B .state;
+      reductions = B .reductions;
+      right = B .right;
+      chain = B .chain;
+      agrees = λ i l. B .agrees i l ∙ same i l;
+      cycle = B .cycle;
+      reads = record { places = λ j l. list j (omega (arith, own .0, own .1)) ∙ B .reads .places j l };
+    }
+
+coordinates-behind : (b : List ℕ) (p : ℕ) → Bytes b → (z : Chain) (c : ℕ → ℤ) → CoordinatesOf b p z c → CoordinatesBehind b p z c
+unfolding chainCells
+coordinates-behind b p bytes _ _ (claims.CoordinatesOf.by-library limit z coordinates work counts e) = single-behind limit b p bytes z coordinates work counts e
+coordinates-behind b p bytes _ _ (claims.CoordinatesOf.by-host chain coordinates e) = host-behind b p bytes chain coordinates e
+coordinates-behind b p bytes _ _ (claims.CoordinatesOf.by-library-list limit number chains coordinates work counts e i l) =
+    let n = count (sectionsOf b) p in
+    let alone = replicate n (pos 0) in
+    let space = replicate (workSlots (sectionsOf b) p) (pos 0) in
+    let d = listsSingle limit b p number chains coordinates work bytes counts e i l alone space (omega (arith, length-replicate n (pos 0)))
+    (omega (arith, length-replicate (workSlots (sectionsOf b) p) (pos 0))) in
+    behind-same b p (counts .free) (counts .torsion) (listCounts limit b p number chains coordinates work bytes counts e)
+    (λ j m. getD-take n (drop (i * n) chains) j (pos 0) m ∙ getD-drop (i * n) chains j (pos 0)) (d .same)
+    (single-behind limit b p bytes (chainAt n chains i) alone space counts (d .answer))
+coordinates-behind b p bytes _ _ (claims.CoordinatesOf.by-host-list number chains coordinates e i l) =
+    let n = count (sectionsOf b) p in
+    let h = host-listed b bytes p number chains coordinates e in
+    let alone : List ℕ = replicate (8 * n) 0 in
+    let d = hostListsSingle b p number chains coordinates bytes e (freeRank (h .rows) (h .rank)) (torsionCount (h .rank) (h .state)) (has-counts (h .right)) i l alone
+    (omega (arith, length-replicate {A = ℕ} (8 * n) 0)) in
+    behind-same b p (freeRank (h .rows) (h .rank)) (torsionCount (h .rank) (h .state)) (has-counts (h .right))
+    (coefficientIn-part n number chains (host-lists-size b bytes p number chains coordinates e) i l) (d .same)
+    (host-behind b p bytes (chainBytes n chains i) alone (d .number))
 
 -- a boundary stays one where its coefficients are those of another chain
 boundary-of : (b : List ℕ) (p : ℕ) {y z : Chain} → ((i : ℕ) → i < count (sectionsOf b) p → y i ≡ z i) → IsBoundary (sectionsOf b) p y → IsBoundary (sectionsOf b) p z
@@ -210,11 +323,18 @@ pub hostCoordinateNumbers : HostCoordinateNumbers
 unfolding chainCells
 hostCoordinateNumbers b p chain coordinates bytes = host-coordinates-answer b bytes p chain coordinates
 
+pub hostListNumbers : HostListNumbers
+unfolding chainCells
+hostListNumbers b p number chains coordinates bytes = host-lists-answer b bytes p number chains coordinates
+
 pub hostReportLeft : HostReportLeft
 hostReportLeft b p report bytes = host-report-left b bytes p report
 
 pub hostCoordinatesLeft : HostCoordinatesLeft
 hostCoordinatesLeft b p chain coordinates bytes = host-coordinates-left b bytes p chain coordinates
+
+pub hostListsLeft : HostListsLeft
+hostListsLeft b p number chains coordinates bytes = host-lists-left b bytes p number chains coordinates
 
 pub hostReports : HostReports
 unfolding chainCells
@@ -234,6 +354,17 @@ hostCoordinateCounts b p chain coordinates bytes e =
     let d = host-coordinated b bytes p chain coordinates e in
     let R = d .behind in
     record { free = freeRank (R .rows) (R .rank); torsion = torsionCount (R .rank) (R .state); counts = has-counts (R .right); past = d .kept }
+
+pub hostListCounts : HostListCounts
+unfolding chainCells
+hostListCounts b p number chains coordinates bytes e =
+    let h = host-listed b bytes p number chains coordinates e in
+    record {
+      free = freeRank (h .rows) (h .rank);
+      torsion = torsionCount (h .rank) (h .state);
+      counts = has-counts (h .right);
+      past = host-lists-kept b bytes p number chains coordinates e;
+    }
 
 -- ==== The program
 

@@ -1,5 +1,5 @@
--- From the library's calls to the host calls: what is answered and written where the library's call refused (report-refuses, coordinates-refuse) and
--- where it is done (report-writes, coordinates-write), and that the numbers have room (report-room, coordinates-sizes, writable).
+-- From the library's report call to the host's: what is answered and written where the library's call refused (report-refuses) and where it is done
+-- (report-writes), and that the numbers have room (report-room, writable).
 use mathlib.Core.Path.{_≡_, sym, _∙_, ap}
 use mathlib.Core.List.{List, _++_}
 use Prim.Native.Nat.{ℕ, _+_, _*_, _≤_, _<_, min}
@@ -7,17 +7,18 @@ use native.Mathlib.Omega.{arith}
 use lib.ListN.{length, getD, take, drop, length-append}
 use lib.Seq.{take-append-le, length-take-le}
 use lib.IntN.{ℤ}
+use Rattle.lists.specs.Splice.{splice}
 use Rattle.complexes.specs.Complex.{count}
 use Rattle.sheet_format.specs.Check.{chainCells, countField}
 use Rattle.sheet_format.specs.Sheet.{Bytes}
 use Rattle.sheet_format.specs.SheetLaws.{count-chainCells}
 use Rattle.refusal.specs.declared.Refusal.{Refusal}
 use Rattle.refusal.specs.Number.{numberOf}
-use Rattle.reports.specs.Call.{Called, reportCall, coordinateCall}
+use Rattle.reports.specs.Call.{Called, reportCall}
 use Rattle.limits.specs.Limits.{hostLimit}
-use Rattle.reports.specs.Host.{HostCalled, numbersBytes, chainFrom, slotsIn, hostReport, hostCoordinates}
-use Rattle.reports.specs.HostCallLaws.{HostRefused, HostDone, reportRoom, coordinateRoom, workRoom, report-refused, report-done, coordinates-refused, coordinates-done}
-use Rattle.answers.specs.HostSizes.{ReportSized, CoordinatesSized, report-sized, coordinates-sized}
+use Rattle.reports.specs.Host.{HostCalled, numbersBytes, slotsIn, hostReport}
+use Rattle.reports.specs.HostCallLaws.{HostRefused, HostDone, reportRoom, workRoom, report-refused, report-done}
+use Rattle.answers.specs.HostSizes.{ReportSized, report-sized}
 use Rattle.writers.specs.declared.reduced.Counts.{Counts}
 use Rattle.calls.specs.declared.answer.Answer as library
 use Rattle.calls.specs.declared.answer.Answer.the-variants.{Done, Refused}
@@ -77,7 +78,7 @@ pub writable : {room : ℕ} (l : Lent room) (after : List ℤ) {n : ℕ} → n �
     → (n ≤ length (left l after)) × (8 * n ≤ length (l .output))
 writable l after fits same = (omega (arith, fits, same, length-append after (drop (l .many) (l .numbers))), omega (arith, fits, size l))
 
--- ---- either call
+-- ---- what it answers
 
 -- what the library's call answers at the host's limit
 told : {limit : ℕ} (call : ℕ → Called) {r x : library.Answer} {after work : List ℤ} → limit ≡ hostLimit → CallAnswers (call limit) r after work → r ≡ x
@@ -89,12 +90,12 @@ refuses h e = record { number-is = e ∙ sym (h .number-is); output-is = sym (h 
 
 -- the numbers stand in front of what follows the lent slots
 writes : {called : HostCalled} {output output′ : List ℕ} (many : ℕ) (numbers rest : List ℤ) → many ≤ length numbers → HostDone called many numbers output
-    → output′ ≡ numbersBytes (take many (numbers ++ rest)) ++ drop (8 * many) output → HostAnswers called 0 output′
+    → output′ ≡ splice 0 (numbersBytes (take many (numbers ++ rest))) output → HostAnswers called 0 output′
 writes {output = output} many numbers rest fits h e =
     record {
       number-is = sym (h .number-is);
       output-is =
-          e ∙ ap (λ (l : List ℤ). numbersBytes l ++ drop (8 * many) output) (take-append-le many numbers rest fits) ∙ sym (h .output-is);
+          e ∙ ap (λ (l : List ℤ). splice 0 (numbersBytes l) output) (take-append-le many numbers rest fits) ∙ sym (h .output-is);
     }
 
 -- ---- the report
@@ -122,7 +123,7 @@ module _ (l : Lent reportRoom) {r : library.Answer} {after work′ : List ℤ}
       report-room = omega (arith, cells-are, report-sizes .fits)
 
       pub report-writes : {output′ : List ℕ} → length after ≡ length (slots l)
-          → output′ ≡ numbersBytes (take numbers-of (left l after)) ++ drop (8 * numbers-of) (l .output)
+          → output′ ≡ splice 0 (numbersBytes (take numbers-of (left l after))) (l .output)
           → HostAnswers (hostReport (l .sheet) (l .dimension) (l .output)) 0 output′
       report-writes same e′ = writes numbers-of after (drop (l .many) (l .numbers)) (omega (arith, report-room, same)) written e′
         where
@@ -131,35 +132,3 @@ module _ (l : Lent reportRoom) {r : library.Answer} {after work′ : List ℤ}
               rw (a .output-is, l .host)
               (report-done (l .sheet) (l .dimension) (l .output) (slots l) (l .work) (size l) (l .space) numbers-of (at-host e)
               (report-sizes .is-sized .counted) (report-sizes .is-sized .report-size ∙ sym cells-are))
-
--- ---- the coordinates
-
--- z was read from the bytes of the chain
-abbrev pub ReadFrom : List ℕ → ℕ → List ℤ → List ℕ → Type 0
-ReadFrom b p z chain = count (chainCells b) p ≤ hostLimit → z ≡ chainFrom (count (chainCells b) p) chain
-
-module _ (l : Lent coordinateRoom) (z : List ℤ) {r : library.Answer} {after work′ : List ℤ}
-    (a : CallAnswers (coordinateCall (l .limit) (l .sheet) (l .dimension) z (slots l) (l .work)) r after work′) where
-  given : {x : library.Answer} → r ≡ x → coordinateCall hostLimit (l .sheet) (l .dimension) z (slots l) (l .work) .answer ≡ answered x
-  given e = told (λ n. coordinateCall n (l .sheet) (l .dimension) z (slots l) (l .work)) (l .host) a e
-
-  pub coordinates-refuse : {x : Refusal} {n : ℕ} → r ≡ Refused x → n ≡ numberOf x → (chain : List ℕ) → ReadFrom (l .sheet) (l .dimension) z chain
-      → HostAnswers (hostCoordinates (l .sheet) (l .dimension) chain (l .output)) n (l .output)
-  coordinates-refuse {x} e is chain read =
-      refuses (coordinates-refused (l .sheet) (l .dimension) chain (l .output) z (slots l) (l .work) (size l) (l .space) read (numberOf x) (given e)) is
-
-  module _ {x : Counts} (e : r ≡ Done x) where
-    pub coordinates-sizes : CoordinatesSized (l .sheet) (l .dimension) (slots l) (countsIn x)
-    coordinates-sizes = coordinates-sized (l .sheet) (l .bytes) (l .dimension) z (slots l) (l .work) (countsIn x) (given e)
-
-    pub coordinates-write : {output′ : List ℕ} → length after ≡ length (slots l)
-        → output′ ≡ numbersBytes (take (x .torsion + x .free) (left l after)) ++ drop (8 * (x .torsion + x .free)) (l .output)
-        → (chain : List ℕ) → ReadFrom (l .sheet) (l .dimension) z chain → HostAnswers (hostCoordinates (l .sheet) (l .dimension) chain (l .output)) 0 output′
-    coordinates-write same e′ chain read =
-        writes (x .torsion + x .free) after (drop (l .many) (l .numbers)) (omega (arith, coordinates-sizes .fits, same)) written e′
-      where
-        written : HostDone (hostCoordinates (l .sheet) (l .dimension) chain (l .output)) (x .torsion + x .free) after (l .output)
-        written =
-            rw (a .output-is, l .host)
-            (coordinates-done (l .sheet) (l .dimension) chain (l .output) z (slots l) (l .work) (size l) (l .space) read (x .torsion + x .free) (given e)
-            (coordinates-sizes .is-sized .counted) (coordinates-sizes .is-sized .coordinates-size z))

@@ -3,21 +3,21 @@
 ghost use mathlib.Core.Path.{_≡_};
 ghost use lib.ListN.{length};
 ghost use Rattle.reports.specs.Host.{hostReport, hostCoordinates};
-ghost use Rattle.reports.specs.HostCallLaws.{reportRoom, coordinateRoom, workRoom};
-ghost use Rattle.fildwuk.specs.Answer.{HostAnswers, AnswersChain};
+ghost use Rattle.reports.specs.Lists.{hostCoordinateLists};
+ghost use Rattle.reports.specs.HostCallLaws.{reportRoom, workRoom};
+ghost use Rattle.fildwuk.specs.Answer.{HostAnswers};
+
+pub mod coordinate_lists;
+
+use crate::coordinate_lists::lists_through;
 use calls::answer::Answer;
-use calls::coordinates::coordinates_at;
 use calls::report::report_at;
 use calls::slots::REPORT_SLOTS;
 use calls::slots::WORK_SLOTS;
 use fields::field::count;
-use little_endian::read_chain;
 use little_endian::smaller;
 use little_endian::write_numbers;
 use sheet::reader::Sheet;
-
-// The slots of the coefficients and coordinates.
-const CELLS: usize = Sheet::HOST_LIMIT;
 
 // The report of a dimension, by way of the numbers.
 fn report_through(
@@ -39,7 +39,7 @@ fn report_through(
         Answer::Done(counts) => {
             let generators = counts.torsion + counts.free;
             let written = 2 + counts.torsion + generators * count(sheet, dimension as usize);
-            write_numbers(numbers, written, report);
+            write_numbers(numbers, written, report, 0);
             0
         }
     }
@@ -58,36 +58,29 @@ pub extern "C" fn fildwuk_report(sheet: &[u8], dimension: u32, report: &mut [u8]
     report_through(sheet, dimension, &mut numbers, &mut work, report)
 }
 
-// The coordinates of a cycle, by way of the numbers.
-fn coordinates_through(
+// The coordinate lists of so many cycles.
+#[no_mangle]
+pub extern "C" fn fildwuk_coordinate_lists(
     sheet: &[u8],
     dimension: u32,
-    coefficients: &[i32],
-    numbers: &mut [i64],
-    work: &mut [i32],
+    number: u32,
+    chains: &[u8],
     coordinates: &mut [u8],
 ) -> u32
-    requires { ⌜ (length (now numbers) ≡ coordinateRoom) × (length (now work) ≡ workRoom) ⌝ }
     ensures { λ r.
         let left = now (coordinates .exit) in ⌜
-        AnswersChain (now (sheet .entry)) dimension (now (coefficients .entry)) (now (coordinates .entry)) r left
+        HostAnswers (hostCoordinateLists (now (sheet .entry)) dimension number (now (chains .entry)) (now (coordinates .entry))) r left
         ⌝ }
 {
-    let slots = smaller(coordinates.len() / 8, CELLS);
-    match coordinates_at(
-        Sheet::host(),
+    let mut work = [0i32; WORK_SLOTS];
+    lists_through(
         sheet,
         dimension,
-        coefficients,
-        &mut numbers[..slots],
-        work,
-    ) {
-        Answer::Refused(refusal) => refusal.number(),
-        Answer::Done(counts) => {
-            write_numbers(numbers, counts.torsion + counts.free, coordinates);
-            0
-        }
-    }
+        number as usize,
+        chains,
+        &mut work,
+        coordinates,
+    )
 }
 
 // The coordinates of a cycle.
@@ -103,16 +96,5 @@ pub extern "C" fn fildwuk_coordinates(
         HostAnswers (hostCoordinates (now (sheet .entry)) dimension (now (chain .entry)) (now (coordinates .entry))) r left
         ⌝ }
 {
-    let mut work = [0i32; WORK_SLOTS];
-    let mut numbers = [0i64; CELLS];
-    let mut coefficients = [0i32; CELLS];
-    let length = read_chain(chain, count(sheet, dimension as usize), &mut coefficients);
-    coordinates_through(
-        sheet,
-        dimension,
-        &coefficients[..length],
-        &mut numbers,
-        &mut work,
-        coordinates,
-    )
+    fildwuk_coordinate_lists(sheet, dimension, 1, chain, coordinates)
 }

@@ -1,12 +1,13 @@
 // The library's calls, at its count limit of 256, for the tests and the benchmark in C. They answer 0 for done or the number of the refusal.
 ghost use mathlib.Core.Path.{_≡_};
 ghost use Rattle.reports.specs.Call.{reportCall, coordinateCall};
+ghost use Rattle.reports.specs.Lists.{coordinateListsCall};
 ghost use Rattle.limits.specs.Limits.{libraryLimit};
 ghost use Rattle.calls.specs.Answer.{answered};
 ghost use Rattle.library_host.specs.Answer.{numberTold, LibraryAnswers};
 use calls::answer::Answer;
 
-fn number(answer: Answer) -> u32
+fn number_told(answer: Answer) -> u32
     ensures { λ r. ⌜ r ≡ numberTold (answered answer) ⌝ }
 {
     match answer {
@@ -30,7 +31,7 @@ pub extern "C" fn library_report(
         (reportCall libraryLimit (now (sheet .entry)) dimension (now (report .entry)) (now (work .entry))) r left work-left
         ⌝ }
 {
-    number(calls::report::report(sheet, dimension, report, work))
+    number_told(calls::report::report(sheet, dimension, report, work))
 }
 
 // The coordinates of a cycle.
@@ -50,5 +51,33 @@ pub extern "C" fn library_coordinates(
         r left work-left
         ⌝ }
 {
-    number(calls::coordinates::coordinates(sheet, dimension, chain, coordinates, work))
+    number_told(calls::coordinates::coordinates(sheet, dimension, chain, coordinates, work))
+}
+
+// The coordinate lists of so many cycles.
+#[no_mangle]
+pub extern "C" fn library_coordinate_lists(
+    sheet: &[u8],
+    dimension: u32,
+    number: usize,
+    chains: &[i32],
+    coordinates: &mut [i64],
+    work: &mut [i32],
+) -> u32
+    ensures { λ r.
+        let left = now (coordinates .exit) in
+        let work-left = now (work .exit) in ⌜
+        LibraryAnswers
+        (coordinateListsCall libraryLimit (now (sheet .entry)) dimension number (now (chains .entry)) (now (coordinates .entry)) (now (work .entry)))
+        r left work-left
+        ⌝ }
+{
+    number_told(calls::coordinates::coordinate_lists(
+        sheet,
+        dimension,
+        number,
+        chains,
+        coordinates,
+        work,
+    ))
 }

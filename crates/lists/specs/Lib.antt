@@ -3,4 +3,5 @@ pub mod Tabulate
 pub mod TabulateLaws
 pub mod Splice
 pub mod SpliceLaws
+pub mod SplicesLaws
 pub mod Same

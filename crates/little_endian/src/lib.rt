@@ -2,16 +2,12 @@
 ghost use mathlib.Core.Path.{_≡_};
 ghost use mathlib.Core.List.{_++_};
 ghost use Prim.Native.Nat.{_+_, _*_, _≤_, _<_, min};
-ghost use lib.ListN.{length, take, drop, replicate};
-ghost use lib.IntN.{pos};
-ghost use Rattle.limits.specs.Limits.{hostLimit};
-ghost use Rattle.reports.specs.Host.{numberBytes, numbersBytes, coefficientAt};
-ghost use Rattle.little_endian.specs.Bytes.{SameBits, ReadsChain};
+ghost use lib.ListN.{length, take, drop};
+ghost use Rattle.lists.specs.Tabulate.{tabulate};
+ghost use Rattle.lists.specs.Splice.{splice};
+ghost use Rattle.reports.specs.Host.{numberBytes, numbersBytes, coefficientAt, coefficientIn};
+ghost use Rattle.little_endian.specs.Bytes.{SameBits};
 use fields::field::field;
-use sheet::reader::Sheet;
-
-// A chain has at most this many coefficients.
-const CELLS: usize = Sheet::HOST_LIMIT;
 
 pub fn smaller(a: usize, b: usize) -> usize
     ensures { λ r. ⌜ r ≡ min a b ⌝ }
@@ -44,14 +40,14 @@ fn write_number(x: i64, out: &mut [u8], at: usize)
     }
 }
 
-// Writes the bytes of the first n numbers.
-pub fn write_numbers(numbers: &[i64], n: usize, out: &mut [u8])
-    requires { ⌜ (n ≤ length (now numbers)) × (8 * n ≤ length (now out)) ⌝ }
-    ensures { λ r. ⌜ now (out .exit) ≡ numbersBytes (take n (now (numbers .entry))) ++ drop (8 * n) (now (out .entry)) ⌝ }
+// Writes the bytes of the first n numbers from byte `at` on.
+pub fn write_numbers(numbers: &[i64], n: usize, out: &mut [u8], at: usize)
+    requires { ⌜ (n ≤ length (now numbers)) × (at + 8 * n ≤ length (now out)) ⌝ }
+    ensures { λ r. ⌜ now (out .exit) ≡ splice at (numbersBytes (take n (now (numbers .entry)))) (now (out .entry)) ⌝ }
 {
     let mut i: usize = 0;
     while i < n {
-        write_number(numbers[i], out, 8 * i);
+        write_number(numbers[i], out, at + 8 * i);
         i = i + 1;
     }
 }
@@ -71,18 +67,14 @@ fn read_coefficient(b: &[u8], at: usize) -> i32
     }
 }
 
-// Reads a chain of n coefficients over zeros, and answers n; where the bytes are not 4 times n, or n exceeds the room, another length.
-pub fn read_chain(chain: &[u8], n: usize, coefficients: &mut [i32; CELLS]) -> usize
-    requires { ⌜ (n < 65536) × (now coefficients ≡ replicate hostLimit (pos 0)) ⌝ }
-    ensures { λ r. ⌜ ReadsChain (now (chain .entry)) n r (now (coefficients .exit)) ⌝ }
+// Reads n coefficients from coefficient `from` on.
+pub fn read_chain(chains: &[u8], from: usize, n: usize, coefficients: &mut [i32])
+    requires { ⌜ (n ≤ length (now coefficients)) × (4 * (from + n) ≤ length (now chains)) ⌝ }
+    ensures { λ r. ⌜ take n (now (coefficients .exit)) ≡ tabulate n (λ i. coefficientIn (now (chains .entry)) (from + i)) ⌝ }
 {
-    if CELLS < n || chain.len() != 4 * n {
-        return if n == 0 { 1 } else { 0 };
-    }
     let mut i: usize = 0;
     while i < n {
-        coefficients[i] = read_coefficient(chain, 4 * i);
+        coefficients[i] = read_coefficient(chains, 4 * (from + i));
         i = i + 1;
     }
-    n
 }

@@ -52,12 +52,13 @@ callChecks limit b p slots output work =
     ++ (8, ltb top p)
     ∷ (9, ltb output (slots (chainCells b) p) || ltb work (workSlots (chainCells b) p)) ∷ []
 
--- 10 to 12, for a chain z at a coefficient limit
+-- 11 and 12, for a chain z at a coefficient limit
+abbrev pub cycleChecks : ℕ → List ℕ → ℕ → List ℤ → List (ℕ × Bool)
+cycleChecks limit b p z = (11, coefficientExceeds limit z) ∷ (12, boundaryNotZero (chainCells b) p z) ∷ []
+
+-- 10 to 12
 unfoldable pub chainChecks : ℕ → List ℕ → ℕ → List ℤ → List (ℕ × Bool)
-chainChecks limit b p z =
-    (10, chainLengthDiffers (chainCells b) p z)
-    ∷ (11, coefficientExceeds limit z)
-    ∷ (12, boundaryNotZero (chainCells b) p z) ∷ []
+chainChecks limit b p z = (10, chainLengthDiffers (chainCells b) p z) ∷ cycleChecks limit b p z
 
 -- ---- what a call answers and leaves
 

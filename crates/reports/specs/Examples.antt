@@ -1,14 +1,17 @@
 -- The program's text and the host calls' bytes on sheets of document 01, through both reductions, and where these go too wide.
---     examples    every sheet of `textCases` gives its text; every call of `hostCases` gives its number and leaves its bytes; an edge
---                 goes too wide in the first reduction and in the product
---     edge-wide   so its two reductions are too wide
+--     examples          every sheet of `textCases` gives its text; every call of `hostCases` gives its number and leaves its bytes; an edge
+--                       goes too wide in the first reduction and in the product
+--     largest-number    a host call on 4294967295 chains where there are no cells is done
+--     edge-wide         the edge's two reductions are too wide
 use mathlib.Core.Bool.{Bool, _&&_}
 use Prim.Native.Nat.{ℕ}
-use mathlib.Core.List.{List}
+use mathlib.Core.List.{List, []}
 use mathlib.Core.Path.{_≡_, refl}
 use lib.Dec.{T, eqb, eqb→eq}
+use lib.ListN.{replicate}
 use Rattle.integers.specs.Division.{floor, modulo, divides}
 use Rattle.lists.specs.Tabulate.{tabulate}
+use Rattle.lists.specs.Splice.{splice, splices}
 use Rattle.lists.specs.Same.{every, sameList, both, sameList-eq}
 use Rattle.matrices.specs.Sum.{sum}
 use Rattle.matrices.specs.Matrix.{mul, identity, null}
@@ -28,8 +31,10 @@ use Rattle.reports.specs.Report.{reported, columnsOf, torsionCount, repo
 use Rattle.reports.specs.Call.{coefficientExceeds, boundaryNotZero, callChecks, chainChecks, reductionsOf}
 use Rattle.reports.specs.Text.{digits, decimal, spaced, generatorLines, dimensionText, dimensionsText, textFor, programText}
 use Rattle.reports.specs.Host.{HostCalled, lowBytes, numberBytes, numbersBytes, coefficientAt, otherLength, chainFrom, finishedWith, hostReport, hostCoordinates}
+use Rattle.reports.specs.Lists.{cyclesChecks, chainsChecks, hostCoordinateLists}
+use Rattle.reports.specs.ListsLaws.{host-no-cells}
 use Rattle.reports.specs.TextCases.{TextCase, textCases}
-use Rattle.reports.specs.HostCases.{Request, report, coordinatesOf, HostCase, hostCases}
+use Rattle.reports.specs.HostCases.{Request, report, coordinatesOf, listsOf, HostCase, hostCases}
 use Rattle.reports.specs.WideEnd.{inFirst, inProduct, atEnd, endOfSecond, endOfProduct, endOfFirst, end, endsWide, end-wide}
 
 unfoldable pub sameBytes : List ℕ → List ℕ → Bool
@@ -47,6 +52,7 @@ textGood-eq c t = sameList-eq eqb eqb→eq (programText (c .sheet)) (c .text) t
 unfoldable pub called : ℕ → Request → List ℕ → HostCalled
 called p report output = hostReport hollowTriangle p output
 called p (coordinatesOf chain) output = hostCoordinates hollowTriangle p chain output
+called p (listsOf number chains) output = hostCoordinateLists hollowTriangle p number chains output
 
 unfoldable pub sameCalled : HostCalled → HostCalled → Bool
 sameCalled x y = eqb (x .number) (y .number) && sameBytes (x .output) (y .output)
@@ -82,8 +88,18 @@ unfolding every sameList sameBytes textGood hostGood called sameCalled end endOf
     onRows onColumns inverse identity null mul apply sum floor modulo divides tabulate reported torsionCount
     programText textFor dimensionsText dimensionText generatorLines spaced decimal digits
     hostReport hostCoordinates callChecks chainChecks coefficientExceeds boundaryNotZero
+    hostCoordinateLists chainsChecks cyclesChecks splices splice
     chainFrom otherLength coefficientAt finishedWith numbersBytes numberBytes lowBytes reportList coordinateList coordinateAt columnsOf
 examples = record { texts = tt; hosts = tt; wideInFirst = refl; wideInProduct = refl; notWide = refl }
+
+-- where there are no cells, as many chains as the host call can be asked for are done
+pub largest-number : hostCoordinateLists hollowTriangle 2 4294967295 [] (replicate 5 9) ≡ record { number = 0; output = replicate 5 9 }
+unfolding hostCoordinateLists chainsChecks cyclesChecks splices callChecks finishedWith chainFrom
+    refusal countField offsetField cellOf cellsOf sectionsOf chainCells some verticesDoNotRise cellsDoNotRise faceMissing without same rises precedes listed start
+    reductionsOf reductions firstStart afterFirst second product secondStart afterSecond countBelow boundary coefficient sign
+    reduce run step next columnKeeps rowKeeps rowIndivisible firstIndivisible
+    release1 downRows alongRow better within tableWithin rowWithin table identity mul sum tabulate
+largest-number = host-no-cells hollowTriangle 2 refl 4294967295 [] (replicate 5 9)
 
 -- the edge's reductions at the limit 0 are too wide
 pub edge-wide : (reductions release1 0 edgeSections 1 ≡ tooWide) × (reductions release1 0 edgeSections 0 ≡ tooWide)

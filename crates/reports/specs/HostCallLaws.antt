@@ -1,8 +1,7 @@
--- The host calls beside the library's. With `reportRoom`, `coordinateRoom` and `workRoom` slots a host call has room for every sheet that it accepts,
--- so it answers what the library's call answers: report-refused, report-done, coordinates-refused, coordinates-done.
-use mathlib.Core.Bool.{Bool}
+-- The host's report call beside the library's. With `reportRoom` and `workRoom` slots a host call has room for every sheet that it accepts, so it
+-- answers what the library's call answers: report-refused, report-done.
 use mathlib.Core.Path.{_≡_, refl, sym, _∙_, ap}
-use mathlib.Core.List.{List, _++_}
+use mathlib.Core.List.{List}
 use Prim.Native.Nat.{ℕ, zero, suc, _+_, _*_, _≤_, _<_, min, max}
 use native.Mathlib.Nat.{mul-le-mul, max-le}
 use native.Mathlib.Decide.{decLe, decLt}
@@ -12,23 +11,23 @@ use lib.Dec.{ltb}
 use lib.ListN.{length, take, drop}
 use lib.Seq.{take-at}
 use lib.IntN.{ℤ}
+use Rattle.lists.specs.Splice.{splice}
+use Rattle.lists.specs.SpliceLaws.{splice-zero}
 use Rattle.complexes.specs.Complex.{Sections, count}
 use Rattle.complexes.specs.Boundary.{countBelow}
 use Rattle.sheet_format.specs.Layout.{top}
 use Rattle.sheet_format.specs.Check.{chainCells, first, refusal}
-use Rattle.sheet_format.specs.FirstLaws.{orElse, first-append}
 use Rattle.sheet_format.specs.CheckLaws.{refusal-zero, countExceeds-false}
 use Rattle.sheet_format.specs.SheetLaws.{count-chainCells, countField-out}
 use Rattle.reduction_steps.specs.State.{State}
 use Rattle.reduction_steps.specs.Pivot.{pivotRule}
 use Rattle.reports.specs.Reductions.{Reductions}
-use Rattle.reports.specs.Report.{Counts, reportList, coordinateList}
-use Rattle.reports.specs.Call.{Called, done, refused, written, callChecks, chainChecks, reportSlots, coordinateSlots, workSlots, reductionsOf, reportCall, coordinateCall}
-use Rattle.limits.specs.Limits.{hostLimit, coefficientLimit}
+use Rattle.reports.specs.Report.{Counts, reportList}
+use Rattle.reports.specs.Call.{Called, done, refused, written, callChecks, reportSlots, workSlots, reductionsOf, reportCall}
+use Rattle.limits.specs.Limits.{hostLimit}
 use Rattle.reports.specs.RefusalLaws.{sheet-told, sheet-passed}
 use Rattle.reports.specs.CallLaws.{call, numbersLeft, ReducedWith, CallRefused, earlier, wide, call-done, call-refused, call-output}
-use Rattle.reports.specs.HostLaws.{length-numbersBytes}
-use Rattle.reports.specs.Host.{HostCalled, numbersBytes, chainFrom, slotsIn, orRefusedWith, finishedWith, hostReport, hostCoordinates}
+use Rattle.reports.specs.Host.{HostCalled, numbersBytes, slotsIn, orRefusedWith, finishedWith, hostReport}
 
 -- ---- a host call: the refusals before the reduction, then what the reductions come to
 
@@ -47,7 +46,7 @@ pub record HostRefused (called : HostCalled) (k : ℕ) (output : List ℕ) : Typ
 -- done: the bytes of the first `many` of the numbers, and untouched past them
 pub record HostDone (called : HostCalled) (many : ℕ) (numbers : List ℤ) (output : List ℕ) : Type 0 where
   pub number-is : called .number ≡ 0
-  pub output-is : called .output ≡ numbersBytes (take many numbers) ++ drop (8 * many) output
+  pub output-is : called .output ≡ splice 0 (numbersBytes (take many numbers)) output
 
 module _ (before : ℕ) (R : Reductions) (numbers : ℕ → ℕ → State → List ℤ) (slots work : List ℤ) (output : List ℕ) where
   abbrev library : Called
@@ -79,16 +78,13 @@ module _ (before : ℕ) (R : Reductions) (numbers : ℕ → ℕ → State → Li
           ap (take many) (call-output before R (numbersLeft numbers slots) slots work z (c .rows) (c .rank) (c .state) (c .reductions))
           ∙ take-at list (drop (length list) slots) many size
 
-      bytes : host .output ≡ numbersBytes (take many (library .output)) ++ drop (8 * many) output
-      bytes = rw (same, ← size, z, c .reductions) (ap (λ (n : ℕ). numbersBytes list ++ drop n output) (length-numbersBytes list))
+      bytes : host .output ≡ splice 0 (numbersBytes (take many (library .output))) output
+      bytes = rw (same, z, c .reductions) (sym (splice-zero (numbersBytes list) output))
 
 -- ---- the room of a host call
 
 abbrev pub reportRoom : ℕ
 reportRoom = 2 + hostLimit + hostLimit * hostLimit
-
-abbrev pub coordinateRoom : ℕ
-coordinateRoom = hostLimit
 
 abbrev pub workRoom : ℕ
 workRoom = hostLimit * (3 * hostLimit)
@@ -125,6 +121,22 @@ ltb-min o room need h = go (decLt o need)
     go : Dec (o < need) → ltb (min o room) need ≡ ltb o need
     go (yes l) = lt-ltb (min o room) need (omega arith) ∙ sym (lt-ltb o need l)
     go (no l) = le-ltb (min o room) need (omega arith) ∙ sym (le-ltb o need (omega arith))
+
+-- the work array of a host call has the slots that check 9 asks for
+pub same-work : (b : List ℕ) (p : ℕ) (slots : Sections → ℕ → ℕ) (o work : ℕ) → work ≡ workRoom
+    → first (callChecks hostLimit b p slots o work) ≡ first (callChecks hostLimit b p slots o (workSlots (chainCells b) p))
+same-work b p slots o work space = go (refusal hostLimit b) refl
+  where
+    needed : ℕ
+    needed = workSlots (chainCells b) p
+
+    go : (k : ℕ) → refusal hostLimit b ≡ k → first (callChecks hostLimit b p slots o work) ≡ first (callChecks hostLimit b p slots o needed)
+    go (suc k) e =
+        sheet-told hostLimit b p slots o work (λ z. absurd (omega arith)) ∙ sym (sheet-told hostLimit b p slots o needed (λ z. absurd (omega arith)))
+    go zero e =
+        sheet-passed hostLimit b p slots o work e
+        ∙ (rw (le-ltb work needed (omega (arith, work-room b e p)), le-ltb needed needed (omega arith)))
+        ∙ sym (sheet-passed hostLimit b p slots o needed e)
 
 module _ (b : List ℕ) (p : ℕ) (slots : Sections → ℕ → ℕ) (room o output work : ℕ) (size : output ≡ min o room) (space : work ≡ workRoom) where
   abbrev before : ℕ → ℕ → ℕ
@@ -172,60 +184,3 @@ module _ (b : List ℕ) (p : ℕ) (output : List ℕ) (slots work : List ℤ) (s
   report-done {counts} many e c long =
       let d = call-done reportBefore (reductionsOf pivotRule (chainCells b) p) (numbersLeft reportNumbers slots) slots work counts e in
       rw report-same (host-done reportBefore (reductionsOf pivotRule (chainCells b) p) reportNumbers slots work output many (d .passes) c long)
-
--- ---- the coordinates
-
-module _ (b : List ℕ) (p : ℕ) (chain output : List ℕ) (z slots work : List ℤ)
-    (size : length slots ≡ min (slotsIn output) coordinateRoom) (space : length work ≡ workRoom)
-    (read : count (chainCells b) p ≤ hostLimit → z ≡ chainFrom (count (chainCells b) p) chain) where
-  coordinateNumbers : List ℤ → ℕ → ℕ → State → List ℤ
-  coordinateNumbers y s r x = coordinateList (count (chainCells b) p) s x y
-
-  sheetChecked : List (ℕ × Bool)
-  sheetChecked = callChecks hostLimit b p coordinateSlots (length slots) (length work)
-
-  coordinateBefore : List ℤ → ℕ
-  coordinateBefore y = first (sheetChecked ++ chainChecks coefficientLimit b p y)
-
-  answered : List ℤ → HostCalled
-  answered y = hostCall (coordinateBefore y) (reductionsOf pivotRule (chainCells b) p) (bytesLeft (coordinateNumbers y) output) output
-
-  -- the checks 1 to 9 of the library's call decide, or those of the chain
-  before-is : (y : List ℤ) → coordinateBefore y ≡ orElse (first sheetChecked) (first (chainChecks coefficientLimit b p y))
-  unfolding coordinateBefore sheetChecked callChecks
-  before-is y = first-append sheetChecked (chainChecks coefficientLimit b p y) refl
-
-  -- only a sheet that is accepted has its chain read
-  same-chain : (k : ℕ) → refusal hostLimit b ≡ k → answered (chainFrom (count (chainCells b) p) chain) ≡ answered z
-  unfolding answered sheetChecked
-  same-chain zero e = ap answered (sym (read (counts-within b e p)))
-  same-chain (suc k) e =
-      let told = sheet-told hostLimit b p coordinateSlots (length slots) (length work) (λ z. absurd (omega arith)) in
-      rw (before-is (chainFrom (count (chainCells b) p) chain), before-is z, told, e)
-
-  coordinates-same : hostCoordinates b p chain output ≡ answered z
-  unfolding hostCoordinates answered sheetChecked coordinateNumbers callChecks
-  coordinates-same =
-      ap (λ (n : ℕ). hostCall n (reductionsOf pivotRule (chainCells b) p) (bytesLeft (coordinateNumbers y) output) output)
-      (first-append (callChecks hostLimit b p coordinateSlots (slotsIn output) (workSlots (chainCells b) p)) (chainChecks coefficientLimit b p y) refl
-      ∙ ap (λ (n : ℕ). orElse n (first (chainChecks coefficientLimit b p y)))
-      (sym (same-refusal b p coordinateSlots coordinateRoom (slotsIn output) (length slots) (length work) size space (λ e. counts-within b e p)))
-      ∙ sym (before-is y))
-      ∙ same-chain (refusal hostLimit b) refl
-    where
-      y : List ℤ
-      y = chainFrom (count (chainCells b) p) chain
-
-  pub coordinates-refused : (k : ℕ) → coordinateCall hostLimit b p z slots work .answer ≡ refused k → HostRefused (hostCoordinates b p chain output) k output
-  unfolding coordinateCall answered coordinateBefore sheetChecked coordinateNumbers
-  coordinates-refused k e =
-      rw coordinates-same (host-refused (coordinateBefore z) (reductionsOf pivotRule (chainCells b) p) (coordinateNumbers z) slots work output k e)
-
-  -- where there are `many` coordinates
-  pub coordinates-done : {counts : Counts} (many : ℕ) → coordinateCall hostLimit b p z slots work .answer ≡ done counts → (c : ReducedWith (reductionsOf pivotRule (chainCells b) p) counts)
-      → length (coordinateList (count (chainCells b) p) (c .rows) (c .state) z) ≡ many
-      → HostDone (hostCoordinates b p chain output) many (coordinateCall hostLimit b p z slots work .output) output
-  unfolding coordinateCall answered coordinateBefore sheetChecked coordinateNumbers
-  coordinates-done {counts} many e c long =
-      let d = call-done (coordinateBefore z) (reductionsOf pivotRule (chainCells b) p) (numbersLeft (coordinateNumbers z) slots) slots work counts e in
-      rw coordinates-same (host-done (coordinateBefore z) (reductionsOf pivotRule (chainCells b) p) (coordinateNumbers z) slots work output many (d .passes) c long)

@@ -4,10 +4,11 @@ use Prim.Native.Nat.{ℕ}
 use lib.ListN.{replicate}
 use Rattle.reports.specs.Host.{HostCalled}
 
--- what is asked of dimension p: the report, or the coordinates of a chain in bytes
+-- what is asked of dimension p: the report, the coordinates of a chain in bytes, or those of a number of chains
 pub data Request : Type 0 where
   report : Request
   coordinatesOf : List ℕ → Request
+  listsOf : ℕ → List ℕ → Request
 
 -- a call on the hollow triangle; `output` stands as it is lent
 pub record HostCase : Type 0 where
@@ -26,6 +27,13 @@ loop = 255 ∷ 255 ∷ 255 ∷ 255 ∷ 1 ∷ 0 ∷ 0 ∷ 0 ∷ 255 ∷ 255 ∷ 2
 
 abbrev manyLoops : List ℕ
 manyLoops = 212 ∷ 254 ∷ 255 ∷ 255 ∷ 44 ∷ 1 ∷ 0 ∷ 0 ∷ 212 ∷ 254 ∷ 255 ∷ 255 ∷ []
+
+-- the chains (1, 0, 0) and (32768, 0, 0)
+abbrev open-chain : List ℕ
+open-chain = 1 ∷ 0 ∷ 0 ∷ 0 ∷ 0 ∷ 0 ∷ 0 ∷ 0 ∷ 0 ∷ 0 ∷ 0 ∷ 0 ∷ []
+
+abbrev wide-chain : List ℕ
+wide-chain = 0 ∷ 128 ∷ 0 ∷ 0 ∷ 0 ∷ 0 ∷ 0 ∷ 0 ∷ 0 ∷ 0 ∷ 0 ∷ 0 ∷ []
 
 -- the call is refused with the number, and the output is left alone
 abbrev refuses : ℕ → ℕ → Request → List ℕ → HostCase
@@ -63,6 +71,18 @@ hostCases =
       output = nines 24;
       expected = record { number = 0; output = 212 ∷ 254 ∷ 255 ∷ 255 ∷ 255 ∷ 255 ∷ 255 ∷ 255 ∷ nines 16 };
     }
+    -- the coordinates -1 and -300 of two chains, in an output of 6 slots and 3 bytes
+    ∷ record {
+      dimension = 1;
+      request = listsOf 2 (loop ++ manyLoops);
+      output = nines 51;
+      expected = record {
+        number = 0;
+        output = 255 ∷ 255 ∷ 255 ∷ 255 ∷ 255 ∷ 255 ∷ 255 ∷ 255 ∷ (nines 16 ++ (212 ∷ 254 ∷ 255 ∷ 255 ∷ 255 ∷ 255 ∷ 255 ∷ 255 ∷ nines 19));
+      };
+    }
+    -- no chains
+    ∷ record { dimension = 1; request = listsOf 0 []; output = nines 5; expected = record { number = 0; output = nines 5 } }
     -- the dimension exceeds 3
     ∷ refuses 8 4 report (nines 115)
     -- an incomplete number at the end of the output gives no slot
@@ -72,7 +92,12 @@ hostCases =
     ∷ refuses 10 1 (coordinatesOf (255 ∷ 255 ∷ 255 ∷ 255 ∷ 1 ∷ 0 ∷ 0 ∷ 0 ∷ 255 ∷ 255 ∷ 255 ∷ [])) (nines 24)
     ∷ refuses 10 1 (coordinatesOf (loop ++ (0 ∷ []))) (nines 24)
     -- the coefficient 32768
-    ∷ refuses 11 1 (coordinatesOf (0 ∷ 128 ∷ 0 ∷ 0 ∷ 0 ∷ 0 ∷ 0 ∷ 0 ∷ 0 ∷ 0 ∷ 0 ∷ 0 ∷ [])) (nines 24)
+    ∷ refuses 11 1 (coordinatesOf wide-chain) (nines 24)
     -- the chain (1, 0, 0)
-    ∷ refuses 12 1 (coordinatesOf (1 ∷ 0 ∷ 0 ∷ 0 ∷ 0 ∷ 0 ∷ 0 ∷ 0 ∷ 0 ∷ 0 ∷ 0 ∷ 0 ∷ [])) (nines 24)
+    ∷ refuses 12 1 (coordinatesOf open-chain) (nines 24)
+    -- many chains: a byte too few for the last list, a byte too many for the chains, and the first faulty chain
+    ∷ refuses 9 1 (listsOf 2 (loop ++ manyLoops)) (nines 47)
+    ∷ refuses 10 1 (listsOf 2 (loop ++ (manyLoops ++ (0 ∷ [])))) (nines 48)
+    ∷ refuses 12 1 (listsOf 2 (open-chain ++ wide-chain)) (nines 48)
+    ∷ refuses 11 1 (listsOf 2 (wide-chain ++ open-chain)) (nines 48)
     ∷ []

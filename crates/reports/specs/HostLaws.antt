@@ -1,13 +1,13 @@
 -- Numbers as bytes: length-numberBytes, length-numbersBytes, numbersBytes-append. The numbers of 64 bits can be read back from the bytes:
--- signedOf-numberBytes, numberAt-numbersBytes; so numberBytes-injective and numbersBytes-injective.
+-- signedOf-numberBytes, numberAt-numbersBytes, numberAt-same; so numberBytes-injective and numbersBytes-injective.
 use mathlib.Core.Path.{_≡_, refl, sym, _∙_, ap}
 use mathlib.Core.List.{List, [], _∷_, _++_, append-assoc, append-nil}
-use Prim.Native.Nat.{ℕ, zero, suc, _+_, _-_, _*_, _/_, _^_, _<_}
+use Prim.Native.Nat.{ℕ, zero, suc, _+_, _-_, _*_, _/_, _^_, _≤_, _<_}
 use native.Mathlib.Nat.{pow-succ'}
 use native.Mathlib.Omega.{arith}
 use borrow.Author.Tests.{lt-ltb, le-ltb}
-use lib.ListN.{length, getD, take, drop, length-append}
-use lib.Seq.{take-at, drop-append-add, ext-getD}
+use lib.ListN.{length, getD, take, drop, length-append, length-drop}
+use lib.Seq.{take-at, drop-append-add, ext-getD, length-take-le, getD-take, getD-drop}
 use lib.IntN.{ℤ, pos, negsuc}
 use lib.Signed.{mag}
 use Rattle.reports.specs.Host.{lowBytes, numberBytes, numbersBytes, unsignedOf, signedOf, numberAt}
@@ -82,6 +82,24 @@ numberAt-numbersBytes (x ∷ l) rest (suc i) h w =
   where
     past : 8 * suc i ≡ length (numberBytes x) + 8 * i
     past = omega (arith, length-numberBytes x)
+
+-- where the eight bytes are the same, so is the number
+pub numberAt-same : (b b′ : List ℕ) (k k′ : ℕ) → 8 * k + 8 ≤ length b → 8 * k′ + 8 ≤ length b′
+    → ((t : ℕ) → t < 8 → getD b (8 * k + t) 0 ≡ getD b′ (8 * k′ + t) 0) → numberAt b k ≡ numberAt b′ k′
+unfolding numberAt
+numberAt-same b b′ k k′ l l′ same = ap signedOf (ext-getD 0 (bytes b k) (bytes b′ k′) (size b k l ∙ sym (size b′ k′ l′)) at)
+  where
+    bytes : List ℕ → ℕ → List ℕ
+    bytes x i = take 8 (drop (8 * i) x)
+
+    size : (x : List ℕ) (i : ℕ) → 8 * i + 8 ≤ length x → length (bytes x i) ≡ 8
+    size x i h = length-take-le 8 (drop (8 * i) x) (omega (arith, length-drop (8 * i) x))
+
+    byte : (x : List ℕ) (i t : ℕ) → t < 8 → getD (bytes x i) t 0 ≡ getD x (8 * i + t) 0
+    byte x i t h = getD-take 8 (drop (8 * i) x) t 0 h ∙ getD-drop (8 * i) x t 0
+
+    at : (t : ℕ) → t < length (bytes b k) → getD (bytes b k) t 0 ≡ getD (bytes b′ k′) t 0
+    at t h = let short : t < 8 = omega (arith, size b k l) in byte b k t short ∙ same t short ∙ sym (byte b′ k′ t short)
 
 -- as many numbers of 64 bits with the same bytes are the same
 pub numbersBytes-injective : (l m : List ℤ) → length l ≡ length m → ((i : ℕ) → i < length l → Word (getD l i (pos 0)))

@@ -1,5 +1,5 @@
 -- The checks before the reduction. `callChecks-zero`: what the checks 1 to 9 ask. `sheet-told`, `sheet-passed`: the sheet's checks decide, or those after
--- them; `call-told`, `call-passed`, `call-chain-zero`: the checks 1 to 9 decide, or those of a chain. `callChecks-narrow`, `call-chain-narrow`: none of
+-- them; `call-told`, `call-passed`, `call-chain-zero`: the checks 1 to 9 decide, or those of chains. `callChecks-narrow`, `call-chain-narrow`: none of
 -- them tells 13.
 use mathlib.Core.Path.{_≡_, refl, _∙_}
 use mathlib.Core.Logic.{_↔_, _≢_}
@@ -13,7 +13,7 @@ use lib.IntN.{ℤ}
 use Rattle.complexes.specs.Complex.{Sections}
 use Rattle.sheet_format.specs.Layout.{top}
 use Rattle.sheet_format.specs.Check.{first, sheetChecks, refusal, chainCells}
-use Rattle.sheet_format.specs.FirstLaws.{first-zero, first-absent, first-append-told, first-append-passed, first-append-zero}
+use Rattle.sheet_format.specs.FirstLaws.{absent, absent-append, first-zero, first-absent, first-append-told, first-append-passed, first-append-zero}
 use Rattle.reports.specs.Call.{callChecks, chainChecks, workSlots}
 
 or-false : (s t : Bool) → s || t ≡ false → (s ≡ false) × (t ≡ false)
@@ -75,23 +75,28 @@ module _ (limit : ℕ) (b : List ℕ) (p : ℕ) (slots : Sections → ℕ → �
   unfolding callChecks
   callChecks-narrow = first-absent 13 (callChecks limit b p slots output work) (λ e. absurd (omega arith)) refl
 
-  module _ (most : ℕ) (z : List ℤ) where
+  -- and the checks of a chain, or of many, after them
+  module _ (later : List (ℕ × Bool)) where
     pub call-told : first (callChecks limit b p slots output work) ≢ 0
-        → first (callChecks limit b p slots output work ++ chainChecks most b p z) ≡ first (callChecks limit b p slots output work)
+        → first (callChecks limit b p slots output work ++ later) ≡ first (callChecks limit b p slots output work)
     unfolding callChecks
-    call-told d = first-append-told (callChecks limit b p slots output work) (chainChecks most b p z) refl d
+    call-told d = first-append-told (callChecks limit b p slots output work) later refl d
 
-    pub call-passed : first (callChecks limit b p slots output work) ≡ 0
-        → first (callChecks limit b p slots output work ++ chainChecks most b p z) ≡ first (chainChecks most b p z)
+    pub call-passed : first (callChecks limit b p slots output work) ≡ 0 → first (callChecks limit b p slots output work ++ later) ≡ first later
     unfolding callChecks
-    call-passed e = first-append-passed (callChecks limit b p slots output work) (chainChecks most b p z) refl e
+    call-passed e = first-append-passed (callChecks limit b p slots output work) later refl e
 
-    pub call-chain-zero : (first (callChecks limit b p slots output work ++ chainChecks most b p z) ≡ 0)
-        ↔ ((first (callChecks limit b p slots output work) ≡ 0) × (first (chainChecks most b p z) ≡ 0))
+    pub call-chain-zero : (first (callChecks limit b p slots output work ++ later) ≡ 0)
+        ↔ ((first (callChecks limit b p slots output work) ≡ 0) × (first later ≡ 0))
     unfolding callChecks
-    call-chain-zero = first-append-zero (callChecks limit b p slots output work) (chainChecks most b p z) refl
+    call-chain-zero = first-append-zero (callChecks limit b p slots output work) later refl
 
-    pub call-chain-narrow : first (callChecks limit b p slots output work ++ chainChecks most b p z) ≢ 13
-    unfolding callChecks chainChecks
-    call-chain-narrow =
-        first-absent 13 (callChecks limit b p slots output work ++ chainChecks most b p z) (λ e. absurd (omega arith)) refl
+    pub call-chain-narrow : absent 13 later ≡ true → first (callChecks limit b p slots output work ++ later) ≢ 13
+    unfolding callChecks
+    call-chain-narrow none =
+        first-absent 13 (callChecks limit b p slots output work ++ later) (λ e. absurd (omega arith))
+        (absent-append 13 (callChecks limit b p slots output work) later refl none)
+
+pub chainChecks-narrow : (most : ℕ) (b : List ℕ) (p : ℕ) (z : List ℤ) → absent 13 (chainChecks most b p z) ≡ true
+unfolding chainChecks
+chainChecks-narrow most b p z = refl

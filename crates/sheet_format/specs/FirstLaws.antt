@@ -1,7 +1,7 @@
 -- The order of trial, for any list of checks.
 --     first-zero      where no check has the number 0: 0 is told exactly when no check tells a fault
 --     first-absent    a number that no check has is not told
---     first-append    of two lists, the first decides if it tells a fault, else the second
+--     first-append    of two lists, the first decides if it tells a fault, else the second; absent-append: a number that neither has
 use mathlib.Core.Path.{_≡_, refl, sym, _∙_, ap}
 use mathlib.Core.Logic.{_↔_, _≢_}
 use mathlib.Core.Bool.{Bool, true, false, cond, false≢true}
@@ -43,6 +43,14 @@ pub first-absent : (k : ℕ) (l : List (ℕ × Bool)) → k ≢ 0 → absent k l
 first-absent k l d a e = d (first-only k l a e .1)
 
 -- ---- one list after another
+
+pub absent-append : (k : ℕ) (l m : List (ℕ × Bool)) → absent k l ≡ true → absent k m ≡ true → absent k (l ++ m) ≡ true
+absent-append k [] m a b = b
+absent-append k ((n, fault) ∷ l) m a b = go (eqb n k) a (λ c. absent-append k l m c b)
+  where
+    go : (same : Bool) → cond same false (absent k l) ≡ true → (absent k l ≡ true → absent k (l ++ m) ≡ true) → cond same false (absent k (l ++ m)) ≡ true
+    go true a later = a
+    go false a later = later a
 
 -- the first number unless it is 0, else the second
 abbrev pub orElse : ℕ → ℕ → ℕ

@@ -8,13 +8,15 @@ use lib.IntN.{ℤ, pos, negℤ}
 use lib.ListN.{replicate}
 use Rattle.reports.specs.Report.{Counts}
 use Rattle.reports.specs.Call.{Called, refused, reportCall, coordinateCall}
+use Rattle.reports.specs.Lists.{coordinateListsCall}
 use Rattle.limits.specs.Limits.{libraryLimit}
 use Rattle.starred.specs.Same.{sameCalled, sameCalled-eq}
 
--- what is asked for: the report, or the coordinates of a chain
+-- what is asked for: the report, the coordinates of a chain, or those of a number of chains
 pub data Request : Type 0 where
   report : Request
   coordinatesOf : List ℤ → Request
+  listsOf : ℕ → List ℤ → Request
 
 -- `output` is the slice lent for the report or the coordinates; it and `work` stand as they are lent
 pub record Call : Type 0 where
@@ -32,6 +34,7 @@ pub record Case : Type 0 where
 unfoldable pub answered : List ℕ → ℕ → Request → List ℤ → List ℤ → Called
 answered sheet p report output work = reportCall libraryLimit sheet p output work
 answered sheet p (coordinatesOf z) output work = coordinateCall libraryLimit sheet p z output work
+answered sheet p (listsOf number chains) output work = coordinateListsCall libraryLimit sheet p number chains output work
 
 -- what a call gives
 abbrev pub outcome : Call → Called

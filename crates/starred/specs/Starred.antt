@@ -1,9 +1,12 @@
--- `starred-sheets-and-calls`: the report call and the coordinate call are good on every case of the table, which holds the starred sheets of
--- document 01. By `good-eq` of `Case`, a good case has exactly the answer, the output slice and the work slice expected.
-use mathlib.Core.List.{List, _++_}
+-- `starred-sheets-and-calls`: the report call and the coordinate calls are good on every case of the table, which holds the starred sheets of
+-- document 01 and calls on many chains. By `good-eq` of `Case`, a good case has exactly the answer, the output slice and the work slice expected.
+-- `largest-number`: where there are no cells, as many chains as 64 bits can count are done.
+use mathlib.Core.Path.{_≡_, refl}
+use mathlib.Core.List.{List, [], _++_}
 use lib.Dec.{T}
 use Rattle.integers.specs.Division.{floor, modulo, divides}
 use Rattle.lists.specs.Tabulate.{tabulate}
+use Rattle.lists.specs.Splice.{splice, splices}
 use Rattle.matrices.specs.Sum.{sum}
 use Rattle.matrices.specs.Matrix.{mul, identity, null}
 use Rattle.matrices.specs.Vector.{apply}
@@ -11,6 +14,8 @@ use Rattle.matrices.specs.Operation.{onRows, onColumns, inverse}
 use Rattle.complexes.specs.Cell.{without, same, rises, precedes, listed}
 use Rattle.complexes.specs.Boundary.{sign, coefficient, countBelow, boundary}
 use Rattle.sheet_format.specs.Layout.{start}
+use Rattle.limits.specs.Limits.{libraryLimit}
+use Rattle.sheet_format.specs.Starred.{hollowTriangle}
 use Rattle.sheet_format.specs.Check.{countField, offsetField, cellOf, cellsOf, sectionsOf, chainCells, some, verticesDoNotRise, cellsDoNotRise, faceMissing, refusal}
 use Rattle.lists.specs.Same.{every, sameNumber, sameList}
 use Rattle.reduction_steps.specs.Table.{table, rowWithin, tableWithin}
@@ -19,15 +24,18 @@ use Rattle.reduction_steps.specs.Pivot.{better, alongRow, downRows, release1}
 use Rattle.reduction_steps.specs.Step.{columnKeeps, rowKeeps, rowIndivisible, firstIndivisible, positive, bring, quotient, rowPass, columnPass, next, step, run, reduce}
 use Rattle.reports.specs.Reductions.{firstStart, product, secondStart, afterSecond, second, afterFirst, reductions}
 use Rattle.reports.specs.Report.{reported, columnsOf, torsionCount, reportList, coordinateAt, coordinateList}
-use Rattle.reports.specs.Call.{coefficientExceeds, boundaryNotZero, callChecks, chainChecks, finished, reductionsOf, reportCall, coordinateCall}
+use Rattle.reports.specs.Call.{done, coefficientExceeds, boundaryNotZero, callChecks, chainChecks, finished, reductionsOf, reportCall, coordinateCall}
+use Rattle.reports.specs.Lists.{cyclesChecks, chainsChecks, coordinateListsCall}
+use Rattle.reports.specs.ListsLaws.{no-cells}
 use Rattle.starred.specs.Same.{sameSlice, sameCounts, sameAnswer, sameCalled}
-use Rattle.starred.specs.Case.{Case, answered, good}
+use Rattle.starred.specs.Case.{Case, answered, good, counts, nines, zeros}
 use Rattle.starred.specs.DoneCases.{noCellsCases, reportCases, coordinateCases}
 use Rattle.starred.specs.RefusedCases.{sheetCases, dimensionCases, sliceCases, chainCases}
+use Rattle.starred.specs.ListCases.{listCases}
 
 -- the table
 abbrev pub cases : List Case
-cases = noCellsCases ++ (reportCases ++ (coordinateCases ++ (sheetCases ++ (dimensionCases ++ (sliceCases ++ chainCases)))))
+cases = noCellsCases ++ (reportCases ++ (coordinateCases ++ (sheetCases ++ (dimensionCases ++ (sliceCases ++ (chainCases ++ listCases))))))
 
 pub starred-sheets-and-calls : T (every good cases)
 unfolding every good sameCalled sameAnswer sameCounts sameSlice sameList sameNumber
@@ -38,4 +46,14 @@ unfolding every good sameCalled sameAnswer sameCounts sameSlice sameList sameNum
     release1 downRows alongRow better onRow onColumn checked andThen within rowOperation columnOperation follow tableWithin rowWithin table
     onRows onColumns inverse identity null mul apply sum floor modulo divides tabulate
     reportList coordinateList coordinateAt torsionCount columnsOf reported
+    coordinateListsCall chainsChecks cyclesChecks splices splice
 starred-sheets-and-calls = tt
+
+pub largest-number : coordinateListsCall libraryLimit hollowTriangle 2 18446744073709551615 [] (nines 2) (nines 3)
+    ≡ record { answer = done (counts 0 0); output = nines 2; work = zeros 3 }
+unfolding coordinateListsCall callChecks chainsChecks cyclesChecks splices reductionsOf finished
+    refusal countField offsetField cellOf cellsOf sectionsOf chainCells some verticesDoNotRise cellsDoNotRise faceMissing without same rises precedes listed start
+    reductions firstStart afterFirst second product secondStart afterSecond countBelow boundary coefficient sign
+    reduce run step next columnKeeps rowKeeps rowIndivisible firstIndivisible
+    release1 downRows alongRow better within tableWithin rowWithin table identity mul sum tabulate torsionCount reported
+largest-number = no-cells hollowTriangle 2 refl libraryLimit 18446744073709551615 [] (nines 2) (nines 3)

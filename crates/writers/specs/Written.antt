@@ -1,7 +1,7 @@
 -- What the writers of the report and of the coordinates leave.
 use mathlib.Core.Path.{_≡_}
 use mathlib.Core.List.{List}
-use Prim.Native.Nat.{ℕ, _+_, _*_, _≤_}
+use Prim.Native.Nat.{ℕ, _+_, _*_, _≤_, _<_}
 use lib.ListN.{length}
 use lib.IntN.{ℤ, pos, natAbs}
 use lib.Signed.{_≤ℤ_}
@@ -10,6 +10,7 @@ use Rattle.lists.specs.Splice.{splice}
 use Rattle.reduction_steps.specs.Table.{entry}
 use Rattle.reports.specs.Report.{freeRank, torsionCount, reportList, coordinateList}
 use Rattle.reports.specs.Call.{written}
+use Rattle.reports.specs.Lists.{chainAt}
 use Rattle.limits.specs.Limits.{libraryLimit, coefficientLimit}
 use Rattle.lines.specs.Slice.{at, Small}
 use Rattle.lines.specs.Matrices.{contents}
@@ -48,18 +49,32 @@ pub record WroteReport (x : Reduced) (w slice : List ℤ) (r : Counts) (slice′
   pub torsion : r .torsion ≡ torsionCount (x .rank) (stateOf (x .layout) w)
   pub is : slice′ ≡ written (reportList (x .layout .«row_inverse» .width) (x .layout .matrix .lines) (x .rank) (stateOf (x .layout) w)) slice
 
--- what the coordinates are written from: no kind is negative, there is room for them, and the chain is one of the dimension
-pub record CanCoordinate (x : Reduced) (w z : List ℤ) (m : ℕ) : Type 0 where
+-- what the counts are read from
+pub record CanCount (x : Reduced) (w : List ℤ) : Type 0 where
+  pub laid : Laid (length w) (x .layout)
+  pub kinds : Kinds (x .layout .matrix) w
+  pub rank-below : x .rank ≤ x .layout .matrix .lines
+
+pub record Counted (x : Reduced) (w : List ℤ) (r : Counts) : Type 0 where
+  pub free : r .free ≡ freeRank (x .layout .matrix .lines) (x .rank)
+  pub torsion : r .torsion ≡ torsionCount (x .rank) (stateOf (x .layout) w)
+
+-- what the coordinates are written from: no kind is negative, there is room for them from slot `from` on, and the chain is one of the dimension
+pub record CanCoordinate (x : Reduced) (w z : List ℤ) (from m : ℕ) : Type 0 where
   pub laid : Laid (length w) (x .layout)
   pub small : Small w
   pub kinds : Kinds (x .layout .matrix) w
-  pub rank-below : x .rank ≤ x .layout .matrix .lines
-  pub room : x .layout .matrix .lines ≤ m
+  pub room : from + x .layout .matrix .lines ≤ m
   pub width : x .layout .«row_follower» .width ≡ length z
   pub width-within : length z ≤ libraryLimit
   pub coefficients : (j : ℕ) → natAbs (at z j) ≤ coefficientLimit
 
-pub record WroteCoordinates (x : Reduced) (w z slice : List ℤ) (r : Counts) (slice′ : List ℤ) : Type 0 where
-  pub free : r .free ≡ freeRank (x .layout .matrix .lines) (x .rank)
-  pub torsion : r .torsion ≡ torsionCount (x .rank) (stateOf (x .layout) w)
-  pub is : slice′ ≡ written (coordinateList (x .layout .«row_follower» .width) (x .layout .matrix .lines) (stateOf (x .layout) w) z) slice
+-- the coordinates of the chain z
+abbrev pub coordinatesOf : Reduced → List ℤ → List ℤ → List ℤ
+coordinatesOf x w z = coordinateList (x .layout .«row_follower» .width) (x .layout .matrix .lines) (stateOf (x .layout) w) z
+
+-- what the coordinates of many chains are written from
+pub record CanList (x : Reduced) (w : List ℤ) (cells number : ℕ) (chains : List ℤ) (m : ℕ) : Type 0 where
+  pub size : length chains ≡ number * cells
+  pub room : number * cells ≤ m
+  pub each : (i : ℕ) → i < number → CanCoordinate x w (chainAt cells chains i) (i * cells) m

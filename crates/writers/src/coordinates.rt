@@ -4,6 +4,8 @@ ghost use Prim.Native.Nat.{ℕ, _<_, _≤_};
 ghost use lib.ListN.{length};
 ghost use lib.IntN.{pos, natAbs};
 ghost use lib.Signed.{_≤ℤ_};
+ghost use Rattle.lists.specs.Splice.{splices};
+ghost use Rattle.reports.specs.Lists.{chainAt};
 ghost use Rattle.integers.specs.Division.{modulo};
 ghost use Rattle.matrices.specs.Vector.{apply};
 ghost use Rattle.reduction_steps.specs.Table.{entry};
@@ -11,10 +13,8 @@ ghost use Rattle.lines.specs.Slice.{Small, at};
 ghost use Rattle.lines.specs.Matrices.{Held};
 ghost use Rattle.operations.specs.Laid.{linesOf};
 ghost use Rattle.limits.specs.Limits.{libraryLimit, coefficientLimit};
-ghost use Rattle.writers.specs.Written.{CanCoordinate, WroteCoordinates};
+ghost use Rattle.writers.specs.Written.{WrittenFrom, CanCoordinate, coordinatesOf, CanList};
 use crate::kind::kind;
-use crate::kind::reported_count;
-use crate::reduced::Counts;
 use crate::reduced::Reduced;
 use lines::matrix::Matrix;
 
@@ -46,24 +46,24 @@ fn row_times_chain(q: Matrix, w: &[i32], i: usize, chain: &[i32]) -> i64
     total
 }
 
-// Writes the coordinates, and answers the counts.
+// Writes the coordinates from slot `from` on, and answers the slot after them.
 pub fn write_coordinates(
     reduced: Reduced,
     w: &[i32],
     chain: &[i32],
     coordinates: &mut [i64],
-) -> Counts
-    requires { ⌜ CanCoordinate reduced (now w) (now chain) (length (now coordinates)) ⌝ }
+    from: usize,
+) -> usize
+    requires { ⌜ CanCoordinate reduced (now w) (now chain) from (length (now coordinates)) ⌝ }
     ensures { λ r. ⌜
-        WroteCoordinates reduced (now (w .entry)) (now (chain .entry)) (now (coordinates .entry)) r
+        WrittenFrom from (coordinatesOf reduced (now (w .entry)) (now (chain .entry))) (now (coordinates .entry)) r
         (now (coordinates .exit))
         ⌝ }
 {
     let m = reduced.layout.matrix;
     let q = reduced.layout.row_follower;
-    let rank = reduced.rank;
     let lines = m.lines;
-    let mut next: usize = 0;
+    let mut next = from;
     let mut i: usize = 0;
     while i < lines {
         let order = kind(m, w, i);
@@ -73,8 +73,28 @@ pub fn write_coordinates(
         }
         i = i + 1;
     }
-    Counts {
-        free: lines - rank,
-        torsion: reported_count(m, w, rank),
+    next
+}
+
+// Writes the coordinates of so many chains of as many cells, one list after another, as far apart.
+pub fn write_lists(
+    reduced: Reduced,
+    w: &[i32],
+    cells: usize,
+    number: usize,
+    chains: &[i32],
+    coordinates: &mut [i64],
+)
+    requires { ⌜ CanList reduced (now w) cells number (now chains) (length (now coordinates)) ⌝ }
+    ensures { λ r. ⌜
+        now (coordinates .exit) ≡
+        splices cells (λ i. coordinatesOf reduced (now (w .entry)) (chainAt cells (now (chains .entry)) i)) number (now (coordinates .entry))
+        ⌝ }
+{
+    let mut i: usize = 0;
+    while i < number {
+        let at = i * cells;
+        write_coordinates(reduced, w, &chains[at..at + cells], coordinates, at);
+        i = i + 1;
     }
 }

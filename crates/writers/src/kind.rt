@@ -1,10 +1,12 @@
-// The kinds of the rows of Q, by the diagonal of the second reduction: 1, an order above 1, or 0 for a free row.
+// The kinds of the rows of Q, by the diagonal of the second reduction: 1, an order above 1, or 0 for a free row. How many there are of each.
 ghost use mathlib.Core.Path.{_≡_};
 ghost use Prim.Native.Nat.{_<_, _≤_};
 ghost use lib.ListN.{length};
 ghost use Rattle.lines.specs.Matrices.{Held};
 ghost use Rattle.reports.specs.Report.{reported};
-ghost use Rattle.writers.specs.Written.{kindIn, Kinds};
+ghost use Rattle.writers.specs.Written.{kindIn, Kinds, CanCount, Counted};
+use crate::reduced::Counts;
+use crate::reduced::Reduced;
 use lines::matrix::Matrix;
 
 // The kind of row i.
@@ -29,4 +31,17 @@ pub fn reported_count(m: Matrix, w: &[i32], n: usize) -> usize
         i = i + 1;
     }
     number
+}
+
+// The report's counts.
+pub fn counts(reduced: Reduced, w: &[i32]) -> Counts
+    requires { ⌜ CanCount reduced (now w) ⌝ }
+    ensures { λ r. ⌜ Counted reduced (now (w .entry)) r ⌝ }
+{
+    let m = reduced.layout.matrix;
+    let rank = reduced.rank;
+    Counts {
+        free: m.lines - rank,
+        torsion: reported_count(m, w, rank),
+    }
 }

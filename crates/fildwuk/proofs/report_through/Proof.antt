@@ -59,7 +59,7 @@ add-written-2 c = omega (arith, room c, size (call (called (counted c))))
 write-numbers-requires : tie.Need-write-numbers-requires
 write-numbers-requires c κs =
     let d = c .before .before in let a = called (counted d) in
-    writable (call a) (a .report-at .last .1 .1 .1 .0) (room d) (a .report-at .kept .1 .1 .1 .0)
+    let w = writable (call a) (a .report-at .last .1 .1 .1 .0) (room d) (a .report-at .kept .1 .1 .1 .0) in (w .0, omega (arith, w .1))
 
 returns : tie.Need-returns
 returns c =

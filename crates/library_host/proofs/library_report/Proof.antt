@@ -5,7 +5,7 @@ use Rattle.library_host.proofs.library_report.Statement.{statement}
 use Rattle.library_host.proofs.library_report.Tie as tie
 
 returns : tie.Need-returns
-returns c = told (c .before .before .before .report .ensures) (c .number .ensures)
+returns c = told (c .before .before .before .report .ensures) (c .number-told .ensures)
 
 pub library-report-spec : {M : Type 1} → statement M
 library-report-spec = tie.close (tie.spec (λ c κs. search needs) (λ c κs. search needs) (λ c. search needs) (λ c. search needs) returns)

@@ -2,13 +2,16 @@
 use mathlib.Core.Path.{_≡_, sym, _∙_, ap}
 use Prim.Native.Nat.{ℕ}
 use borrow.Author.Needs.{needs}
+use borrow.Author.Tests.{ltb-true, ltb-false}
 use denote.Ref.{now}
+use lib.Dec.{ltb}
 use Rattle.complexes.specs.Complex.{Sections}
 use Rattle.sheet_format.specs.Check.{chainCells, refusal}
 use Rattle.sheet.specs.Number.{readingNumber}
 use Rattle.reports.specs.Call.{workSlots}
 use Rattle.reports.specs.RefusalLaws.{callChecks-zero}
 use Rattle.calls.specs.Admission.{slotsFor}
+use Rattle.calls.specs.declared.admission.Sizes.{Sizes}
 use Rattle.calls.proofs.Sheet.{slots-of}
 use Rattle.calls.proofs.Refusals.{sheet-refused, dimension-refused, output-short, work-short}
 use Rattle.calls.proofs.Admitting.{slotsAsked}
@@ -49,25 +52,31 @@ returns-2 c =
 
 -- ---- the slices
 
-output-slots-requires : tie.Need-output-slots-requires
-output-slots-requires c κs = c .sizes-of .ensures .cells-below
+lacks-slots-requires : tie.Need-lacks-slots-requires
+lacks-slots-requires c κs = c .sizes-of .ensures .cells-below
 
-module _ (c : tie.After-output-slots) where
+module _ (c : tie.After-lacks-slots) where
   abbrev told : tie.After-enum-told
   told = c .before .before .before
 
-  output-is : c .output-slots .result ≡ slots (start told) (chainCells (now (start told .args .s))) (start told .args .dimension)
-  output-is = c .output-slots .ensures ∙ ap (slotsFor (start told .args .request)) (c .before .sizes-of .ensures .is)
+  -- the slots that are asked for
+  abbrev needed : ℕ
+  needed = slots (start told) (chainCells (now (start told .args .s))) (start told .args .dimension)
+
+  output-is : ltb (start told .args .output) needed ≡ c .lacks-slots .result
+  output-is =
+      ap (λ (n : Sizes). ltb (start told .args .output) (slotsFor (start told .args .request) n)) (sym (c .before .sizes-of .ensures .is))
+      ∙ sym (c .lacks-slots .ensures)
 
 returns-3 : tie.Need-returns-3
 returns-3 c =
     let t = told (c .before) in
     let a = start t .args in
     output-short (a .sheet .limit) (now (a .s)) (a .dimension) (slots (start t)) (a .output) (a .work) (accepted t) (c .before .before .before .if1 .left)
-    (rw (← output-is (c .before)) (c .if2 .taken))
+    (ltb-true (a .output) (needed (c .before)) (output-is (c .before) ∙ c .if2 .taken))
 
 module _ (c : tie.After-work-slots) where
-  abbrev asked : tie.After-output-slots
+  abbrev asked : tie.After-lacks-slots
   asked = c .before .before
 
   work-is : c .work-slots .result ≡ workSlots (chainCells (now (start (told asked) .args .s))) (start (told asked) .args .dimension)
@@ -88,7 +97,7 @@ returns-5 c =
       callChecks-zero (a .sheet .limit) (now (a .s)) (a .dimension) (slots (start t)) (a .output) (a .work) .1 (record {
         accepted = accepted t;
         dimension = o .before .before .if1 .left;
-        output-slots = rw (← output-is o) (c .before .before .if2 .left);
+        output-slots = ltb-false (a .output) (needed o) (output-is o ∙ c .before .before .if2 .left);
         work-slots = rw (← work-is (c .before)) (c .if3 .left);
       }),
       o .before .sizes-of .ensures,
@@ -97,5 +106,5 @@ returns-5 c =
 pub admit-spec : {M : Type 1} → statement M
 admit-spec =
     tie.close
-    (tie.spec (λ c κs. search needs) enum-known-refusal returns enum-told returns-2 (λ c κs. search needs) output-slots-requires returns-3
+    (tie.spec (λ c κs. search needs) enum-known-refusal returns enum-told returns-2 (λ c κs. search needs) lacks-slots-requires returns-3
     (λ c κs. search needs) returns-4 returns-5)

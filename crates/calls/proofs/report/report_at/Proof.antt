@@ -5,7 +5,7 @@ use borrow.Author.Needs.{needs}
 use denote.Ref.{now}
 use Rattle.reduction_steps.specs.PivotLaws.{pivotRule-is-rule}
 use Rattle.calls.specs.declared.admission.Request.the-variants.{Report}
-use Rattle.calls.proofs.Admitting.{Lent, admit-refused, Granted, admit-granted, Reduces, twice-done, twice-refused}
+use Rattle.calls.proofs.Admitting.{Lent, asked, admit-refused, Granted, admit-granted, Reduces, twice-done, twice-refused}
 use Rattle.calls.proofs.Writing.{can-report}
 use Rattle.calls.proofs.ReportAnswers.{report-refuses, report-wide, report-done}
 use Rattle.calls.proofs.report.report_at.Statement.{statement}
@@ -25,7 +25,7 @@ returns : tie.Need-returns
 returns c =
     let called = c .before .before .before in
     let l = lent (called .before .before) in
-    report-refuses l (admit-refused l Report (called .admit .result) (called .admit .ensures) (c .before .refusal .given .1))
+    report-refuses l (admit-refused (asked l) Report (called .admit .result) (called .admit .ensures) (c .before .refusal .given .1))
 
 enum-known-sizes : tie.Need-enum-known-sizes
 enum-known-sizes c = c .match .keys2
@@ -34,10 +34,10 @@ module _ (c : tie.After-sizes) where
   abbrev given : Lent
   given = lent (c .before .before .before .before)
 
-  granted : Granted given Report (c .sizes .given .0 .0)
+  granted : Granted (asked given) Report (c .sizes .given .0 .0)
   granted =
       let called = c .before .before in
-      admit-granted given Report (called .admit .result) (called .admit .ensures) (called .before .before .pre)
+      admit-granted (asked given) Report (called .admit .result) (called .admit .ensures) (called .before .before .pre)
       (record { small = λ i. called .before .shared-slice-known .given i .fits }) (c .sizes .given .1)
 
 -- ---- the reductions
@@ -60,7 +60,7 @@ returns-2 : tie.Need-returns-2
 returns-2 c =
     let called = c .before .before .before in
     let l = given (admitted called) in
-    report-wide l (granted (admitted called)) (twice-refused l (called .reduce-twice .result) (c .enum-told .given .1) (called .reduce-twice .ensures))
+    report-wide l (granted (admitted called)) (twice-refused (asked l) (called .reduce-twice .result) (c .enum-told .given .1) (called .reduce-twice .ensures))
 
 same-length : tie.Need-same-length
 same-length c = c .before .before .before .reduce-twice .kept .1 .1 .1 .0
@@ -74,8 +74,8 @@ module _ (c : tie.After-known-told3) where
   abbrev sized : tie.After-sizes
   sized = admitted called
 
-  reduced : Reduces (given sized) (c .before .reduced .given .0 .0) (called .reduce-twice .last .1 .1 .1 .0)
-  reduced = twice-done (given sized) (called .reduce-twice .result) (c .before .reduced .given .1) (called .reduce-twice .ensures)
+  reduced : Reduces (asked (given sized)) (c .before .reduced .given .0 .0) (called .reduce-twice .last .1 .1 .1 .0)
+  reduced = twice-done (asked (given sized)) (called .reduce-twice .result) (c .before .reduced .given .1) (called .reduce-twice .ensures)
 
 write-report-requires : tie.Need-write-report-requires
 write-report-requires c κs =

@@ -14,17 +14,16 @@ use mir.Facts.{toZ-ofZ}
 use Rattle.integers.specs.Division.{modulo}
 use Rattle.matrices.specs.Vector.{apply}
 use Rattle.reduction_steps.specs.Table.{entry}
-use Rattle.reports.specs.Report.{reported, torsionCount, coordinateAt, coordinateList}
-use Rattle.reports.specs.Call.{written}
+use Rattle.reports.specs.Report.{reported, coordinateAt, coordinateList}
 use Rattle.limits.specs.Limits.{libraryLimit}
 use Rattle.lines.specs.Slice.{at}
 use Rattle.lines.specs.declared.matrix.Matrix.{Matrix}
 use Rattle.words.specs.Read.{read, of-bits}
 use Rattle.operations.specs.Laid.{linesOf, stateOf}
-use Rattle.writers.specs.Written.{kindIn}
+use Rattle.writers.specs.Written.{kindIn, WrittenFrom}
 use Rattle.writers.proofs.Held.{matrix-held, row-follower-held}
 use Rattle.writers.proofs.Rows.{map-blocks}
-use Rattle.writers.proofs.Writing.{Progress, progress-none, progress-one, progress-number, progress-end, progress-room, progress-length, written-whole}
+use Rattle.writers.proofs.Writing.{Progress, progress-none, progress-one, progress-number, progress-end, progress-room, progress-length}
 use Rattle.writers.proofs.coordinates.write_coordinates.Statement.{statement}
 use Rattle.writers.proofs.coordinates.write_coordinates.Tie as tie
 
@@ -33,16 +32,16 @@ abbrev coordinate : Matrix → Matrix → List ℤ → List ℤ → ℕ → ℤ
 coordinate m q w z i = modulo (apply (q .width) (entry (linesOf q w)) (at z) i) (kindIn m w i)
 
 abbrev Inv-loop : tie.InvT-loop
-Inv-loop w chain coordinates₀ m q rank lines next₀ i₀ coordinates next i =
-    Progress (kindIn m w) (λ k. coordinate m q w chain k ∷ []) lines 0 coordinates₀ i next coordinates
+Inv-loop w chain coordinates₀ from m q lines next₀ i₀ coordinates next i =
+    Progress (kindIn m w) (λ k. coordinate m q w chain k ∷ []) lines from coordinates₀ i next coordinates
 
 abbrev μ-loop : tie.MeasureT-loop
-μ-loop w chain coordinates₀ m q rank lines next₀ i₀ coordinates next i = lines - i
+μ-loop w chain coordinates₀ from m q lines next₀ i₀ coordinates next i = lines - i
 
 loop-holds : tie.Need-loop-holds Inv-loop μ-loop
 loop-holds c =
     let args = c .before .before .args in let m = args .reduced .layout .matrix in let w = args .w .now in
-    progress-none (kindIn m w) (λ k. coordinate m (args .reduced .layout .«row_follower») w (args .chain .now) k ∷ []) (m .lines) 0 (args .coordinates .now)
+    progress-none (kindIn m w) (λ k. coordinate m (args .reduced .layout .«row_follower») w (args .chain .now) k ∷ []) (m .lines) (args .from) (args .coordinates .now)
 
 kind-requires : tie.Need-kind-requires Inv-loop μ-loop
 kind-requires c κs = (matrix-held (c .before .before .before .before .pre .laid), c .loop-test .taken)
@@ -102,32 +101,19 @@ loop-again c =
     (progress-one (loop .inv) more (sym (kind .ensures) ∙ of-bits (record { sfits = kind .ok }) (w .0 .left))))
     (c .if1 .came)
 
-sub-t17 : tie.Need-sub-t17 Inv-loop μ-loop
-sub-t17 c = c .before .before .before .before .pre .rank-below
-
-reported-count-requires : tie.Need-reported-count-requires Inv-loop μ-loop
-reported-count-requires c κs =
-    let pre = c .before .before .before .before .pre in
-    (matrix-held (pre .laid), pre .rank-below, pre .kinds)
-
 same-length : tie.Need-same-length Inv-loop μ-loop
-same-length c = same (c .before .before)
+same-length c = same (c .before)
 
 returns : tie.Need-returns Inv-loop μ-loop
-unfolding stateOf torsionCount coordinateList coordinateAt
+unfolding stateOf coordinateList coordinateAt
 returns c =
-    let args = c .before .before .before .before .before .args in
+    let args = c .before .before .before .before .args in
     let m = args .reduced .layout .matrix in let q = args .reduced .layout .«row_follower» in let w = args .w .now in
-    record {
-      free = refl;
-      torsion = c .reported-count .ensures;
-      is =
-          written-whole (progress-end (c .before .before .loop .inv) (c .before .loop-test .left))
-          ∙ ap (λ (l : List ℤ). written l (args .coordinates .now)) (map-blocks (coordinate m q w (args .chain .now)) (reported (kindIn m w) (m .lines)));
-    }
+    subst (λ (l : List ℤ). WrittenFrom (args .from) l (args .coordinates .now) (c .before .loop .next) (c .before .loop .coordinates))
+    (map-blocks (coordinate m q w (args .chain .now)) (reported (kindIn m w) (m .lines))) (progress-end (c .before .loop .inv) (c .loop-test .left))
 
 pub write-coordinates-spec : {M : Type 1} → statement M
 write-coordinates-spec =
     tie.close
     (tie.spec Inv-loop μ-loop loop-holds kind-requires row-times-chain-requires residue-requires mul-t15 slice-set-from-coordinates add-next
-    (λ c. omega arith) (λ c. omega arith) loop-again sub-t17 reported-count-requires same-length returns)
+    (λ c. omega arith) (λ c. omega arith) loop-again same-length returns)

@@ -1,0 +1,59 @@
+-- `Request::lacks_slots` meets its contract: by cases on what is asked, and a count is below 65536. Assumes nothing.
+use mathlib.Core.Path.{_≡_, sym, ap, _∙_}
+use mathlib.Core.Bool.{not}
+use Prim.Native.Nat.{ℕ, _*_, _/_, _^_, _≤_, _<_}
+use native.Mathlib.Nat.{div-lt-iff-lt-mul, le-div-iff-mul-le, mul-zero}
+use native.Mathlib.Decide.{decLt}
+use native.Mathlib.Omega.{arith}
+use borrow.Author.Needs.{needs}
+use borrow.Author.Tests.{lt-ltb, le-ltb}
+use lib.Dec.{eqb, ltb}
+use Rattle.operations.proofs.Room.{product-below}
+use Rattle.calls.specs.Admission.{slotsFor}
+use Rattle.calls.specs.declared.admission.Request.{Request}
+use Rattle.calls.specs.declared.admission.Sizes.{Sizes}
+use Rattle.calls.proofs.admission.Request.lacks_slots.Statement.{statement}
+use Rattle.calls.proofs.admission.Request.lacks_slots.Tie as tie
+
+square-below : (c : tie.Start) → c .args .sizes .cells * c .args .sizes .cells ≤ 2 ^ 32
+square-below c = product-below (c .pre) (c .pre)
+
+mul-result : tie.Need-mul-result
+mul-result c = omega (arith, square-below (c .before .before))
+
+add-result-2 : tie.Need-add-result-2
+add-result-2 c = omega (arith, square-below (c .before .before), c .before .before .pre)
+
+-- the output has fewer than `number` times the cells
+divided : (output cells number : ℕ) → 0 < cells → ltb (output / cells) number ≡ ltb output (number * cells)
+divided output cells number positive = go (decLt output (number * cells))
+  where
+    go : Dec (output < number * cells) → ltb (output / cells) number ≡ ltb output (number * cells)
+    go (yes l) = lt-ltb (output / cells) number (div-lt-iff-lt-mul positive .1 l) ∙ sym (lt-ltb output (number * cells) l)
+    go (no l) = le-ltb (output / cells) number (le-div-iff-mul-le positive .1 (omega arith)) ∙ sym (le-ltb output (number * cells) (omega arith))
+
+-- no cells, and so no slots
+empty : (output number cells : ℕ) → cells ≡ 0 → not (eqb cells 0) ≡ ltb output (number * cells)
+empty output number cells e = rw (e, mul-zero number) (sym (le-ltb output 0 (omega arith)))
+
+-- what is asked
+asked : (output : ℕ) (sizes : Sizes) {x y : Request} → x ≡ y → ltb output (slotsFor y sizes) ≡ ltb output (slotsFor x sizes)
+asked output sizes e = ap (λ (r : Request). ltb output (slotsFor r sizes)) (sym e)
+
+returns : tie.Need-returns
+returns c = let a = c .before .before .args in asked (a .output) (a .sizes) (c .enum-told .given .1)
+
+returns-2 : tie.Need-returns-2
+returns-2 c =
+    let a = c .before .before .before .before .args in
+    divided (a .output) (a .sizes .cells) (c .before .before .self .given .0 .0) (omega (arith, c .if1 .taken)) ∙ asked (a .output) (a .sizes) (c .before .before .self .given .1)
+
+returns-3 : tie.Need-returns-3
+returns-3 c =
+    let a = c .before .before .before .before .args in
+    empty (a .output) (c .before .before .self .given .0 .0) (a .sizes .cells) (c .if1 .left) ∙ asked (a .output) (a .sizes) (c .before .before .self .given .1)
+
+pub lacks-slots-spec : {M : Type 1} → statement M
+lacks-slots-spec =
+    tie.close
+    (tie.spec (λ c. search needs) (λ c. search needs) mul-result add-result-2 (λ c. search needs) (λ c. search needs) returns returns-2 returns-3)

@@ -1,0 +1,15 @@
+-- `check::nonempty` meets its contract. Assumes nothing.
+use mathlib.Core.Path.{_≡_, refl}
+use mathlib.Core.Logic.{_≢_}
+use Prim.Native.Nat.{ℕ, zero, suc}
+use borrow.Author.Needs.{needs}
+use Rattle.reports.specs.ListsLaws.{nonempty}
+use Rattle.chains.proofs.check.nonempty.Statement.{statement}
+use Rattle.chains.proofs.check.nonempty.Tie as tie
+
+some-cells : (number cells : ℕ) → cells ≢ 0 → number ≡ nonempty number cells
+some-cells number zero d = absurd (d refl)
+some-cells number (suc n) d = refl
+
+pub nonempty-spec : {M : Type 1} → statement M
+nonempty-spec = tie.close (tie.spec (λ c. search needs) (λ c. some-cells (c .before .args .number) (c .before .args .cells) (c .if1 .left)))

@@ -1,0 +1,62 @@
+// The checks 11 and 12 of chains.
+ghost use mathlib.Core.Path.{_≡_};
+ghost use Prim.Native.Nat.{_≤_, _*_};
+ghost use lib.ListN.{length};
+ghost use Rattle.complexes.specs.Complex.{count};
+ghost use Rattle.sheet_format.specs.Layout.{top};
+ghost use Rattle.sheet_format.specs.Check.{chainCells, first};
+ghost use Rattle.reports.specs.Call.{cycleChecks};
+ghost use Rattle.reports.specs.Lists.{cyclesChecks};
+ghost use Rattle.reports.specs.ListsLaws.{nonempty};
+ghost use Rattle.limits.specs.Limits.{coefficientLimit};
+ghost use Rattle.faces.specs.Face.{Accepted};
+ghost use Rattle.chains.specs.Check.{checkNumber};
+use crate::chain::boundary_not_zero;
+use crate::chain::coefficient_exceeds;
+use refusal::Refusal;
+use sheet::reader::Sheet;
+
+// Every check passed, or one applies.
+pub enum Check {
+    Passed,
+    Refused(Refusal),
+}
+
+// The first of 11 and 12 that applies to the chain.
+pub fn check_chain(s: &[u8], p: usize, chain: &[i32]) -> Check
+    requires { ⌜ Accepted (now s) ⌝ }
+    requires { ⌜ (p ≤ top) × (length (now chain) ≡ count (chainCells (now s)) p) ⌝ }
+    ensures { λ r. ⌜ first (cycleChecks coefficientLimit (now (s .entry)) p (now (chain .entry))) ≡ checkNumber r ⌝ }
+{
+    if coefficient_exceeds(chain, Sheet::COEFFICIENT_LIMIT) {
+        return Check::Refused(Refusal::CoefficientExceedsLimit);
+    }
+    if boundary_not_zero(s, p, chain) {
+        return Check::Refused(Refusal::BoundaryNotZero);
+    }
+    Check::Passed
+}
+
+// How many of so many chains have coefficients: where there are no cells, there is nothing to do, however many there are.
+pub fn nonempty(number: usize, cells: usize) -> usize
+    ensures { λ r. ⌜ r ≡ nonempty number cells ⌝ }
+{
+    if cells == 0 { 0 } else { number }
+}
+
+// The first of 11 and 12 that applies to the first faulty of so many chains.
+pub fn check_chains(s: &[u8], p: usize, cells: usize, number: usize, chains: &[i32]) -> Check
+    requires { ⌜ Accepted (now s) ⌝ }
+    requires { ⌜ (p ≤ top) × (cells ≡ count (chainCells (now s)) p) × (length (now chains) ≡ number * cells) ⌝ }
+    ensures { λ r. ⌜ first (cyclesChecks coefficientLimit (now (s .entry)) p number (now (chains .entry))) ≡ checkNumber r ⌝ }
+{
+    let mut i: usize = 0;
+    while i < number {
+        let at = i * cells;
+        if let Check::Refused(refusal) = check_chain(s, p, &chains[at..at + cells]) {
+            return Check::Refused(refusal);
+        }
+        i = i + 1;
+    }
+    Check::Passed
+}

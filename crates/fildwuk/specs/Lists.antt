@@ -1,0 +1,26 @@
+-- What the lists of many chains are written from, as bytes.
+use mathlib.Core.Path.{_≡_}
+use mathlib.Core.List.{List}
+use Prim.Native.Nat.{ℕ, _*_, _≤_, _<_}
+use lib.ListN.{length}
+use lib.IntN.{ℤ}
+use Rattle.limits.specs.Limits.{hostLimit}
+use Rattle.reports.specs.Host.{numbersBytes, chainFrom}
+use Rattle.reports.specs.Lists.{chainAt}
+use Rattle.writers.specs.Written.{CanCoordinate, coordinatesOf}
+use Rattle.writers.specs.declared.reduced.Reduced.{Reduced}
+
+-- chain i of the bytes
+abbrev pub chainOf : ℕ → ℕ → List ℕ → ℕ → List ℤ
+chainOf cells number chains i = chainAt cells (chainFrom (number * cells) chains) i
+
+-- the bytes of its coordinates
+abbrev pub listBytes : Reduced → List ℤ → ℕ → ℕ → List ℕ → ℕ → List ℕ
+listBytes x w cells number chains i = numbersBytes (coordinatesOf x w (chainOf cells number chains i))
+
+pub record CanListBytes (x : Reduced) (w : List ℤ) (cells number : ℕ) (chains : List ℕ) (m : ℕ) : Type 0 where
+  pub few : cells ≤ hostLimit
+  pub size : length chains ≡ 4 * (number * cells)
+  pub room : 8 * (number * cells) ≤ m
+  pub short : x .layout .matrix .lines ≤ cells
+  pub each : (i : ℕ) → i < number → CanCoordinate x w (chainOf cells number chains i) 0 hostLimit

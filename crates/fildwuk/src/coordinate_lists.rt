@@ -1,0 +1,125 @@
+// The coordinate lists of many chains, from bytes to bytes. There is room for one chain and one list: each chain is read, checked and answered by
+// itself.
+ghost use mathlib.Core.Path.{_≡_};
+ghost use Prim.Native.Nat.{_*_, _≤_};
+ghost use lib.ListN.{length};
+ghost use Rattle.limits.specs.Limits.{hostLimit, coefficientLimit};
+ghost use Rattle.lists.specs.Splice.{splices};
+ghost use Rattle.complexes.specs.Complex.{count};
+ghost use Rattle.sheet_format.specs.Layout.{top};
+ghost use Rattle.sheet_format.specs.Check.{chainCells, first};
+ghost use Rattle.faces.specs.Face.{Accepted};
+ghost use Rattle.reports.specs.Host.{chainFrom};
+ghost use Rattle.reports.specs.HostCallLaws.{workRoom};
+ghost use Rattle.reports.specs.Lists.{cyclesChecks, hostCoordinateLists};
+ghost use Rattle.chains.specs.Check.{checkNumber};
+ghost use Rattle.fildwuk.specs.Answer.{HostAnswers};
+ghost use Rattle.fildwuk.specs.Lists.{CanListBytes, listBytes};
+use calls::admission::Admission;
+use calls::admission::Request;
+use calls::admission::admit;
+use calls::reductions::Reductions;
+use calls::reductions::reduce_twice;
+use chains::check::Check;
+use chains::check::check_chain;
+use chains::check::nonempty;
+use little_endian::read_chain;
+use little_endian::write_numbers;
+use refusal::Refusal;
+use sheet::reader::Sheet;
+use writers::coordinates::write_coordinates;
+use writers::reduced::Reduced;
+
+// The slots of one chain and of one list.
+const CELLS: usize = Sheet::HOST_LIMIT;
+
+// The first of 11 and 12 that applies to the first faulty of so many chains.
+fn check_bytes(s: &[u8], p: usize, cells: usize, number: usize, chains: &[u8]) -> Check
+    requires { ⌜ Accepted (now s) ⌝ }
+    requires { ⌜ (p ≤ top) × (cells ≡ count (chainCells (now s)) p) × (cells ≤ hostLimit) × (length (now chains) ≡ 4 * (number * cells)) ⌝ }
+    ensures { λ r. ⌜
+        first (cyclesChecks coefficientLimit (now (s .entry)) p number (chainFrom (number * cells) (now (chains .entry)))) ≡
+        checkNumber r
+        ⌝ }
+{
+    let mut coefficients = [0i32; CELLS];
+    let mut i: usize = 0;
+    while i < number {
+        read_chain(chains, i * cells, cells, &mut coefficients);
+        if let Check::Refused(refusal) = check_chain(s, p, &coefficients[..cells]) {
+            return Check::Refused(refusal);
+        }
+        i = i + 1;
+    }
+    Check::Passed
+}
+
+// Writes the coordinates of so many chains, one list after another, as far apart as the cells ask for.
+fn write_bytes(
+    reduced: Reduced,
+    w: &[i32],
+    cells: usize,
+    number: usize,
+    chains: &[u8],
+    out: &mut [u8],
+)
+    requires { ⌜ CanListBytes reduced (now w) cells number (now chains) (length (now out)) ⌝ }
+    ensures { λ r. ⌜
+        now (out .exit) ≡
+        splices (8 * cells) (listBytes reduced (now (w .entry)) cells number (now (chains .entry))) number (now (out .entry))
+        ⌝ }
+{
+    let mut coefficients = [0i32; CELLS];
+    let mut numbers = [0i64; CELLS];
+    let mut i: usize = 0;
+    while i < number {
+        let at = i * cells;
+        read_chain(chains, at, cells, &mut coefficients);
+        let many = write_coordinates(reduced, w, &coefficients[..cells], &mut numbers, 0);
+        write_numbers(&numbers, many, out, 8 * at);
+        i = i + 1;
+    }
+}
+
+// The coordinate lists of so many cycles.
+pub fn lists_through(
+    sheet: &[u8],
+    dimension: u32,
+    number: usize,
+    chains: &[u8],
+    work: &mut [i32],
+    coordinates: &mut [u8],
+) -> u32
+    requires { ⌜ length (now work) ≡ workRoom ⌝ }
+    ensures { λ r.
+        let left = now (coordinates .exit) in ⌜
+        HostAnswers (hostCoordinateLists (now (sheet .entry)) dimension number (now (chains .entry)) (now (coordinates .entry))) r left
+        ⌝ }
+{
+    let slots = coordinates.len() / 8;
+    let sizes = match admit(
+        Sheet::host(),
+        sheet,
+        dimension,
+        Request::Coordinates(number),
+        slots,
+        work.len(),
+    ) {
+        Admission::Refused(refusal) => return refusal.number(),
+        Admission::Admitted(sizes) => sizes,
+    };
+    let p = dimension as usize;
+    let cells = sizes.cells;
+    if chains.len() != 4 * (number * cells) {
+        return Refusal::ChainLengthDiffers.number();
+    }
+    let lists = nonempty(number, cells);
+    if let Check::Refused(refusal) = check_bytes(sheet, p, cells, lists, chains) {
+        return refusal.number();
+    }
+    let Reductions::Done(reduced) = reduce_twice(sheet, p, sizes, work) else {
+        return Refusal::TooWide.number();
+    };
+    write_bytes(reduced, work, cells, lists, chains, coordinates);
+    0
+}

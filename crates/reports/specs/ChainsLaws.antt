@@ -1,0 +1,181 @@
+-- The checks 10 to 12 of chains.
+--     coefficients-iff            11 of one chain, coefficient by coefficient
+--     length-chainAt, chain-part  one of many chains, and the part of a slice that it is
+--     cycles-zero, cycles-told    11 and 12: none is told, or the first faulty chain decides
+--     chains-zero, chains-told    10 to 12
+--     chains-narrow               13 is none of them
+--     cycles-no-cells             where there are no cells, no chain is at fault
+use mathlib.Core.Path.{_≡_, refl, sym, _∙_, ap}
+use mathlib.Core.Logic.{_↔_, _≢_}
+use mathlib.Core.Bool.{Bool, true, false, not}
+use mathlib.Core.List.{List, [], _∷_}
+use Prim.Native.Nat.{ℕ, zero, suc, _+_, _*_, _-_, _≤_, _<_, zero-le}
+use native.Mathlib.Nat.{suc-mul, mul-le-mul-right}
+use native.Mathlib.Decide.{decLt}
+use native.Mathlib.Omega.{arith}
+use borrow.Author.Tests.{eqb-true, eq-eqb, ltb-false, le-ltb}
+use lib.Dec.{eqb, ltb}
+use lib.ListN.{length, getD, take, drop, length-drop, List·getD-eq-default}
+use lib.Seq.{length-take-le}
+use lib.IntN.{ℤ, pos, natAbs}
+use Rattle.matrices.specs.Sum.{sum}
+use Rattle.matrices.specs.Vector.{apply}
+use Rattle.complexes.specs.Complex.{count}
+use Rattle.complexes.specs.Boundary.{countBelow}
+use Rattle.sheet_format.specs.Check.{chainCells, some, first}
+use Rattle.sheet_format.specs.CheckLaws.{some-false}
+use Rattle.sheet_format.specs.FirstLaws.{absent, absent-append, orElse, first-zero, first-append}
+use Rattle.reports.specs.Call.{cycleChecks, coefficientExceeds, boundaryNotZero}
+use Rattle.reports.specs.Lists.{chainAt, cyclesChecks, chainsChecks, FirstFault}
+
+pub coefficients-iff : (limit : ℕ) (z : List ℤ) → (coefficientExceeds limit z ≡ false) ↔ ((i : ℕ) → natAbs (getD z i (pos 0)) ≤ limit)
+unfolding coefficientExceeds
+coefficients-iff limit z = (forward, backward)
+  where
+    exceeds : ℕ → Bool
+    exceeds i = ltb limit (natAbs (getD z i (pos 0)))
+
+    at : ((i : ℕ) → i < length z → exceeds i ≡ false) → (i : ℕ) → Dec (i < length z) → natAbs (getD z i (pos 0)) ≤ limit
+    at h i (yes l) = ltb-false limit (natAbs (getD z i (pos 0))) (h i l)
+    at h i (no l) = rw (List·getD-eq-default z (pos 0) {n = i} (omega arith)) zero-le
+
+    forward : some (length z) exceeds ≡ false → (i : ℕ) → natAbs (getD z i (pos 0)) ≤ limit
+    forward e i = at (some-false (length z) exceeds .0 e) i (decLt i (length z))
+
+    backward : ((i : ℕ) → natAbs (getD z i (pos 0)) ≤ limit) → some (length z) exceeds ≡ false
+    backward h = some-false (length z) exceeds .1 (λ i l. le-ltb limit (natAbs (getD z i (pos 0))) (h i))
+
+-- ---- many chains
+
+module _ (n number : ℕ) (chains : List ℤ) (size : length chains ≡ number * n) where
+  -- chain i stands in the slice
+  pub chain-inside : (i : ℕ) → i < number → i * n + n ≤ length chains
+  chain-inside i l = omega (arith, size, suc-mul i n, mul-le-mul-right n l)
+
+  pub length-chainAt : (i : ℕ) → i < number → length (chainAt n chains i) ≡ n
+  length-chainAt i l = length-take-le n (drop (i * n) chains) (omega (arith, length-drop (i * n) chains, chain-inside i l))
+
+-- the part of the slice that a loop lends for it
+pub chain-part : (n i : ℕ) (chains : List ℤ) → take (i * n + n - i * n) (drop (i * n) chains) ≡ chainAt n chains i
+chain-part n i chains = ap (λ (m : ℕ). take m (drop (i * n) chains)) whole
+  where
+    whole : i * n + n - i * n ≡ n
+    whole = omega arith
+
+-- no fault so far, nor at the next
+pub passed-next : {fault : ℕ → ℕ} (i : ℕ) → ((k : ℕ) → k < i → fault k ≡ 0) → fault i ≡ 0 → (k : ℕ) → k < i + 1 → fault k ≡ 0
+passed-next {fault} i before now k l = go (decLt k i)
+  where
+    go : Dec (k < i) → fault k ≡ 0
+    go (yes h) = before k h
+    go (no h) = let last : k ≡ i = omega arith in ap fault last ∙ now
+
+module _ (limit : ℕ) (b : List ℕ) (p : ℕ) (chains : List ℤ) where
+  -- the first of 11 and 12 that chain i is at fault with
+  abbrev pub fault : ℕ → ℕ
+  fault i = first (cycleChecks limit b p (chainAt (count (chainCells b) p) chains i))
+
+  cycles-absent : (k : ℕ) → absent k ((11, false) ∷ (12, false) ∷ []) ≡ true → (number : ℕ) → absent k (cyclesChecks limit b p number chains) ≡ true
+  unfolding cyclesChecks
+  cycles-absent k none zero = refl
+  cycles-absent k none (suc i) =
+      absent-append k (cyclesChecks limit b p i chains) (cycleChecks limit b p (chainAt (count (chainCells b) p) chains i)) (cycles-absent k none i) none
+
+  -- one chain more
+  cycles-next : (i : ℕ) → first (cyclesChecks limit b p (suc i) chains) ≡ orElse (first (cyclesChecks limit b p i chains)) (fault i)
+  unfolding cyclesChecks
+  cycles-next i = first-append (cyclesChecks limit b p i chains) (cycleChecks limit b p (chainAt (count (chainCells b) p) chains i)) (cycles-absent 0 refl i)
+
+  pub cycles-passed : (number : ℕ) → ((i : ℕ) → i < number → fault i ≡ 0) → first (cyclesChecks limit b p number chains) ≡ 0
+  unfolding cyclesChecks
+  cycles-passed zero h = refl
+  cycles-passed (suc m) h = cycles-next m ∙ rw (cycles-passed m (λ i l. h i (omega arith)), h m (omega arith))
+
+  -- what is told of so many chains is told of more
+  pub cycles-decided : (number k : ℕ) → k ≢ 0 → FirstFault fault number k → first (cyclesChecks limit b p number chains) ≡ k
+  cycles-decided zero k d f = absurd (omega (arith, f .within))
+  cycles-decided (suc m) k d f = cycles-next m ∙ go (decLt (f .place) m) (cycles-decided m k d)
+    where
+      now : (n : ℕ) → n ≡ k → orElse n (fault m) ≡ k
+      now zero e = absurd (d (sym e))
+      now (suc n) e = e
+
+      go : Dec (f .place < m) → (FirstFault fault m k → first (cyclesChecks limit b p m chains) ≡ k) → orElse (first (cyclesChecks limit b p m chains)) (fault m) ≡ k
+      go (yes l) before = now (first (cyclesChecks limit b p m chains)) (before (record { place = f .place; within = l; told = f .told; earlier = f .earlier }))
+      go (no l) before =
+          let last : f .place ≡ m = omega (arith, f .within) in
+          rw (cycles-passed m (λ i h. f .earlier i (omega arith))) (ap fault (sym last) ∙ f .told)
+
+  -- the first faulty chain, or none
+  data Found (number : ℕ) : Type 0 where
+    none : ((i : ℕ) → i < number → fault i ≡ 0) → Found number
+    found : (k : ℕ) → k ≢ 0 → FirstFault fault number k → Found number
+
+  find : (number : ℕ) → Found number
+  find zero = none (λ i l. absurd (omega arith))
+  find (suc m) = go (find m) (fault m) refl
+    where
+      go : Found m → (k : ℕ) → fault m ≡ k → Found (suc m)
+      go (found k d f) j e = found k d (record { place = f .place; within = omega (arith, f .within); told = f .told; earlier = f .earlier })
+      go (none h) zero e = none (λ i l. at i (decLt i m) l)
+        where
+          at : (i : ℕ) → Dec (i < m) → i < suc m → fault i ≡ 0
+          at i (yes l) q = h i l
+          at i (no l) q = let last : i ≡ m = omega arith in ap fault last ∙ e
+      go (none h) (suc k) e = found (suc k) (λ z. absurd (omega arith)) (record { place = m; within = omega arith; told = e; earlier = h })
+
+  pub cycles-zero : (number : ℕ) → (first (cyclesChecks limit b p number chains) ≡ 0) ↔ ((i : ℕ) → i < number → fault i ≡ 0)
+  cycles-zero number = (go (find number), cycles-passed number)
+    where
+      go : Found number → first (cyclesChecks limit b p number chains) ≡ 0 → (i : ℕ) → i < number → fault i ≡ 0
+      go (none h) e = h
+      go (found k d f) e = absurd (d (sym (cycles-decided number k d f) ∙ e))
+
+  pub cycles-told : (number k : ℕ) → k ≢ 0 → (first (cyclesChecks limit b p number chains) ≡ k) ↔ FirstFault fault number k
+  cycles-told number k d = (go (find number), cycles-decided number k d)
+    where
+      go : Found number → first (cyclesChecks limit b p number chains) ≡ k → FirstFault fault number k
+      go (none h) e = absurd (d (sym e ∙ cycles-passed number h))
+      go (found j q f) e = rw (sym (cycles-decided number j q f) ∙ e) at f
+
+  -- the coefficients of a chain that is not at fault
+  pub fault-small : (i : ℕ) → fault i ≡ 0 → (j : ℕ) → natAbs (getD (chainAt (count (chainCells b) p) chains i) j (pos 0)) ≤ limit
+  fault-small i e =
+      let (narrow, _) = first-zero (cycleChecks limit b p (chainAt (count (chainCells b) p) chains i)) refl .0 e in
+      coefficients-iff limit (chainAt (count (chainCells b) p) chains i) .0 narrow
+
+  -- ---- with 10 before them
+
+  pub chains-narrow : (number : ℕ) → absent 13 (chainsChecks limit b p number chains) ≡ true
+  unfolding chainsChecks
+  chains-narrow number = cycles-absent 13 refl number
+
+  pub chains-sized : (number : ℕ) → length chains ≡ number * count (chainCells b) p → first (chainsChecks limit b p number chains) ≡ first (cyclesChecks limit b p number chains)
+  unfolding chainsChecks
+  chains-sized number e = rw (eq-eqb (length chains) (number * count (chainCells b) p) e)
+
+  pub chains-zero : (number : ℕ)
+      → (first (chainsChecks limit b p number chains) ≡ 0) ↔ ((length chains ≡ number * count (chainCells b) p) × ((i : ℕ) → i < number → fault i ≡ 0))
+  unfolding chainsChecks
+  chains-zero number = (forward, λ h. chains-sized number (h .0) ∙ cycles-passed number (h .1))
+    where
+      size : Bool
+      size = eqb (length chains) (number * count (chainCells b) p)
+
+      go : (t : Bool) → size ≡ t → first ((10, not t) ∷ cyclesChecks limit b p number chains) ≡ 0
+          → (length chains ≡ number * count (chainCells b) p) × ((i : ℕ) → i < number → fault i ≡ 0)
+      go true e h = (eqb-true (length chains) (number * count (chainCells b) p) e, cycles-zero number .0 h)
+      go false e h = absurd (omega (arith, h))
+
+      forward : first (chainsChecks limit b p number chains) ≡ 0 → (length chains ≡ number * count (chainCells b) p) × ((i : ℕ) → i < number → fault i ≡ 0)
+      forward h = go size refl h
+
+  -- ---- no cells
+
+  module _ (empty : count (chainCells b) p ≡ 0) where
+    fault-no-cells : (i : ℕ) → fault i ≡ 0
+    unfolding coefficientExceeds boundaryNotZero apply sum some
+    fault-no-cells i = rw (empty, some-false (countBelow (chainCells b) p) _ .1 (λ j l. refl))
+
+    pub cycles-no-cells : (number : ℕ) → first (cyclesChecks limit b p number chains) ≡ 0
+    cycles-no-cells number = cycles-passed number (λ i l. fault-no-cells i)

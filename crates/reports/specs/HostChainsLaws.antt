@@ -1,0 +1,101 @@
+-- Chains of the host calls, read from bytes.
+--     chainFrom-whole, length-chainFrom, chainFrom-other,
+--     chainFrom-size                                        the bytes of m coefficients, and other bytes
+--     chainAt-bytes                                         one of many chains
+--     chainFrom-part, coefficientIn-part                    its bytes, and what they give
+use mathlib.Core.Path.{_≡_, sym, _∙_, ap}
+use mathlib.Core.Logic.{_≢_}
+use mathlib.Core.List.{List}
+use Prim.Native.Nat.{ℕ, zero, suc, _+_, _*_, _<_}
+use native.Mathlib.Nat.{suc-mul, mul-le-mul-right, mul-left-comm}
+use native.Mathlib.Decide.{ℕ-discrete}
+use native.Mathlib.Omega.{arith}
+use borrow.Author.Tests.{eq-eqb, ne-eqb}
+use lib.ListN.{length, getD, drop, length-drop}
+use lib.Seq.{ext-getD, length-take-le, getD-take, getD-drop}
+use lib.IntN.{ℤ, pos}
+use Rattle.lists.specs.Tabulate.{tabulate}
+use Rattle.lists.specs.TabulateLaws.{length-tabulate, getD-tabulate, tabulate-ext}
+use Rattle.reports.specs.Host.{coefficientAt, coefficientIn, otherLength, chainFrom}
+use Rattle.reports.specs.Lists.{chainAt, chainBytes}
+use Rattle.reports.specs.ChainsLaws.{chain-inside, length-chainAt}
+
+module _ (m : ℕ) (chains : List ℕ) where
+  pub chainFrom-whole : length chains ≡ 4 * m → chainFrom m chains ≡ tabulate m (λ i. coefficientIn chains i)
+  unfolding chainFrom
+  chainFrom-whole e = rw (eq-eqb (length chains) (4 * m) e)
+
+  pub length-chainFrom : length chains ≡ 4 * m → length (chainFrom m chains) ≡ m
+  length-chainFrom e = ap length (chainFrom-whole e) ∙ length-tabulate m (λ i. coefficientIn chains i)
+
+  -- other bytes stand for a chain of another length
+  pub chainFrom-other : length chains ≢ 4 * m → length (chainFrom m chains) ≢ m
+  unfolding chainFrom otherLength
+  chainFrom-other d = rw (ne-eqb (length chains) (4 * m) d) (other m)
+    where
+      other : (k : ℕ) → length (otherLength k) ≢ k
+      other zero h = absurd (omega arith)
+      other (suc k) h = absurd (omega arith)
+
+  pub chainFrom-size : length (chainFrom m chains) ≡ m → length chains ≡ 4 * m
+  chainFrom-size e = go (ℕ-discrete (length chains) (4 * m))
+    where
+      go : Dec (length chains ≡ 4 * m) → length chains ≡ 4 * m
+      go (yes h) = h
+      go (no d) = absurd (chainFrom-other d e)
+
+module _ (n number : ℕ) (chains : List ℕ) (size : length chains ≡ 4 * (number * n)) where
+  -- the coefficients of all chains
+  abbrev whole : List ℤ
+  whole = chainFrom (number * n) chains
+
+  pub chainAt-bytes : (i : ℕ) → i < number → chainAt n whole i ≡ tabulate n (λ j. coefficientIn chains (i * n + j))
+  chainAt-bytes i l =
+      ext-getD (pos 0) (chainAt n whole i) (tabulate n (λ j. coefficientIn chains (i * n + j)))
+      (long ∙ sym (length-tabulate n (λ j. coefficientIn chains (i * n + j))))
+      (λ j b.
+      getD-take n (drop (i * n) whole) j (pos 0) (omega (arith, long))
+      ∙ getD-drop (i * n) whole j (pos 0)
+      ∙ ap (λ (z : List ℤ). getD z (i * n + j) (pos 0)) (chainFrom-whole (number * n) chains size)
+      ∙ getD-tabulate (number * n) (λ k. coefficientIn chains k) (i * n + j) (pos 0) (omega (arith, long, chain-inside n number whole (length-chainFrom (number * n) chains size) i l, length-chainFrom (number * n) chains size))
+      ∙ sym (getD-tabulate n (λ k. coefficientIn chains (i * n + k)) j (pos 0) (omega (arith, long))))
+    where
+      long : length (chainAt n whole i) ≡ n
+      long = length-chainAt n number whole (length-chainFrom (number * n) chains size) i l
+
+-- ---- the bytes of one of many chains
+
+module _ (n number : ℕ) (chains : List ℕ) (size : length chains ≡ 4 * (number * n)) (i : ℕ) (next : i < number) where
+  length-chainBytes : length (chainBytes n chains i) ≡ 4 * n
+  length-chainBytes =
+      length-take-le (4 * n) (drop (i * (4 * n)) chains)
+      (omega (arith, length-drop (i * (4 * n)) chains, size, mul-left-comm i 4 n, suc-mul i n, mul-le-mul-right n next))
+
+  pub coefficientIn-part : (j : ℕ) → j < n → coefficientIn (chainBytes n chains i) j ≡ coefficientIn chains (i * n + j)
+  unfolding coefficientAt
+  coefficientIn-part j l = rw (byte (4 * j) start (omega arith), byte (4 * j + 1) next-byte (omega arith), byte (4 * j + 2) third (omega arith), byte (4 * j + 3) last (omega arith))
+    where
+      start : i * (4 * n) + 4 * j ≡ 4 * (i * n + j)
+      start = omega (arith, mul-left-comm i 4 n)
+
+      next-byte : i * (4 * n) + (4 * j + 1) ≡ 4 * (i * n + j) + 1
+      next-byte = omega (arith, mul-left-comm i 4 n)
+
+      third : i * (4 * n) + (4 * j + 2) ≡ 4 * (i * n + j) + 2
+      third = omega (arith, mul-left-comm i 4 n)
+
+      last : i * (4 * n) + (4 * j + 3) ≡ 4 * (i * n + j) + 3
+      last = omega (arith, mul-left-comm i 4 n)
+
+      byte : {k : ℕ} (t : ℕ) → i * (4 * n) + t ≡ k → t < 4 * n → getD (chainBytes n chains i) t 0 ≡ getD chains k 0
+      byte t e h =
+          getD-take (4 * n) (drop (i * (4 * n)) chains) t 0 h
+          ∙ getD-drop (i * (4 * n)) chains t 0
+          ∙ ap (λ (k : ℕ). getD chains k 0) e
+
+  -- they give the chain
+  pub chainFrom-part : chainFrom n (chainBytes n chains i) ≡ chainAt n (chainFrom (number * n) chains) i
+  chainFrom-part =
+      chainFrom-whole n (chainBytes n chains i) length-chainBytes
+      ∙ tabulate-ext n (λ j. coefficientIn (chainBytes n chains i) j) (λ j. coefficientIn chains (i * n + j)) coefficientIn-part
+      ∙ sym (chainAt-bytes n number chains size i next)
