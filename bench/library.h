@@ -9,9 +9,12 @@ typedef uint32_t report_call(const uint8_t *sheet, size_t sheet_len, uint32_t di
                              size_t work_len);
 typedef uint32_t coordinate_call(const uint8_t *sheet, size_t sheet_len, uint32_t dimension, const int32_t *chain, size_t chain_len,
                                  int64_t *coordinates, size_t coordinates_len, int32_t *work, size_t work_len);
+typedef uint32_t coordinate_lists_call(const uint8_t *sheet, size_t sheet_len, uint32_t dimension, size_t number, const int32_t *chains,
+                                       size_t chains_len, int64_t *coordinates, size_t coordinates_len, int32_t *work, size_t work_len);
 
 extern report_call library_report, earlier_report;
 extern coordinate_call library_coordinates, earlier_coordinates;
+extern coordinate_lists_call library_coordinate_lists;
 
 enum { CELLS = 256, REPORT = 2 + CELLS + CELLS * CELLS, WORK = 3 * CELLS * CELLS };
 
@@ -32,6 +35,6 @@ static void reports_by(report_call *call) {
         report_by(call, p);
 }
 
-static void reports(void) { reports_by(library_report); }
+static inline void reports(void) { reports_by(library_report); }
 
 #endif

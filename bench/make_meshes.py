@@ -1,10 +1,11 @@
 #!/usr/bin/env python3
 """Writes the sheets of the benchmark: the sized meshes of tests/model/meshes.py, and others so that each of four families has about 60, 120 and 250
-cells in its busiest dimension."""
+cells in its busiest dimension. Meshes with many loops stand in a folder of their own, for bench/lists.c."""
 
 import argparse
 import re
 import sys
+from itertools import product
 from pathlib import Path
 
 sys.path.insert(0, str(Path(__file__).resolve().parent.parent / "tests"))
@@ -22,14 +23,39 @@ def between():
     }
 
 
-def main():
+def chequered(width, height):
+    """A plate without every second square, height odd: a loop round each that is left out inside."""
+    return [facet for i, facet in enumerate(meshes.plate(width, height)) if i % 4 < 2]
+
+
+def lattice(width, height):
+    """The sides of width × height squares, a graph with as many loops."""
+    def corner(x, y):
+        return y * (width + 1) + x
+
+    across = [(corner(x, y), corner(x + 1, y)) for x, y in product(range(width), range(height + 1))]
+    return across + [(corner(x, y), corner(x, y + 1)) for x, y in product(range(width + 1), range(height))]
+
+
+def many_loops():
+    """Meshes of up to 48 and 250 edges with 16 to 110 loops, by name."""
+    return {"chequered 11x9": chequered(11, 9), "lattice 4x4": lattice(4, 4), "lattice 10x11": lattice(10, 11)}
+
+
+def write(folder, facets_by_name):
     """Writes FOLDER/NAME.sheet for each mesh."""
+    folder.mkdir(parents=True, exist_ok=True)
+    for name, facets in facets_by_name.items():
+        (folder / (re.sub(r"[^a-z0-9]+", "-", name.lower()) + ".sheet")).write_bytes(from_facets(facets))
+
+
+def main():
+    """Writes the sheets to FOLDER, those with many loops to FOLDER/loops."""
     parser = argparse.ArgumentParser(description=__doc__)
     parser.add_argument("folder", metavar="FOLDER", type=Path)
     folder = parser.parse_args().folder
-    folder.mkdir(parents=True, exist_ok=True)
-    for name, facets in {**meshes.sized(), **between()}.items():
-        (folder / (re.sub(r"[^a-z0-9]+", "-", name.lower()) + ".sheet")).write_bytes(from_facets(facets))
+    write(folder, {**meshes.sized(), **between()})
+    write(folder / "loops", many_loops())
 
 
 if __name__ == "__main__":

@@ -12,9 +12,9 @@ import re
 import sys
 
 ROOT = os.path.join(os.path.dirname(os.path.abspath(__file__)), "..", "crates")
-CALLS = {"reportCall", "coordinateCall", "hostReport", "hostCoordinates", "programText"}
-RIGHT = ["Reports", "CoordinateCounts", "SameCounts", "CoordinatesOf", "ReportOf", "CoordinatesDecide", "CoordinatesCombine", "CoordinatesReduced",
-         "HostReports", "HostCoordinateCounts"]
+CALLS = {"reportCall", "coordinateCall", "coordinateListsCall", "hostReport", "hostCoordinates", "hostCoordinateLists", "programText"}
+RIGHT = ["Reports", "CoordinateCounts", "ListCounts", "SameCounts", "CoordinatesOf", "ReportOf", "CoordinatesDecide", "CoordinatesCombine",
+         "CoordinatesReduced", "HostReports", "HostCoordinateCounts", "HostListCounts"]
 PARTS = [
     ("the sheet", ["Acceptance", "SheetCells"], CALLS),
     ("the answers are right", RIGHT, CALLS),
@@ -56,7 +56,7 @@ class Module:
         record = False
         for line in lines:
             named = re.match(r"\s*(?:unfoldable |abbrev )?(?:pub )?(record|data) ([^\s]+)", line)
-            typed = re.match(r"\s*(?:unfoldable |abbrev )?(?:pub )?((?:[^\s(){}:=→]+ )+):(?: |$)", line)
+            typed = re.match(r"\s*(?:unfoldable |abbrev )?(?:pub )?((?:[^\s(){}:=→]+ )+)(?:\{[^}]*\} )?:(?: |$)", line)
             found = [named[2]] if named else typed[1].split() if typed else []
             self.label[index] = self.label[index] or " ".join(found)
             # A field is reached through its record; a constructor names its type.

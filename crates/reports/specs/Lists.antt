@@ -49,25 +49,25 @@ coordinateListsCall limit b p number chains coordinates work =
     (first (callChecks limit b p (listSlots number) (length coordinates) (length work) ++ chainsChecks coefficientLimit b p number chains))
     coordinates work
     (finished (reductionsOf pivotRule (chainCells b) p)
-    (λ s r x. splices n (λ i. coordinateList n s x (chainAt n chains i)) number coordinates)
+    (λ s r x. splices cells (λ i. coordinateList cells s x (chainAt cells chains i)) number coordinates)
     coordinates work)
   where
-    n : ℕ
-    n = count (chainCells b) p
+    cells : ℕ
+    cells = count (chainCells b) p
 
 -- fildwuk_coordinate_lists: the chains in 4 × number × n_p bytes, the lists 8 × n_p bytes apart
 unfoldable pub hostCoordinateLists : List ℕ → ℕ → ℕ → List ℕ → List ℕ → HostCalled
 hostCoordinateLists b p number chains output =
     orRefusedWith
     (first (callChecks hostLimit b p (listSlots number) (slotsIn output) (workSlots (chainCells b) p)
-    ++ chainsChecks coefficientLimit b p number (chainFrom (number * n) chains)))
+    ++ chainsChecks coefficientLimit b p number (chainFrom (number * cells) chains)))
     output
     (finishedWith (reductionsOf pivotRule (chainCells b) p)
-    (λ s r x. splices (8 * n) (λ i. numbersBytes (coordinateList n s x (chainAt n (chainFrom (number * n) chains) i))) number output)
+    (λ s r x. splices (8 * cells) (λ i. numbersBytes (coordinateList cells s x (chainAt cells (chainFrom (number * cells) chains) i))) number output)
     output)
   where
-    n : ℕ
-    n = count (chainCells b) p
+    cells : ℕ
+    cells = count (chainCells b) p
 
 -- of the numbers that are told of so many chains, 0 for none, k is the first but 0
 pub record FirstFault (fault : ℕ → ℕ) (number k : ℕ) : Type 0 where
