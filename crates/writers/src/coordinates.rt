@@ -30,7 +30,7 @@ fn residue(x: i64, d: i64) -> i64
     if r < 0 { r + d } else { r }
 }
 
-// Row i of q times the chain.
+// Row i of q times the chain; coefficients of 0 are passed over.
 fn row_times_chain(q: Matrix, w: &[i32], i: usize, chain: &[i32]) -> i64
     requires { ⌜ Held (length (now w)) q × (i < q .lines) × (q .width ≡ length (now chain)) × (q .width ≤ libraryLimit) × Small (now w) ⌝ }
     requires { ⌜ ((j : ℕ) → natAbs (at (now chain) j) ≤ coefficientLimit) ⌝ }
@@ -40,7 +40,10 @@ fn row_times_chain(q: Matrix, w: &[i32], i: usize, chain: &[i32]) -> i64
     let mut total: i64 = 0;
     let mut j: usize = 0;
     while j < chain.len() {
-        total = total + w[line + j] as i64 * chain[j] as i64;
+        let x = chain[j];
+        if x != 0 {
+            total = total + w[line + j] as i64 * x as i64;
+        }
         j = j + 1;
     }
     total

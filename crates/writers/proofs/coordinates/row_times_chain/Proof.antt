@@ -1,6 +1,7 @@
 -- `coordinates::row_times_chain` meets its contract. The invariant: the total is the sum of the products passed, each of which is at most
 -- the product of the two limits. The measure is what is left of the chain. Assumes nothing.
 use mathlib.Core.Path.{_≡_, refl, sym, ap, subst, _∙_}
+use mathlib.Core.Logic.{⊎-elim}
 use mathlib.Core.List.{List}
 use Prim.Native.Nat.{ℕ, _+_, _*_, _-_, _≤_, _<_}
 use native.Mathlib.Nat as NatL
@@ -8,10 +9,11 @@ use native.Mathlib.Numerals.{add-one}
 use native.Mathlib.Omega.{arith}
 use borrow.Author.Needs.{needs}
 use lib.ListN.{length}
-use lib.IntN.{ℤ, natAbs, _+ℤ_, _*ℤ_}
+use lib.IntN.{ℤ, pos, natAbs, _+ℤ_, _*ℤ_}
 use mir.Syntax.{w32, w64}
 use mir.Val.{SFits, toZ}
 use mir.Facts.{toZ-ofZ}
+use Rattle.integers.specs.Ring.{add-zero, mul-zero}
 use Rattle.integers.specs.Order.{natAbs-mul, natAbs-add}
 use Rattle.matrices.specs.Sum.{sum}
 use Rattle.matrices.specs.SumLaws.{sum-ext}
@@ -20,7 +22,7 @@ use Rattle.limits.specs.Limits.{libraryLimit, coefficientLimit}
 use Rattle.reduction_steps.specs.Table.{entry}
 use Rattle.lines.specs.Slice.{entryLimit, at, Small}
 use Rattle.operations.specs.Laid.{linesOf}
-use Rattle.words.specs.Read.{read, sfits-below, entry-fits, cast-fits, cast-is}
+use Rattle.words.specs.Read.{read, sfits-below, entry-fits, cast-fits, cast-is, of-bits}
 use Rattle.lines.proofs.Spans.{line-span, span-inside}
 use Rattle.writers.proofs.Entries.{entry-lines}
 use Rattle.writers.proofs.coordinates.row_times_chain.Statement.{statement}
@@ -102,6 +104,22 @@ module _ {w chain : List ℤ} {line j : ℕ} {total : ℤ} (inv : Invariant w ch
       is : read w64 (raised total x y) ≡ total +ℤ x *ℤ y
       is = toZ-ofZ raised-word ∙ raised-is x y (inv .small .bound (line + j)) (inv .coefficients j) total j (inv .bound)
 
+  -- a coefficient of 0
+  passed : y ≡ pos 0 → Invariant w chain line (j + 1) total
+  unfolding sum
+  passed e = record {
+    below = omega arith;
+    inside = inv .inside;
+    short = inv .short;
+    small = inv .small;
+    coefficients = inv .coefficients;
+    so-far = rw add-one (inv .so-far ∙ sym (ap (λ (z : ℤ). sum j products +ℤ x *ℤ z) e ∙ ap (λ (z : ℤ). sum j products +ℤ z) (mul-zero x) ∙ add-zero (sum j products)));
+    bound = omega (arith, inv .bound);
+  }
+    where
+      products : ℕ → ℤ
+      products t = at w (line + t) *ℤ at chain t
+
 abbrev Inv-loop : tie.InvT-loop
 Inv-loop w i chain line total₀ j₀ total j = Invariant w chain line j (toZ w64 total)
 
@@ -125,24 +143,29 @@ loop-holds c =
 
 cast-total : tie.Need-cast-total Inv-loop μ-loop
 cast-total c =
-    let loop = c .before .before .loop in
-    cast-fits (at (c .before .before .before .before .args .w .now) (c .before .before .before .line .result + loop .j))
-    (entry-word (loop .inv) (c .before .loop-test .taken))
+    let loop = c .before .before .before .before .loop in
+    cast-fits (at (c .before .before .before .before .before .before .args .w .now) (c .before .before .before .before .before .line .result + loop .j))
+    (entry-word (loop .inv) (c .before .before .before .loop-test .taken))
 
 cast-total-2 : tie.Need-cast-total-2 Inv-loop μ-loop
 cast-total-2 c =
-    let loop = c .before .before .before .loop in
-    cast-fits (at (c .before .before .before .before .before .args .chain .now) (loop .j))
-    (coefficient-word (loop .inv) (c .before .before .loop-test .taken))
+    let loop = c .before .before .before .before .loop in
+    cast-fits (at (c .before .before .before .before .before .before .args .chain .now) (loop .j))
+    (coefficient-word (loop .inv) (c .before .before .before .loop-test .taken))
 
-mul-total-3 : tie.Need-mul-total-3 Inv-loop μ-loop
-mul-total-3 c = product-word (c .before .before .before .loop .inv) (c .before .before .loop-test .taken)
+mul-total-2 : tie.Need-mul-total-2 Inv-loop μ-loop
+mul-total-2 c = product-word (c .before .before .before .before .loop .inv) (c .before .before .before .loop-test .taken)
 
 add-total-2 : tie.Need-add-total-2 Inv-loop μ-loop
-add-total-2 c = raised-word (c .before .before .before .loop .inv) (c .before .before .loop-test .taken)
+add-total-2 c = raised-word (c .before .before .before .before .loop .inv) (c .before .before .before .loop-test .taken)
 
 loop-again : tie.Need-loop-again Inv-loop μ-loop
-loop-again c = again (c .before .before .before .loop .inv) (c .before .before .loop-test .taken)
+loop-again c =
+    let loop = c .before .before .before .loop in let more = c .before .before .loop-test .taken in
+    ⊎-elim
+    (λ w. rw (w .2) (again (loop .inv) more))
+    (λ w. rw (w .1) (passed (loop .inv) more (of-bits (coefficient-word (loop .inv) more) (w .0 .left))))
+    (c .if1 .came)
 
 returns : tie.Need-returns Inv-loop μ-loop
 unfolding apply
@@ -158,5 +181,5 @@ returns c =
 pub row-times-chain-spec : {M : Type 1} → statement M
 row-times-chain-spec =
     tie.close
-    (tie.spec Inv-loop μ-loop (λ c κs. search needs) loop-holds (λ c. omega arith) (λ c. omega arith) (λ c. omega arith) cast-total (λ c. omega arith)
-    (λ c. omega arith) cast-total-2 mul-total-3 add-total-2 (λ c. omega arith) (λ c. omega arith) loop-again returns)
+    (tie.spec Inv-loop μ-loop (λ c κs. search needs) loop-holds (λ c. omega arith) (λ c. omega arith) (λ c. omega arith) (λ c. omega arith) (λ c. omega arith)
+    cast-total cast-total-2 mul-total-2 add-total-2 (λ c. omega arith) (λ c. omega arith) loop-again returns)
