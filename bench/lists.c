@@ -1,8 +1,8 @@
 /* Times the coordinate lists of 40 loops in one call beside single calls, in turn in one process: by the library, then by the host calls on sheets
  * of up to 48 cells. Of a further loop it tells the time of its checks, 11 and 12, and the rest, beside the number of its products, n_1 * (t + b).
  * The aims are 40 loops for less than 3 single calls at about 250 cells, and for less than 6 below. Ends with an error where a list is not that of
- * the single call, or an aim is missed on a sheet with cells of dimension 2. On a graph, which has none, a single call makes one reduction only,
- * and the products of 40 loops may take longer than it: a missed aim is told, and is no error. Usage: lists FILE.sheet .. */
+ * the single call, or an aim is missed on a sheet with cells of dimension 2. On a graph, which has none, the second reduction has no columns, and
+ * the products of 40 loops may take longer than a single call: a missed aim is told, and is no error. Usage: lists FILE.sheet .. */
 #include "fildwuk.h"
 #include "library.h"
 #include "timing.h"

@@ -2,7 +2,6 @@
  * and asks for the coordinates of all its loops in one call. Usage: solver FILE.sheet */
 #include <inttypes.h>
 #include <stdio.h>
-#include <string.h>
 
 #include "fildwuk.h"
 

@@ -34,7 +34,7 @@ enum fildwuk_answer {
     FILDWUK_FACE_MISSING = 7,          /* a face is missing */
     FILDWUK_DIMENSION_EXCEEDS_TOP = 8, /* the dimension exceeds 3 */
     FILDWUK_SLICE_TOO_SHORT = 9,       /* the output is too short */
-    FILDWUK_CHAIN_LENGTH_DIFFERS = 10, /* the chain has other than 4 * n bytes, or the chains have other than 4 * number * n */
+    FILDWUK_CHAIN_LENGTH_DIFFERS = 10, /* the chain has other than 4 * n bytes, or the chains have other than 4 * number * n bytes */
     FILDWUK_COEFFICIENT_EXCEEDS = 11,  /* a coefficient lies outside -32767 to 32767 */
     FILDWUK_BOUNDARY_NOT_ZERO = 12,    /* a chain is no cycle */
     FILDWUK_TOO_WIDE = 13              /* the reduction makes an entry beyond 1048575 */
@@ -48,7 +48,7 @@ enum fildwuk_answer {
 #define FILDWUK_COORDINATE_BYTES(n) (8 * (size_t)(n))
 #define FILDWUK_CHAIN_BYTES(n) (4 * (size_t)(n))
 
-/* The bytes to lend for so many chains of n cells each, and for their coordinate lists. */
+/* The bytes to lend for `number` chains of n coefficients each, and for their coordinate lists. */
 #define FILDWUK_CHAINS_BYTES(number, n) ((size_t)(number) * FILDWUK_CHAIN_BYTES(n))
 #define FILDWUK_COORDINATE_LISTS_BYTES(number, n) ((size_t)(number) * FILDWUK_COORDINATE_BYTES(n))
 

@@ -33,11 +33,11 @@ use Rattle.answers.specs.Numbers.{coordinates-length}
 use Rattle.answers.specs.Calls.{call-leaves, passed-chains, call-answers, Answered, answered}
 use Rattle.answers.specs.CoordinateCall.{coordinatesBefore, coordinatesLeft, coordinates-passed}
 
--- a chain that is one of many passes the checks of a single call
-pub chain-passed : (limit : ℕ) (b : List ℕ) (p : ℕ) (chains : List ℤ) (i : ℕ) → length (chainAt (count (chainCells b) p) chains i) ≡ count (chainCells b) p
+-- of a chain with n_p coefficients, 10 to 12 tell what 11 and 12 tell
+pub chain-told : (limit : ℕ) (b : List ℕ) (p : ℕ) (chains : List ℤ) (i : ℕ) → length (chainAt (count (chainCells b) p) chains i) ≡ count (chainCells b) p
     → first (chainChecks limit b p (chainAt (count (chainCells b) p) chains i)) ≡ fault limit b p chains i
 unfolding chainChecks
-chain-passed limit b p chains i e = rw (eq-eqb (length (chainAt (count (chainCells b) p) chains i)) (count (chainCells b) p) e)
+chain-told limit b p chains i e = rw (eq-eqb (length (chainAt (count (chainCells b) p) chains i)) (count (chainCells b) p) e)
 
 module _ (limit : ℕ) (b : List ℕ) (p number : ℕ) (chains coordinates work : List ℤ) where
   -- n_p
@@ -127,7 +127,7 @@ module _ (limit : ℕ) (b : List ℕ) (p number : ℕ) (chains coordinates work 
             coordinates-passed limit b p (chainAt n chains i) coordinates′ work′ .1 (
               callChecks-zero limit b p coordinateSlots (length coordinates′) (length work′) .1
                   (record { accepted = passed .accepted; dimension = passed .dimension; output-slots = room; work-slots = space }),
-              chain-passed coefficientLimit b p chains i (length-chainAt n number chains (chains-passed .0) i next) ∙ chains-passed .1 i next,
+              chain-told coefficientLimit b p chains i (length-chainAt n number chains (chains-passed .0) i next) ∙ chains-passed .1 i next,
             )
 
         pub single-answer : single .answer ≡ done counts

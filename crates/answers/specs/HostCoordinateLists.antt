@@ -36,7 +36,7 @@ use Rattle.answers.specs.Calls.{passed-chains}
 use Rattle.answers.specs.Fits.{coordinates-word}
 use Rattle.answers.specs.HostCalls.{host-left, host-number, host-output, host-reads, HostDone, host-answers, host-done}
 use Rattle.answers.specs.HostCoordinates.{hostCoordinatesBefore}
-use Rattle.answers.specs.CoordinateLists.{chain-passed}
+use Rattle.answers.specs.CoordinateLists.{chain-told}
 
 module _ (b : List ℕ) (bytes : Bytes b) (p number : ℕ) (chains output : List ℕ) where
   -- n_p
@@ -189,7 +189,7 @@ module _ (b : List ℕ) (bytes : Bytes b) (p number : ℕ) (chains output : List
               callChecks-zero hostLimit b p coordinateSlots (slotsIn output′) (workSlots (chainCells b) p) .1
                   (record { accepted = passed .accepted; dimension = passed .dimension; output-slots = room; work-slots = passed .work-slots }),
               ap (λ (z : List ℤ). first (chainChecks coefficientLimit b p z)) alone-is
-                  ∙ chain-passed coefficientLimit b p given i (length-chainAt n number given (passed-both (h .passes) .1) i next) ∙ passed-both (h .passes) .2 i next,
+                  ∙ chain-told coefficientLimit b p given i (length-chainAt n number given (passed-both (h .passes) .1) i next) ∙ passed-both (h .passes) .2 i next,
             )
 
         pub host-single-number : single .number ≡ 0

@@ -44,14 +44,14 @@ module _ (l : Lent) (number : ℕ) (chains : List ℤ) where
   cells = count (chainCells (l .sheet)) (l .dimension)
 
   -- the refusals before the reductions: 1 to 9, then 10 to 12
-  abbrev sheetChecks : List (ℕ × Bool)
-  sheetChecks = callChecks (l .limit) (l .sheet) (l .dimension) (listSlots number) (length (l .output)) (length (l .work))
+  abbrev callChecked : List (ℕ × Bool)
+  callChecked = callChecks (l .limit) (l .sheet) (l .dimension) (listSlots number) (length (l .output)) (length (l .work))
 
   abbrev chainChecked : List (ℕ × Bool)
   chainChecked = chainsChecks coefficientLimit (l .sheet) (l .dimension) number chains
 
   abbrev before-reductions : ℕ
-  before-reductions = first (sheetChecks ++ chainChecked)
+  before-reductions = first (callChecked ++ chainChecked)
 
   -- what the coordinates leave
   abbrev left : ℕ → ℕ → State → List ℤ
@@ -60,7 +60,7 @@ module _ (l : Lent) (number : ℕ) (chains : List ℤ) where
   abbrev pub listsCalled : Called
   listsCalled = coordinateListsCall (l .limit) (l .sheet) (l .dimension) number chains (l .output) (l .work)
 
-  pub lists-refuse : {x : Refusal} → first sheetChecks ≡ numberOf x → CallAnswers listsCalled (Refused x) (l .output) (l .work)
+  pub lists-refuse : {x : Refusal} → first callChecked ≡ numberOf x → CallAnswers listsCalled (Refused x) (l .output) (l .work)
   unfolding coordinateListsCall
   lists-refuse {x} e =
       refuses before-reductions (twice (asked l)) left (l .output) (l .work)

@@ -21,7 +21,7 @@ pub struct Sizes {
     pub columns: usize,
 }
 
-// What a call asks of a dimension: its report, or the coordinates of so many chains.
+// What a call asks of a dimension: its report, or the coordinates of a number of chains.
 pub enum Request {
     Report,
     Coordinates(usize),
@@ -53,7 +53,7 @@ fn sizes_of(s: &[u8], p: usize) -> Sizes
 }
 
 impl Request {
-    // Whether an output of so many slots is too short. The number of chains may be any, so that no product is made of it.
+    // Whether an output of `output` slots is too short. The slots are divided by the cells, because a product with the number of chains could wrap.
     fn lacks_slots(self, sizes: Sizes, output: usize) -> bool
         requires { ⌜ sizes .cells < 65536 ⌝ }
         ensures { λ r. ⌜ r ≡ ltb output (slotsFor self sizes) ⌝ }

@@ -18,7 +18,7 @@ use sheet::reader::Sheet;
 use writers::coordinates::write_lists;
 use writers::kind::counts;
 
-// The coordinate lists of so many cycles: document 02, Note 1.
+// The coordinate lists of `number` chains: document 02, Note 1.
 pub fn coordinate_lists(
     s: &[u8],
     dimension: u32,
@@ -64,7 +64,7 @@ pub fn coordinate_lists(
     Answer::Done(counts)
 }
 
-// The coordinates of a cycle: document 01, "The report and the coordinates".
+// The coordinates of a chain: document 01, "The report and the coordinates".
 pub fn coordinates(
     s: &[u8],
     dimension: u32,

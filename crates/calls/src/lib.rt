@@ -1,4 +1,4 @@
-// The library's calls: the report of a dimension and the coordinates of a cycle.
+// The library's calls: the report of a dimension, and the coordinates of one chain or of many.
 pub mod admission;
 pub mod answer;
 pub mod coordinates;

@@ -37,14 +37,14 @@ pub fn check_chain(s: &[u8], p: usize, chain: &[i32]) -> Check
     Check::Passed
 }
 
-// How many of so many chains have coefficients: where there are no cells, there is nothing to do, however many there are.
+// How many of the `number` chains have coefficients: none where there are no cells.
 pub fn nonempty(number: usize, cells: usize) -> usize
     ensures { λ r. ⌜ r ≡ nonempty number cells ⌝ }
 {
     if cells == 0 { 0 } else { number }
 }
 
-// The first of 11 and 12 that applies to the first faulty of so many chains.
+// The first of 11 and 12 that applies to the first faulty of the `number` chains.
 pub fn check_chains(s: &[u8], p: usize, cells: usize, number: usize, chains: &[i32]) -> Check
     requires { ⌜ Accepted (now s) ⌝ }
     requires { ⌜ (p ≤ top) × (cells ≡ count (chainCells (now s)) p) × (length (now chains) ≡ number * cells) ⌝ }

@@ -1,3 +1,3 @@
-// The checks of a given chain: document 01, the refusals 11 and 12.
+// The checks of given chains: document 01, the refusals 11 and 12.
 pub mod chain;
 pub mod check;

@@ -50,7 +50,8 @@ CoordinateNumbers =
     Answers (first (callChecks limit b p coordinateSlots (length coordinates) (length work) ++ chainChecks coefficientLimit b p z)) (TooWide b p)
     (answerNumber (coordinateCall limit b p z coordinates work .answer))
 
--- the call on many chains:
+-- the call on many chains; 02, Note 1, "Check 10 wants that number times n_p coefficients .. Check 9 wants n_p slots for each chain", and with number 0
+-- "With no chains, 1 to 10 and 13 still apply":
 abbrev pub ListNumbers : Type 0
 ListNumbers =
     (limit : ℕ) (b : List ℕ) (p number : ℕ) (chains coordinates work : List ℤ) → Bytes b →
@@ -58,13 +59,15 @@ ListNumbers =
     (first (callChecks limit b p (listSlots number) (length coordinates) (length work) ++ chainsChecks coefficientLimit b p number chains)) (TooWide b p)
     (answerNumber (coordinateListsCall limit b p number chains coordinates work .answer))
 
--- 02, Note 1, "The first faulty chain decides between 11 and 12": where 10 does not apply, a number is told exactly when it is the first that the
--- checks of a single call tell of a chain
+-- 02, Note 1, "The first faulty chain decides between 11 and 12": where none of 1 to 10 applies, a number other than 13 is answered exactly when it is
+-- the first that the checks of a single call tell of a chain
 abbrev pub FirstFaultyChain : Type 0
 FirstFaultyChain =
-    (limit : ℕ) (b : List ℕ) (p number : ℕ) (chains : List ℤ) → length chains ≡ number * count (sectionsOf b) p → (k : ℕ) → k ≢ 0 →
-    (first (chainsChecks limit b p number chains) ≡ k)
-    ↔ FirstFault (λ i. first (chainChecks limit b p (chainAt (count (sectionsOf b) p) chains i))) number k
+    (limit : ℕ) (b : List ℕ) (p number : ℕ) (chains coordinates work : List ℤ) → Bytes b →
+    first (callChecks limit b p (listSlots number) (length coordinates) (length work)) ≡ 0 → length chains ≡ number * count (sectionsOf b) p →
+    (k : ℕ) → k ≢ 0 → k ≢ 13 →
+    (answerNumber (coordinateListsCall limit b p number chains coordinates work .answer) ≡ k)
+    ↔ FirstFault (λ i. first (chainChecks coefficientLimit b p (chainAt (count (sectionsOf b) p) chains i))) number k
 
 -- 01, "12. The chain has a nonzero boundary": among 10 to 12 it is told exactly when 10 and 11 do not apply and the chain is no cycle,
 -- whatever the coefficient limit
@@ -84,7 +87,7 @@ CoordinatesLeave =
     (limit : ℕ) (b : List ℕ) (p : ℕ) (z coordinates work : List ℤ) → Bytes b →
     Leaves (λ f t. t + f) coordinates work (coordinateCall limit b p z coordinates work)
 
--- the call on many chains, with n_p slots for each list:
+-- the call on many chains, with n_p slots for each list; 02, Note 1, "and then nothing is written":
 abbrev pub ListsLeave : Type 0
 ListsLeave =
     (limit : ℕ) (b : List ℕ) (p number : ℕ) (chains coordinates work : List ℤ) → Bytes b →
@@ -227,6 +230,15 @@ HostListNumbers =
     (first (callChecks hostLimit b p (listSlots number) (slotsIn coordinates) (workSlots (sectionsOf b) p)
     ++ chainsChecks coefficientLimit b p number (chainFrom (number * count (sectionsOf b) p) chains)))
     (TooWide b p) (hostCoordinateLists b p number chains coordinates .number)
+
+-- the first faulty chain decides, by its own bytes
+abbrev pub HostFirstFaultyChain : Type 0
+HostFirstFaultyChain =
+    (b : List ℕ) (p number : ℕ) (chains coordinates : List ℕ) → Bytes b →
+    first (callChecks hostLimit b p (listSlots number) (slotsIn coordinates) (workSlots (sectionsOf b) p)) ≡ 0 →
+    length chains ≡ 4 * (number * count (sectionsOf b) p) → (k : ℕ) → k ≢ 0 → k ≢ 13 →
+    (hostCoordinateLists b p number chains coordinates .number ≡ k)
+    ↔ FirstFault (λ i. first (chainChecks coefficientLimit b p (chainFrom (count (sectionsOf b) p) (chainBytes (count (sectionsOf b) p) chains i)))) number k
 
 -- demand 1, "a refusal leaves report and coordinate slices untouched"
 abbrev pub HostReportLeft : Type 0

@@ -3,7 +3,8 @@
 --     twice-bounds, loop-differs           what demand 3 then says: the loop and its opposite differ by a boundary, the loop and twice it do not
 --     plane-lists, plane-list, ..          two chains in one call of the library and of the host, both done, and a list of each
 --     plane-host-report, ..                the same through the host calls, and an accepted sheet for the program
---     triangle-no-cycle, triangle-first    a chain that is no cycle, on the hollow triangle; and the first faulty of two chains
+--     triangle-no-cycle, triangle-first,
+--     triangle-host-first                  a chain that is no cycle, on the hollow triangle; and the first faulty of two chains
 --     plane-goes-wide                      the two reductions go too wide, at the entry limit 1; at 1,048,575 no sheet that computes here does
 use mathlib.Core.Path.{_≡_, refl, sym, _∙_, ap, subst}
 use mathlib.Core.List.{List, [], _∷_, _++_}
@@ -29,7 +30,7 @@ use Rattle.reduction_steps.specs.Pivot.{release1}
 use Rattle.reduction_steps.specs.PivotLaws.{release1-is-rule}
 use Rattle.limits.specs.Limits.{hostLimit, coefficientLimit}
 use Rattle.reports.specs.Call.{Called, callChecks, chainChecks, coefficientExceeds, boundaryNotZero, reportSlots, coordinateSlots, workSlots, reportCall, coordinateCall}
-use Rattle.reports.specs.Lists.{chainAt, listSlots, cyclesChecks, chainsChecks, coordinateListsCall, hostCoordinateLists, FirstFault}
+use Rattle.reports.specs.Lists.{chainAt, chainBytes, listSlots, cyclesChecks, chainsChecks, coordinateListsCall, hostCoordinateLists, FirstFault}
 use Rattle.reports.specs.Host.{coefficientAt, coefficientIn, chainFrom, slotsIn, numberAt, hostReport, hostCoordinates}
 use Rattle.reports.specs.RefusalLaws.{callChecks-zero}
 use Rattle.answers.specs.Homology.{IsBoundary}
@@ -41,7 +42,7 @@ use Rattle.projective_plane.specs.Plane.{cells, sheet, loop, twice, backwards}
 use Rattle.projective_plane.specs.Examples.{nines, counts, plane-calls, plane-too-wide}
 use Rattle.demands.specs.Claims.{TooWide, CoordinatesOf, ReportOf}
 use Rattle.demands.specs.Claims as claims
-use Rattle.demands.specs.Proofs.{reportNumbers, listNumbers, firstFaultyChain, listsLeave, notACycle, coordinateCounts, coordinatesDecide, hostReportNumbers, hostCoordinateNumbers, hostListNumbers}
+use Rattle.demands.specs.Proofs.{reportNumbers, listNumbers, firstFaultyChain, hostFirstFaultyChain, listsLeave, notACycle, coordinateCounts, coordinatesDecide, hostReportNumbers, hostCoordinateNumbers, hostListNumbers}
 
 -- ---- a sheet of bytes
 
@@ -205,11 +206,28 @@ abbrev pub faulty : List ℤ
 faulty = pos 1 ∷ pos 0 ∷ pos 0 ∷ pos 32768 ∷ pos 0 ∷ pos 0 ∷ []
 
 pub triangle-first : FirstFault (λ i. first (chainChecks coefficientLimit hollowTriangle 1 (chainAt (count (sectionsOf hollowTriangle) 1) faulty i))) 2 12
-unfolding chainsChecks cyclesChecks countField cellOf cellsOf sectionsOf chainCells some without same start countBelow tabulate coefficientExceeds boundaryNotZero boundary coefficient sign apply sum
-triangle-first = firstFaultyChain coefficientLimit hollowTriangle 1 2 faulty size 12 (λ e. absurd (omega arith)) .0 told
+unfolding every coordinateListsCall callChecks chainsChecks cyclesChecks countField offsetField cellOf cellsOf sectionsOf chainCells some verticesDoNotRise cellsDoNotRise faceMissing without same rises precedes listed start refusal countBelow tabulate coefficientExceeds boundaryNotZero boundary coefficient sign apply sum
+triangle-first = firstFaultyChain 256 hollowTriangle 1 2 faulty (nines 6) (nines 27) (record { small = bytes-of hollowTriangle tt }) passed refl 12 (λ e. absurd (omega arith)) (λ e. absurd (omega arith)) .0 told
   where
-    size : length faulty ≡ 2 * count (sectionsOf hollowTriangle) 1
-    size = refl
+    passed : first (callChecks 256 hollowTriangle 1 (listSlots 2) (length (nines 6)) (length (nines 27))) ≡ 0
+    passed = refl
 
-    told : first (chainsChecks coefficientLimit hollowTriangle 1 2 faulty) ≡ 12
+    told : answerNumber (coordinateListsCall 256 hollowTriangle 1 2 faulty (nines 6) (nines 27) .answer) ≡ 12
+    told = refl
+
+-- the same two chains in bytes
+abbrev pub faulty-bytes : List ℕ
+faulty-bytes = 1 ∷ (replicate 11 0 ++ (0 ∷ 128 ∷ replicate 10 0))
+
+pub triangle-host-first :
+    FirstFault (λ i. first (chainChecks coefficientLimit hollowTriangle 1 (chainFrom (count (sectionsOf hollowTriangle) 1) (chainBytes (count (sectionsOf hollowTriangle) 1) faulty-bytes i)))) 2 12
+unfolding every hostCoordinateLists callChecks chainsChecks cyclesChecks chainFrom coefficientAt countField offsetField cellOf cellsOf sectionsOf chainCells some verticesDoNotRise cellsDoNotRise faceMissing without same rises precedes listed start refusal countBelow tabulate coefficientExceeds boundaryNotZero boundary coefficient sign apply sum
+triangle-host-first =
+    hostFirstFaultyChain hollowTriangle 1 2 faulty-bytes (replicate 48 9) (record { small = bytes-of hollowTriangle tt }) passed refl 12 (λ e. absurd (omega arith))
+    (λ e. absurd (omega arith)) .0 told
+  where
+    passed : first (callChecks hostLimit hollowTriangle 1 (listSlots 2) (slotsIn (replicate 48 9)) (workSlots (sectionsOf hollowTriangle) 1)) ≡ 0
+    passed = refl
+
+    told : hostCoordinateLists hollowTriangle 1 2 faulty-bytes (replicate 48 9) .number ≡ 12
     told = refl

@@ -1,13 +1,14 @@
 -- The owner's demands: what `Claims` states, proved. The claims speak of the cells of the sheet, the calls of `chainCells`, which are these.
 use mathlib.Core.Path.{_≡_, refl, sym, _∙_, ap, ap₂, subst}
 use mathlib.Core.Logic.{_↔_}
-use mathlib.Core.List.{List}
+use mathlib.Core.List.{List, _++_}
 use Prim.Native.Nat.{ℕ, _+_, _*_, _<_}
 use native.Mathlib.Omega.{arith}
 use lib.ListN.{length, drop, replicate, length-replicate}
 use lib.Seq.{getD-take, getD-drop}
 use lib.IntN.{ℤ, pos, _-ℤ_}
 use lib.Signed.{_<ℤ_}
+use Rattle.limits.specs.Limits.{hostLimit, coefficientLimit}
 use Rattle.complexes.specs.Complex.{count}
 use Rattle.sheet_format.specs.Check.{first, sectionsOf, chainCells}
 use Rattle.sheet_format.specs.Sheet.{Bytes}
@@ -18,12 +19,14 @@ use Rattle.reduction_steps.specs.State.{State}
 use Rattle.reduction_steps.specs.Pivot.{pivotRule}
 use Rattle.reports.specs.Report.{Counts, freeRank, torsionCount}
 use Rattle.reports.specs.Reductions.{Reductions, tooWide, reduced}
-use Rattle.reports.specs.Call.{done, workSlots, reductionsOf, reportCall, coordinateCall}
-use Rattle.reports.specs.Lists.{chainAt, chainBytes, cyclesChecks, FirstFault}
+use Rattle.reports.specs.Call.{done, callChecks, chainChecks, workSlots, reductionsOf, reportCall, coordinateCall}
+use Rattle.reports.specs.Lists.{chainAt, chainBytes, listSlots, cyclesChecks, chainsChecks, coordinateListsCall, hostCoordinateLists, FirstFault}
+use Rattle.reports.specs.RefusalLaws.{call-passed}
 use Rattle.reports.specs.ChainsLaws.{length-chainAt, fault, cycles-told, chains-sized}
-use Rattle.reports.specs.Host.{chainFrom, coefficientIn, hostCoordinates, numberAt}
-use Rattle.reports.specs.HostChainsLaws.{coefficientIn-part}
+use Rattle.reports.specs.Host.{chainFrom, coefficientIn, slotsIn, hostCoordinates, numberAt}
+use Rattle.reports.specs.HostChainsLaws.{length-chainFrom, coefficientIn-part, chainFrom-part}
 use Rattle.reports.specs.TextLaws.{programText-take}
+use Rattle.answers.specs.Called.{answerNumber}
 use Rattle.answers.specs.Homology.{IsCycle, IsBoundary}
 use Rattle.answers.specs.Right.{slot, orderIn, generatorIn, IsRight, HasCounts}
 use Rattle.answers.specs.TwoReductions.{Right}
@@ -32,7 +35,7 @@ use Rattle.answers.specs.ReportRight.{Reads, report-is-right, has-counts, count
 use Rattle.answers.specs.CoordinatesRight.{ReadsCoordinates, coordinates-decide, coordinates-combine, coordinates-reduced}
 use Rattle.answers.specs.ReportCall.{report-answers, report-leaves, report-answered, report-reads}
 use Rattle.answers.specs.CoordinateCall.{coordinates-answer, coordinates-leave, coordinates-answered, coordinates-read, chain-cycle}
-use Rattle.answers.specs.CoordinateLists.{chain-passed, lists-answer, lists-leave, lists-answered, lists-single, lists-between, single-answer}
+use Rattle.answers.specs.CoordinateLists.{chain-told, lists-answer, lists-leave, lists-answered, lists-single, lists-between, single-answer}
 use Rattle.answers.specs.HostCoordinateLists.{host-lists-answer, host-lists-left, host-lists-kept, host-listed, host-lists-size, host-lists-between, host-single-number, host-lists-single}
 use Rattle.answers.specs.HostReport.{host-report-answers, host-report-left, host-reported}
 use Rattle.answers.specs.HostCoordinates.{host-coordinates-answer, host-coordinates-left, host-coordinated, given-coefficient}
@@ -40,7 +43,7 @@ use Rattle.answers.specs.ProgramText.{refused-iff, dimensions-printed}
 use Rattle.demands.specs.Claims.{ReportNumbers, CoordinateNumbers, NotACycle, ReportLeaves, CoordinatesLeave, Acceptance, SheetCells, Reports, CoordinateCounts, SameCounts}
 use Rattle.demands.specs.Claims.{CoordinatesOf, ReportOf, CoordinatesDecide, CoordinatesCombine, CoordinatesReduced}
 use Rattle.demands.specs.Claims.{HostReportNumbers, HostCoordinateNumbers, HostReportLeft, HostCoordinatesLeft, HostReports, HostCoordinateCounts}
-use Rattle.demands.specs.Claims.{ListNumbers, FirstFaultyChain, ListsLeave, ListCounts, ListsSingle, HostListsSingle, HostListNumbers, HostListsLeft, HostListCounts}
+use Rattle.demands.specs.Claims.{ListNumbers, FirstFaultyChain, HostFirstFaultyChain, ListsLeave, ListCounts, ListsSingle, HostListsSingle, HostListNumbers, HostListsLeft, HostListCounts}
 use Rattle.demands.specs.Claims.{ProgramRefuses, ProgramPrints, ProgramInput}
 use Rattle.demands.specs.Claims as claims
 
@@ -58,28 +61,37 @@ pub listNumbers : ListNumbers
 unfolding chainCells
 listNumbers = lists-answer
 
+-- the first fault among numbers that are the same
+fault-same : {f g : ℕ → ℕ} (number k : ℕ) → ((i : ℕ) → i < number → f i ≡ g i) → FirstFault f number k → FirstFault g number k
+fault-same number k same h = record {
+  place = h .place;
+  within = h .within;
+  told = sym (same (h .place) (h .within)) ∙ h .told;
+  earlier = λ i l. sym (same i (omega (arith, h .within))) ∙ h .earlier i l;
+}
+
 pub firstFaultyChain : FirstFaultyChain
 unfolding chainCells
-firstFaultyChain limit b p number chains size k nonzero = (
-  λ e. let f = iff .0 (sym (chains-sized limit b p chains number size) ∙ e) in record {
-    place = f .place;
-    within = f .within;
-    told = chain-passed limit b p chains (f .place) (long (f .place) (f .within)) ∙ f .told;
-    earlier = λ i l. chain-passed limit b p chains i (long i (omega (arith, f .within))) ∙ f .earlier i l;
-  },
-  λ f. chains-sized limit b p chains number size ∙ iff .1 (record {
-    place = f .place;
-    within = f .within;
-    told = sym (chain-passed limit b p chains (f .place) (long (f .place) (f .within))) ∙ f .told;
-    earlier = λ i l. sym (chain-passed limit b p chains i (long i (omega (arith, f .within)))) ∙ f .earlier i l;
-  }),
+firstFaultyChain limit b p number chains coordinates work bytes passed size k nonzero narrow = (
+  λ e. fault-same number k (λ i l. sym (same i l)) (iff .0 (sym before ∙ answers .0 e)),
+  λ f. answers .1 (before ∙ iff .1 (fault-same number k same f)),
 )
   where
-    iff : (first (cyclesChecks limit b p number chains) ≡ k) ↔ FirstFault (fault limit b p chains) number k
-    iff = cycles-told limit b p chains number k nonzero
+    answers : (answerNumber (coordinateListsCall limit b p number chains coordinates work .answer) ≡ k)
+        ↔ (first (callChecks limit b p (listSlots number) (length coordinates) (length work) ++ chainsChecks coefficientLimit b p number chains) ≡ k)
+    answers = lists-answer limit b p number chains coordinates work bytes .earlier k nonzero narrow
 
-    long : (i : ℕ) → i < number → length (chainAt (count (chainCells b) p) chains i) ≡ count (chainCells b) p
-    long = length-chainAt (count (chainCells b) p) number chains size
+    before : first (callChecks limit b p (listSlots number) (length coordinates) (length work) ++ chainsChecks coefficientLimit b p number chains)
+        ≡ first (cyclesChecks coefficientLimit b p number chains)
+    before =
+        call-passed limit b p (listSlots number) (length coordinates) (length work) (chainsChecks coefficientLimit b p number chains) passed
+        ∙ chains-sized coefficientLimit b p chains number size
+
+    iff : (first (cyclesChecks coefficientLimit b p number chains) ≡ k) ↔ FirstFault (fault coefficientLimit b p chains) number k
+    iff = cycles-told coefficientLimit b p chains number k nonzero
+
+    same : (i : ℕ) → i < number → first (chainChecks coefficientLimit b p (chainAt (count (chainCells b) p) chains i)) ≡ fault coefficientLimit b p chains i
+    same i l = chain-told coefficientLimit b p chains i (length-chainAt (count (chainCells b) p) number chains size i l)
 
 pub notACycle : NotACycle
 unfolding chainCells
@@ -326,6 +338,40 @@ hostCoordinateNumbers b p chain coordinates bytes = host-coordinates-answer b by
 pub hostListNumbers : HostListNumbers
 unfolding chainCells
 hostListNumbers b p number chains coordinates bytes = host-lists-answer b bytes p number chains coordinates
+
+pub hostFirstFaultyChain : HostFirstFaultyChain
+unfolding chainCells
+hostFirstFaultyChain b p number chains coordinates bytes passed size k nonzero narrow = (
+  λ e. fault-same number k (λ i l. sym (same i l)) (iff .0 (sym before ∙ answers .0 e)),
+  λ f. answers .1 (before ∙ iff .1 (fault-same number k same f)),
+)
+  where
+    n : ℕ
+    n = count (chainCells b) p
+
+    given : List ℤ
+    given = chainFrom (number * n) chains
+
+    sized : length given ≡ number * n
+    sized = length-chainFrom (number * n) chains size
+
+    answers : (hostCoordinateLists b p number chains coordinates .number ≡ k)
+        ↔ (first (callChecks hostLimit b p (listSlots number) (slotsIn coordinates) (workSlots (chainCells b) p) ++ chainsChecks coefficientLimit b p number given) ≡ k)
+    answers = host-lists-answer b bytes p number chains coordinates .earlier k nonzero narrow
+
+    before : first (callChecks hostLimit b p (listSlots number) (slotsIn coordinates) (workSlots (chainCells b) p) ++ chainsChecks coefficientLimit b p number given)
+        ≡ first (cyclesChecks coefficientLimit b p number given)
+    before =
+        call-passed hostLimit b p (listSlots number) (slotsIn coordinates) (workSlots (chainCells b) p) (chainsChecks coefficientLimit b p number given) passed
+        ∙ chains-sized coefficientLimit b p given number sized
+
+    iff : (first (cyclesChecks coefficientLimit b p number given) ≡ k) ↔ FirstFault (fault coefficientLimit b p given) number k
+    iff = cycles-told coefficientLimit b p given number k nonzero
+
+    same : (i : ℕ) → i < number → first (chainChecks coefficientLimit b p (chainFrom n (chainBytes n chains i))) ≡ fault coefficientLimit b p given i
+    same i l =
+        ap (λ (z : List ℤ). first (chainChecks coefficientLimit b p z)) (chainFrom-part n number chains size i l)
+        ∙ chain-told coefficientLimit b p given i (length-chainAt n number given sized i l)
 
 pub hostReportLeft : HostReportLeft
 hostReportLeft b p report bytes = host-report-left b bytes p report

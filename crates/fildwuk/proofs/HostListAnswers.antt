@@ -51,14 +51,14 @@ module _ (b : List ℕ) (p number : ℕ) (chains output : List ℕ) {work : ℕ}
   coefficients = chainFrom (number * cells) chains
 
   -- the refusals before the reductions: 1 to 9, then 10 to 12
-  abbrev sheetChecks : ℕ → List (ℕ × Bool)
-  sheetChecks w = callChecks hostLimit b p (listSlots number) (slotsIn output) w
+  abbrev callChecked : ℕ → List (ℕ × Bool)
+  callChecked w = callChecks hostLimit b p (listSlots number) (slotsIn output) w
 
   abbrev chainChecked : List (ℕ × Bool)
   chainChecked = chainsChecks coefficientLimit b p number coefficients
 
   abbrev before-reductions : ℕ
-  before-reductions = first (sheetChecks (workSlots (chainCells b) p) ++ chainChecked)
+  before-reductions = first (callChecked (workSlots (chainCells b) p) ++ chainChecked)
 
   -- what the coordinates leave
   abbrev left : ℕ → ℕ → State → List ℕ
@@ -70,11 +70,11 @@ module _ (b : List ℕ) (p number : ℕ) (chains output : List ℕ) {work : ℕ}
   abbrev asked : Asked
   asked = hostAsked b p output work
 
-  pub lists-refuse : (x : Refusal) → first (sheetChecks work) ≡ numberOf x → HostAnswers called (numberOf x) output
+  pub lists-refuse : (x : Refusal) → first (callChecked work) ≡ numberOf x → HostAnswers called (numberOf x) output
   unfolding hostCoordinateLists
   lists-refuse x e = refuses before-reductions (twice asked) left output x (call-told hostLimit b p (listSlots number) (slotsIn output) (workSlots (chainCells b) p) chainChecked (λ q. absurd (omega (arith, told, number-positive x))) ∙ told)
     where
-      told : first (sheetChecks (workSlots (chainCells b) p)) ≡ numberOf x
+      told : first (callChecked (workSlots (chainCells b) p)) ≡ numberOf x
       told = sym (same-work b p (listSlots number) (slotsIn output) work space) ∙ e
 
   module _ {n : Sizes} (g : Granted asked (Coordinates number) n) where

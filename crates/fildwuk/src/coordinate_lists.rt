@@ -1,5 +1,5 @@
-// The coordinate lists of many chains, from bytes to bytes. There is room for one chain and one list: each chain is read, checked and answered by
-// itself.
+// The coordinate lists of many chains, from bytes to bytes, with room for one chain and one list: all chains are read and checked one at a time;
+// after the reductions each is read again and answered.
 ghost use mathlib.Core.Path.{_≡_};
 ghost use Prim.Native.Nat.{_*_, _≤_};
 ghost use lib.ListN.{length};
@@ -33,7 +33,7 @@ use writers::reduced::Reduced;
 // The slots of one chain and of one list.
 const CELLS: usize = Sheet::HOST_LIMIT;
 
-// The first of 11 and 12 that applies to the first faulty of so many chains.
+// The first of 11 and 12 that applies to the first faulty of the `number` chains.
 fn check_bytes(s: &[u8], p: usize, cells: usize, number: usize, chains: &[u8]) -> Check
     requires { ⌜ Accepted (now s) ⌝ }
     requires { ⌜ (p ≤ top) × (cells ≡ count (chainCells (now s)) p) × (cells ≤ hostLimit) × (length (now chains) ≡ 4 * (number * cells)) ⌝ }
@@ -54,7 +54,7 @@ fn check_bytes(s: &[u8], p: usize, cells: usize, number: usize, chains: &[u8]) -
     Check::Passed
 }
 
-// Writes the coordinates of so many chains, one list after another, as far apart as the cells ask for.
+// Writes the coordinate list of each of the `number` chains, list i from byte 8 × i × cells on.
 fn write_bytes(
     reduced: Reduced,
     w: &[i32],
@@ -81,7 +81,7 @@ fn write_bytes(
     }
 }
 
-// The coordinate lists of so many cycles.
+// The coordinate lists of `number` chains.
 pub fn lists_through(
     sheet: &[u8],
     dimension: u32,

@@ -58,7 +58,7 @@ pub extern "C" fn fildwuk_report(sheet: &[u8], dimension: u32, report: &mut [u8]
     report_through(sheet, dimension, &mut numbers, &mut work, report)
 }
 
-// The coordinate lists of so many cycles.
+// The coordinate lists of `number` chains.
 #[no_mangle]
 pub extern "C" fn fildwuk_coordinate_lists(
     sheet: &[u8],
@@ -83,7 +83,7 @@ pub extern "C" fn fildwuk_coordinate_lists(
     )
 }
 
-// The coordinates of a cycle.
+// The coordinates of a chain.
 #[no_mangle]
 pub extern "C" fn fildwuk_coordinates(
     sheet: &[u8],

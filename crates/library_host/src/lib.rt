@@ -54,7 +54,7 @@ pub extern "C" fn library_coordinates(
     number_told(calls::coordinates::coordinates(sheet, dimension, chain, coordinates, work))
 }
 
-// The coordinate lists of so many cycles.
+// The coordinate lists of `number` chains.
 #[no_mangle]
 pub extern "C" fn library_coordinate_lists(
     sheet: &[u8],

@@ -7,7 +7,7 @@ use lib.ListN.{length, take, drop}
 unfoldable pub splice {ℓ} : {A : Type ℓ} → ℕ → List A → List A → List A
 splice at xs l = take at l ++ (xs ++ drop (at + length xs) l)
 
--- l with the first of the lists xs over its elements, list i from place i × apart on
+-- l with the first so many of the lists xs over its elements, list i from place i × apart on
 unfoldable pub splices {ℓ} : {A : Type ℓ} → ℕ → (ℕ → List A) → ℕ → List A → List A
 splices apart xs zero l = l
 splices apart xs (suc i) l = splice (i * apart) (xs i) (splices apart xs i l)

@@ -2,7 +2,7 @@
 --     coefficients-iff            11 of one chain, coefficient by coefficient
 --     length-chainAt, chain-part  one of many chains, and the part of a slice that it is
 --     cycles-zero, cycles-told    11 and 12: none is told, or the first faulty chain decides
---     chains-zero, chains-told    10 to 12
+--     chains-sized, chains-zero   10 to 12
 --     chains-narrow               13 is none of them
 --     cycles-no-cells             where there are no cells, no chain is at fault
 use mathlib.Core.Path.{_≡_, refl, sym, _∙_, ap}
@@ -91,7 +91,7 @@ module _ (limit : ℕ) (b : List ℕ) (p : ℕ) (chains : List ℤ) where
   cycles-passed zero h = refl
   cycles-passed (suc m) h = cycles-next m ∙ rw (cycles-passed m (λ i l. h i (omega arith)), h m (omega arith))
 
-  -- what is told of so many chains is told of more
+  -- the number of the first faulty chain is told
   pub cycles-decided : (number k : ℕ) → k ≢ 0 → FirstFault fault number k → first (cyclesChecks limit b p number chains) ≡ k
   cycles-decided zero k d f = absurd (omega (arith, f .within))
   cycles-decided (suc m) k d f = cycles-next m ∙ go (decLt (f .place) m) (cycles-decided m k d)

@@ -33,7 +33,7 @@ listSlots number K p = number * count K p
 abbrev pub chainsLengthDiffers : Sections → ℕ → ℕ → List ℤ → Bool
 chainsLengthDiffers K p number chains = not (eqb (length chains) (number * count K p))
 
--- 11 and 12, at a coefficient limit, of so many chains from the first on, chain by chain: the first faulty chain decides, and in it 11 comes first
+-- 11 and 12, at a coefficient limit, of a number of chains from the first on, chain by chain: the first faulty chain decides, and in it 11 comes first
 unfoldable pub cyclesChecks : ℕ → List ℕ → ℕ → ℕ → List ℤ → List (ℕ × Bool)
 cyclesChecks limit b p zero chains = []
 cyclesChecks limit b p (suc i) chains = cyclesChecks limit b p i chains ++ cycleChecks limit b p (chainAt (count (chainCells b) p) chains i)
@@ -69,7 +69,7 @@ hostCoordinateLists b p number chains output =
     cells : ℕ
     cells = count (chainCells b) p
 
--- of the numbers that are told of so many chains, 0 for none, k is the first but 0
+-- `fault i` is the number told of chain i, 0 for none: k is the first of them that is not 0
 pub record FirstFault (fault : ℕ → ℕ) (number k : ℕ) : Type 0 where
   pub place : ℕ
   pub within : place < number

@@ -79,7 +79,7 @@ pub fn write_coordinates(
     next
 }
 
-// Writes the coordinates of so many chains of as many cells, one list after another, as far apart.
+// Writes the coordinate list of each of the `number` chains of `cells` coefficients, list i from slot i × cells on.
 pub fn write_lists(
     reduced: Reduced,
     w: &[i32],

@@ -1,4 +1,4 @@
-// The kinds of the rows of Q, by the diagonal of the second reduction: 1, an order above 1, or 0 for a free row. How many there are of each.
+// The kinds of the rows of Q, by the diagonal of the second reduction: 1, an order above 1, or 0 for a free row; and the report's counts.
 ghost use mathlib.Core.Path.{_≡_};
 ghost use Prim.Native.Nat.{_<_, _≤_};
 ghost use lib.ListN.{length};
