@@ -3,14 +3,20 @@ use mathlib.Core.Path.{_≡_}
 use mathlib.Core.Logic.{_≢_}
 use mathlib.Core.List.{List}
 use Prim.Native.Nat.{ℕ, _<_}
-use lib.ListN.{length}
-use lib.IntN.{ℤ, natAbs}
+use lib.ListN.{length, getD}
+use lib.IntN.{ℤ, natAbs, _*ℤ_}
+use Rattle.matrices.specs.Sum.{sum}
 use Rattle.matrices.specs.Matrix as theory
+use Rattle.complexes.specs.Boundary.{sign}
 use Rattle.lines.specs.Slice.{entryLimit, at, Small}
 use Rattle.lines.specs.Matrices.{contents, Off}
 use Rattle.lines.specs.declared.matrix.Matrix.{Matrix}
 use Rattle.lines.specs.declared.line.Effect.{Effect}
 use Rattle.lines.specs.declared.line.Effect.the-variants.{Done, TooWide}
+
+-- the lines of the matrix Q in a slice times a column that has sign t at place t, for t below `faces`, and 0 elsewhere: in every column
+abbrev pub atPlaces : Matrix → List ℤ → List ℕ → ℕ → theory.Matrix
+atPlaces q w places faces i j = sum faces (λ t. contents q w i (getD places t 0) *ℤ sign t)
 
 -- w′ is w but for column j of the matrix M, which holds column j of A
 pub record ColumnFilled (M : Matrix) (w : List ℤ) (A : theory.Matrix) (j : ℕ) (w′ : List ℤ) : Type 0 where

@@ -11,22 +11,24 @@ ghost use Rattle.lines.specs.Slice.{Small};
 ghost use Rattle.lines.specs.Matrices.{Held, contents, Holds};
 ghost use Rattle.faces.specs.Face.{Accepted};
 ghost use Rattle.boundaries.specs.Column.{ColumnFilled};
-use faces::face::face_place;
+use cells::face::FACES;
+use faces::face::face_places;
 use faces::face::sign;
 use lines::matrix::Matrix;
 
-// Writes column j of the boundary matrix of dimension p + 1.
-fn fill_column(s: &[u8], p: usize, m: Matrix, w: &mut [i32], j: usize)
-    requires { ⌜ Accepted (now s) × (p < top) ⌝ }
+// Writes column j of the boundary matrix of dimension p + 1. The faces of cell j are looked for first at `places`, which become theirs.
+fn fill_column(s: &[u8], p: usize, m: Matrix, w: &mut [i32], j: usize, places: &mut [usize; FACES])
+    requires { ⌜ Accepted (now s) × (p < top) × (length (now places) ≡ suc top) ⌝ }
     requires { ⌜ (m .lines ≡ count (chainCells (now s)) p) × (m .width ≡ count (chainCells (now s)) (suc p)) × (j < m .width) ⌝ }
     requires { ⌜ Held (length (now w)) m × Small (now w) ⌝ }
     requires { ⌜ ((i : ℕ) → i < m .lines → contents m (now w) i j ≡ null i j) ⌝ }
     ensures { λ r. ⌜ ColumnFilled m (now (w .entry)) (boundary (chainCells (now (s .entry))) (suc p)) j (now (w .exit)) ⌝ }
+    ensures { λ r. ⌜ length (now (places .exit)) ≡ suc top ⌝ }
 {
+    face_places(s, p, j, places);
     let mut t: usize = 0;
     while t < p + 2 {
-        let i = face_place(s, p, j, t);
-        let at = m.line(i) + j;
+        let at = m.line(places[t]) + j;
         w[at] = sign(t) as i32;
         t = t + 1;
     }
@@ -39,10 +41,11 @@ pub fn fill_boundary(s: &[u8], p: usize, m: Matrix, w: &mut [i32])
     requires { ⌜ Held (length (now w)) m × Small (now w) × Eq (m .lines) (m .width) (contents m (now w)) null ⌝ }
     ensures { λ r. ⌜ Holds m (now (w .entry)) (boundary (chainCells (now (s .entry))) (suc p)) (now (w .exit)) ⌝ }
 {
+    let mut places = [0usize; FACES];
     let mut j: usize = 0;
     let columns = m.width;
     while j < columns {
-        fill_column(s, p, m, w, j);
+        fill_column(s, p, m, w, j, &mut places);
         j = j + 1;
     }
 }

@@ -13,8 +13,8 @@ ghost use Rattle.sheet_format.specs.Check.{chainCells};
 ghost use Rattle.lines.specs.Slice.{Small, at};
 ghost use Rattle.lines.specs.Matrices.{Held, contents, end, Became};
 ghost use Rattle.faces.specs.Face.{Accepted};
-ghost use Rattle.boundaries.specs.Column.{ColumnBecame};
-use faces::face::FACES;
+ghost use Rattle.boundaries.specs.Column.{atPlaces, ColumnBecame};
+use cells::face::FACES;
 use faces::face::face_places;
 use faces::face::sign;
 use lines::line::Effect;
@@ -40,26 +40,25 @@ fn line_product(w: &[i32], line: usize, width: usize, places: [usize; FACES], fa
     total
 }
 
-// Column j of the product.
-fn multiply_column(s: &[u8], p: usize, q: Matrix, m: Matrix, w: &mut [i32], j: usize) -> Effect
-    requires { ⌜ Accepted (now s) × (p < top) ⌝ }
-    requires { ⌜
-        (q .width ≡ count (chainCells (now s)) p) × (m .width ≡ count (chainCells (now s)) (suc p)) ×
-        (m .lines ≡ q .lines) × (j < m .width)
-        ⌝ }
+// Column j of the product: the lines of q times a column that has sign t at places[t], for t below `faces`, and 0 elsewhere.
+fn multiply_column(
+    q: Matrix,
+    m: Matrix,
+    w: &mut [i32],
+    j: usize,
+    places: [usize; FACES],
+    faces: usize,
+) -> Effect
+    requires { ⌜ (m .lines ≡ q .lines) × (j < m .width) × (faces ≤ suc top) ⌝ }
+    requires { ⌜ ((t : ℕ) → t < faces → getD places t 0 < q .width) ⌝ }
     requires { ⌜ Held (length (now w)) q × (end m ≤ q .at) × Small (now w) ⌝ }
-    ensures { λ r. ⌜
-        ColumnBecame m (now (w .entry))
-        (mul (q .width) (contents q (now (w .entry))) (boundary (chainCells (now (s .entry))) (suc p))) j r
-        (now (w .exit))
-        ⌝ }
+    ensures { λ r. ⌜ ColumnBecame m (now (w .entry)) (atPlaces q (now (w .entry)) places faces) j r (now (w .exit)) ⌝ }
 {
-    let places = face_places(s, p, j);
     let lines = q.lines;
     let width = q.width;
     let mut i: usize = 0;
     while i < lines {
-        let v = line_product(w, q.line(i), width, places, p + 2);
+        let v = line_product(w, q.line(i), width, places, faces);
         if v < -Matrix::ENTRY_LIMIT {
             return Effect::TooWide;
         }
@@ -84,10 +83,12 @@ pub fn multiply(s: &[u8], p: usize, q: Matrix, m: Matrix, w: &mut [i32]) -> Effe
         (now (w .exit))
         ⌝ }
 {
+    let mut places = [0usize; FACES];
     let mut j: usize = 0;
     let columns = m.width;
     while j < columns {
-        let Effect::Done(_) = multiply_column(s, p, q, m, w, j) else {
+        face_places(s, p, j, &mut places);
+        let Effect::Done(_) = multiply_column(q, m, w, j, places, p + 2) else {
             return Effect::TooWide;
         };
         j = j + 1;

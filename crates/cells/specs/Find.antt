@@ -1,21 +1,16 @@
--- What comparing and finding cells answers.
+-- What finding cells answers.
 use mathlib.Core.Path.{_≡_}
 use mathlib.Core.Logic.{_≢_}
-use mathlib.Core.Bool.{true}
+use mathlib.Core.Bool.{Bool, true, false, not}
 use mathlib.Core.List.{List, []}
 use Prim.Native.Nat.{ℕ, suc, _<_}
 use lib.ListN.{length, getD}
-use Rattle.complexes.specs.Cell.{Cell, precedes}
-use Rattle.cells.specs.declared.cell.Order.{Order}
-use Rattle.cells.specs.declared.cell.Order.the-variants.{Before, Same, After}
+use Rattle.complexes.specs.Cell.{Cell, without, precedes, listed}
+use Rattle.sheet_format.specs.Layout.{top}
+use Rattle.sheet_format.specs.Check.{some}
+use Rattle.cells.specs.Word.{Packs}
 use Rattle.cells.specs.declared.face.Found.{Found}
 use Rattle.cells.specs.declared.face.Found.the-variants.{At, Nothing}
-
--- the order of two cells
-abbrev pub Compares : Cell → Cell → Order → Type 0
-Compares c d Before = precedes c d ≡ true
-Compares c d Same = c ≡ d
-Compares c d After = precedes d c ≡ true
 
 -- the cells rise strictly
 pub record Rising (l : List Cell) : Type 0 where
@@ -25,3 +20,14 @@ pub record Rising (l : List Cell) : Type 0 where
 abbrev pub Finds : Cell → List Cell → Found → Type 0
 Finds c l (At i) = (i < length l) × (getD l i [] ≡ c)
 Finds c l Nothing = (i : ℕ) → i < length l → getD l i [] ≢ c
+
+-- .. told of a cell of n vertices from its word w
+abbrev pub FindsWord : ℕ → ℕ → List Cell → Found → Type 0
+FindsWord n w l r = (c : Cell) → Packs n c w → Finds c l r
+
+-- whether one of the n + 1 faces of c is missing in l; if none is, the first n + 1 of the numbers, one for each face that a cell may have, are their
+-- places
+pub record FindsFaces (n : ℕ) (c : Cell) (l : List Cell) (missing : Bool) (places : List ℕ) : Type 0 where
+  pub tells : missing ≡ some (suc n) (λ j. not (listed (without j c) l))
+  pub finds : missing ≡ false → (j : ℕ) → j < suc n → Finds (without j c) l (At (getD places j 0))
+  pub sized : length places ≡ suc top

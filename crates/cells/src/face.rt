@@ -1,32 +1,97 @@
-// The place of a face, by halving.
+// The places of faces. The faces of rising cells nearly rise, so that a search looks first where the last one ended.
+ghost use mathlib.Core.Path.{_≡_};
 ghost use Prim.Native.Nat.{suc, _+_, _*_, _^_, _≤_, _<_};
-ghost use Rattle.complexes.specs.Cell.{without};
+ghost use lib.ListN.{length};
+ghost use Rattle.complexes.specs.Packed.{wordVertices};
 ghost use Rattle.sheet_format.specs.Layout.{top};
 ghost use Rattle.sheet_format.specs.Check.{cellOf, cellsOf};
-ghost use Rattle.cells.specs.Find.{Finds, Rising};
-use crate::cell::Order;
-use crate::cell::compare;
+ghost use Rattle.cells.specs.Find.{FindsWord, FindsFaces, Rising};
+ghost use Rattle.cells.specs.Word.{Packs};
+use crate::word::leave_out;
+use crate::word::pack;
+use fields::field::TOP;
+
+// A cell has at most this many faces.
+pub const FACES: usize = TOP + 1;
 
 pub enum Found {
     At(usize),
     Nothing,
 }
 
-// The place of the cell of n + 1 vertices at byte a, less vertex number `skip`, among the `many` cells of n vertices from byte `at` on.
-pub fn find(s: &[u8], a: usize, skip: usize, at: usize, n: usize, many: usize) -> Found
-    requires { ⌜ (a < 2 ^ 32) × (at < 2 ^ 31) × (skip ≤ n) × (n ≤ suc top) × (many < 65536) ⌝ }
+// The word of cell i of the cells of n vertices each from byte `at` on.
+fn pack_cell(s: &[u8], at: usize, n: usize, i: usize) -> u64
+    requires { ⌜ (at < 2 ^ 31) × (0 < n) × (n ≤ wordVertices) × (i < 65536) ⌝ }
+    ensures { λ r. ⌜ Packs n (cellOf (now (s .entry)) n (at + 2 * (n * i))) r ⌝ }
+{
+    pack(s, at + 2 * (n * i), n)
+}
+
+// The place of the cell of n vertices with this word among the `many` cells from byte `at` on, by halving.
+fn halve(s: &[u8], word: u64, at: usize, n: usize, many: usize) -> Found
+    requires { ⌜ (at < 2 ^ 31) × (0 < n) × (n ≤ wordVertices) × (many < 65536) ⌝ }
     requires { ⌜ Rising (cellsOf (now s) n many at) ⌝ }
-    ensures { λ r. ⌜ Finds (without skip (cellOf (now (s .entry)) (suc n) a)) (cellsOf (now (s .entry)) n many at) r ⌝ }
+    ensures { λ r. ⌜ FindsWord n word (cellsOf (now (s .entry)) n many at) r ⌝ }
 {
     let mut lo: usize = 0;
     let mut hi = many;
     while lo < hi {
         let mid = lo + (hi - lo) / 2;
-        match compare(s, a, skip, at + 2 * (n * mid), n) {
-            Order::Same => return Found::At(mid),
-            Order::Before => hi = mid,
-            Order::After => lo = mid + 1,
+        let other = pack_cell(s, at, n, mid);
+        if word < other {
+            hi = mid;
+        } else if other < word {
+            lo = mid + 1;
+        } else {
+            return Found::At(mid);
         }
     }
     Found::Nothing
+}
+
+// The place of the cell of n vertices with this word among the `many` cells from byte `at` on. It is looked for at place `from` and the next first.
+fn find(s: &[u8], word: u64, at: usize, n: usize, many: usize, from: usize) -> Found
+    requires { ⌜ (at < 2 ^ 31) × (0 < n) × (n ≤ wordVertices) × (many < 65536) ⌝ }
+    requires { ⌜ Rising (cellsOf (now s) n many at) ⌝ }
+    ensures { λ r. ⌜ FindsWord n word (cellsOf (now (s .entry)) n many at) r ⌝ }
+{
+    if from < many {
+        if word == pack_cell(s, at, n, from) {
+            return Found::At(from);
+        }
+        let next = from + 1;
+        if next < many {
+            if word == pack_cell(s, at, n, next) {
+                return Found::At(next);
+            }
+        }
+    }
+    halve(s, word, at, n, many)
+}
+
+// Whether a face of the cell of n + 1 vertices at byte a is missing among the `many` cells of n vertices from byte `at` on. If none is, `places` becomes
+// the places of its faces, in the order of the vertices that they leave out. Each is looked for first at the place that stands there before.
+pub fn find_faces(
+    s: &[u8],
+    a: usize,
+    at: usize,
+    n: usize,
+    many: usize,
+    places: &mut [usize; FACES],
+) -> bool
+    requires { ⌜ (a < 2 ^ 32) × (at < 2 ^ 31) × (0 < n) × (n ≤ top) × (n < wordVertices) × (many < 65536) ⌝ }
+    requires { ⌜ Rising (cellsOf (now s) n many at) × (length (now places) ≡ suc top) ⌝ }
+    ensures { λ r. ⌜ FindsFaces n (cellOf (now (s .entry)) (suc n) a) (cellsOf (now (s .entry)) n many at) r (now (places .exit)) ⌝ }
+{
+    let cell = pack(s, a, n + 1);
+    let mut j: usize = 0;
+    while j <= n {
+        let face = leave_out(cell, n - j);
+        let Found::At(i) = find(s, face, at, n, many, places[j]) else {
+            return true;
+        };
+        places[j] = i;
+        j = j + 1;
+    }
+    false
 }

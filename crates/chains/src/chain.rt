@@ -10,7 +10,8 @@ ghost use Rattle.reports.specs.Call.{coefficientExceeds, boundaryNotZero};
 ghost use Rattle.limits.specs.Limits.{coefficientLimit};
 ghost use Rattle.faces.specs.Face.{Accepted};
 ghost use Rattle.chains.specs.Sums.{Sums, AddsFaces};
-use faces::face::face_place;
+use cells::face::FACES;
+use faces::face::face_places;
 use faces::face::sign;
 use fields::field::count;
 use sheet::reader::Sheet;
@@ -37,17 +38,26 @@ pub fn coefficient_exceeds(chain: &[i32], limit: u16) -> bool
     false
 }
 
-// Adds x times the boundary of cell j of section p + 1.
-fn add_faces(s: &[u8], p: usize, j: usize, x: i64, sums: &mut [i64; CELLS])
+// Adds x times the boundary of cell j of section p + 1. The faces of cell j are looked for first at `places`, which become theirs.
+fn add_faces(
+    s: &[u8],
+    p: usize,
+    j: usize,
+    x: i64,
+    sums: &mut [i64; CELLS],
+    places: &mut [usize; FACES],
+)
     requires { ⌜ Accepted (now s) ⌝ }
-    requires { ⌜ (p < top) × (j < count (chainCells (now s)) (suc p)) ⌝ }
+    requires { ⌜ (p < top) × (j < count (chainCells (now s)) (suc p)) × (length (now places) ≡ suc top) ⌝ }
     requires { ⌜ natAbs x ≤ coefficientLimit ⌝ }
     requires { ⌜ Sums (chainCells (now s)) p (now sums) ⌝ }
     ensures { λ r. ⌜ AddsFaces (chainCells (now (s .entry))) p j x (now (sums .entry)) (now (sums .exit)) ⌝ }
+    ensures { λ r. ⌜ length (now (places .exit)) ≡ suc top ⌝ }
 {
+    face_places(s, p, j, places);
     let mut t: usize = 0;
     while t < p + 2 {
-        let i = face_place(s, p, j, t);
+        let i = places[t];
         sums[i] = sums[i] + x * sign(t);
         t = t + 1;
     }
@@ -64,11 +74,12 @@ pub fn boundary_not_zero(s: &[u8], p: usize, chain: &[i32]) -> bool
         return false;
     }
     let mut sums = [0i64; CELLS];
+    let mut places = [0usize; FACES];
     let mut j: usize = 0;
     while j < chain.len() {
         let x = chain[j] as i64;
         if x != 0 {
-            add_faces(s, p - 1, j, x, &mut sums);
+            add_faces(s, p - 1, j, x, &mut sums, &mut places);
         }
         j = j + 1;
     }

@@ -7,8 +7,8 @@ ghost use Rattle.sheet_format.specs.Layout.{top};
 ghost use Rattle.sheet_format.specs.Check.{cellOf, cellsOf, sectionsOf, some, countExceeds, offsetDiffers, verticesDoNotRise, cellsDoNotRise, faceMissing};
 ghost use Rattle.cells.specs.Find.{Rising};
 use crate::rise::Rise;
-use cells::face::Found;
-use cells::face::find;
+use cells::face::FACES;
+use cells::face::find_faces;
 use fields::field::TOP;
 use fields::field::count;
 use fields::field::field;
@@ -56,37 +56,19 @@ pub fn cells_do_not_rise(s: &[u8]) -> bool
     Rise::Cells.fails(s)
 }
 
-// Check 7 for one cell of n + 1 vertices at byte a, whose faces stand among the `many` cells from byte `at` on.
-fn cell_misses(s: &[u8], a: usize, at: usize, n: usize, many: usize) -> bool
-    requires { ⌜ (a < 2 ^ 32) × (at < 2 ^ 31) × (n ≤ suc top) × (many < 65536) ⌝ }
-    requires { ⌜ Rising (cellsOf (now s) n many at) ⌝ }
-    ensures { λ r. ⌜
-        r ≡ some (suc n)
-        (λ j. not (listed (without j (cellOf (now (s .entry)) (suc n) a)) (cellsOf (now (s .entry)) n many at)))
-        ⌝ }
-{
-    let mut j: usize = 0;
-    while j <= n {
-        let Found::At(_) = find(s, a, j, at, n, many) else {
-            return true;
-        };
-        j = j + 1;
-    }
-    false
-}
-
 // Check 7 for the section of `cells` cells of n + 1 vertices from byte `a` on.
 fn section_misses(s: &[u8], a: usize, cells: usize, at: usize, n: usize, many: usize) -> bool
-    requires { ⌜ (a < 2 ^ 31) × (cells < 65536) × (at < 2 ^ 31) × (n ≤ top) × (many < 65536) ⌝ }
+    requires { ⌜ (a < 2 ^ 31) × (cells < 65536) × (at < 2 ^ 31) × (0 < n) × (n ≤ top) × (many < 65536) ⌝ }
     requires { ⌜ Rising (cellsOf (now s) n many at) ⌝ }
     ensures { λ r. ⌜
         r ≡ some cells
         (λ i. some (suc n) (λ j. not (listed (without j (cellOf (now (s .entry)) (suc n) (a + 2 * (suc n * i)))) (cellsOf (now (s .entry)) n many at))))
         ⌝ }
 {
+    let mut places = [0usize; FACES];
     let mut i: usize = 0;
     while i < cells {
-        if cell_misses(s, a + 2 * ((n + 1) * i), at, n, many) {
+        if find_faces(s, a + 2 * ((n + 1) * i), at, n, many, &mut places) {
             return true;
         }
         i = i + 1;

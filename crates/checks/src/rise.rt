@@ -2,12 +2,12 @@
 ghost use mathlib.Core.Path.{_≡_};
 ghost use Prim.Native.Nat.{suc, _+_, _*_, _^_, _≤_, _<_};
 ghost use Rattle.complexes.specs.Cell.{precedes};
+ghost use Rattle.complexes.specs.Packed.{wordVertices};
 ghost use Rattle.sheet_format.specs.Layout.{top};
 ghost use Rattle.sheet_format.specs.Check.{cellOf, sectionsOf};
 ghost use Rattle.checks.specs.Rise.{tested, fails, someFails, doNotRise};
-use cells::cell::Order;
-use cells::cell::compare;
 use cells::cell::rises;
+use cells::word::pack;
 use fields::field::TOP;
 use fields::field::count;
 use fields::field::start;
@@ -20,14 +20,10 @@ pub enum Rise {
 
 // Whether the cell of n vertices at byte a stands before the one at byte b.
 fn stands_before(s: &[u8], a: usize, b: usize, n: usize) -> bool
-    requires { ⌜ (a < 2 ^ 32) × (b < 2 ^ 32) × (n < 2 ^ 16) ⌝ }
+    requires { ⌜ (a < 2 ^ 32) × (b < 2 ^ 32) × (0 < n) × (n ≤ wordVertices) ⌝ }
     ensures { λ r. ⌜ r ≡ precedes (cellOf (now (s .entry)) n a) (cellOf (now (s .entry)) n b) ⌝ }
 {
-    match compare(s, a, n, b, n) {
-        Order::Before => true,
-        Order::Same => false,
-        Order::After => false,
-    }
+    pack(s, a, n) < pack(s, b, n)
 }
 
 impl Rise {
@@ -43,7 +39,7 @@ impl Rise {
 
     // Whether the cell of n vertices at byte `at` fails; the next cell stands right after it.
     fn fails_at(self, s: &[u8], at: usize, n: usize) -> bool
-        requires { ⌜ (at < 2 ^ 31) × (n ≤ suc top) ⌝ }
+        requires { ⌜ (at < 2 ^ 31) × (0 < n) × (n ≤ suc top) ⌝ }
         ensures { λ r. ⌜ r ≡ fails self (cellOf (now (s .entry)) n at) (cellOf (now (s .entry)) n (at + 2 * n)) ⌝ }
     {
         match self {
@@ -54,7 +50,7 @@ impl Rise {
 
     // Whether some cell fails in the section of `many` cells of n vertices from byte `at` on.
     fn fails_in_section(self, s: &[u8], at: usize, n: usize, many: usize) -> bool
-        requires { ⌜ (at < 2 ^ 30) × (n ≤ suc top) × (many < 65536) ⌝ }
+        requires { ⌜ (at < 2 ^ 30) × (0 < n) × (n ≤ suc top) × (many < 65536) ⌝ }
         ensures { λ r. ⌜ r ≡ someFails self (λ i. cellOf (now (s .entry)) n (at + 2 * (n * i))) many ⌝ }
     {
         let cells = self.tested(many);

@@ -11,4 +11,6 @@ pub mod Boundary
 pub mod CoefficientLaws
 pub mod BoundaryLaws
 pub mod ChainComplex
+pub mod Packed
+pub mod PackedLaws
 pub mod Examples

@@ -1,6 +1,6 @@
 // The bytes, fields, counts and section starts of a sheet. Each reads 0 past the end.
 ghost use Prim.Native.Nat.{suc, _+_, _*_, _^_, _≤_, _<_};
-ghost use lib.ListN.{getD};
+ghost use lib.ListN.{length, getD};
 ghost use Rattle.sheet_format.specs.Layout.{top};
 ghost use Rattle.sheet_format.specs.Check.{fieldAt, countField, startAt};
 ghost use Rattle.fields.specs.Read.{ReadsBelow};
@@ -18,14 +18,26 @@ pub fn byte(s: &[u8], i: usize) -> usize
     if i < s.len() { s[i] as usize } else { 0 }
 }
 
+// The field at byte i, both of whose bytes lie within the slice.
+pub fn field_within(s: &[u8], i: usize) -> usize
+    requires { ⌜ i + 1 < length (now s) ⌝ }
+    ensures { λ r. ⌜ ReadsBelow 65536 (fieldAt (now (s .entry)) i) r ⌝ }
+{
+    s[i] as usize + 256 * s[i + 1] as usize
+}
+
 // The field at byte i: unsigned 16-bit, low byte first.
 pub fn field(s: &[u8], i: usize) -> usize
     ensures { λ r. ⌜ ReadsBelow 65536 (fieldAt (now (s .entry)) i) r ⌝ }
 {
-    if i < s.len() {
-        byte(s, i) + 256 * byte(s, i + 1)
+    let bytes = s.len();
+    if bytes < 2 {
+        return byte(s, i);
+    }
+    if i < bytes - 1 {
+        field_within(s, i)
     } else {
-        0
+        byte(s, i)
     }
 }
 

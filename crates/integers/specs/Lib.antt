@@ -1,7 +1,8 @@
 -- Laws of the whole numbers that the kit lacks. `Ring`: the commutative ring laws. `Solve`: ring identities by normal forms.
 -- `Order`: absolute value and order. `Division` has the definitions of division and divisibility, `Divides` and `Floor` their laws.
--- `Truncate`: the machine's division, and how it gives that of `Floor`.
+-- `Truncate`: the machine's division, and how it gives that of `Floor`. `Power`: powers of natural numbers.
 pub mod Division
+pub mod Power
 pub mod Ring
 pub mod Solve
 pub mod Order

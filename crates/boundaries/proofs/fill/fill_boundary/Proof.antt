@@ -1,10 +1,12 @@
 -- `fill::fill_boundary` meets its contract. The invariant: the columns passed are those of the boundary matrix. The measure is how many are
 -- left. Assumes nothing.
-use mathlib.Core.Path.{refl, _∙_}
+use mathlib.Core.Path.{_≡_, refl, _∙_}
 use Prim.Native.Nat.{suc, _-_, _≤_}
 use native.Mathlib.Omega.{arith}
+use lib.ListN.{length}
 use Rattle.matrices.specs.Matrix as theory
 use Rattle.complexes.specs.Boundary.{boundary}
+use Rattle.sheet_format.specs.Layout.{top}
 use Rattle.sheet_format.specs.Check.{chainCells}
 use Rattle.lines.specs.Matrices.{contents, Holds}
 use Rattle.boundaries.proofs.Columns.{leftOf, columns-none, columns-next, columns-more, columns-all}
@@ -12,15 +14,16 @@ use Rattle.boundaries.proofs.fill.fill_boundary.Statement.{statement}
 use Rattle.boundaries.proofs.fill.fill_boundary.Tie as tie
 
 abbrev Inv-loop : tie.InvT-loop
-Inv-loop s p m w₀ j₀ columns w j = (j ≤ m .width) × Holds m w₀ (leftOf j (boundary (chainCells s) (suc p)) (contents m w₀)) w
+Inv-loop s p m w₀ places₀ j₀ columns w places j =
+    (j ≤ m .width) × Holds m w₀ (leftOf j (boundary (chainCells s) (suc p)) (contents m w₀)) w × (length places ≡ suc top)
 
 abbrev μ-loop : tie.MeasureT-loop
-μ-loop s p m w₀ j₀ columns w j = m .width - j
+μ-loop s p m w₀ places₀ j₀ columns w places j = m .width - j
 
 loop-holds : tie.Need-loop-holds Inv-loop μ-loop
 loop-holds c =
     let args = c .before .args in
-    (omega arith, columns-none (args .m) (args .w .now) (boundary (chainCells (args .s .now)) (suc (args .p))) (c .before .pre .1 .1 .1))
+    (omega arith, columns-none (args .m) (args .w .now) (boundary (chainCells (args .s .now)) (suc (args .p))) (c .before .pre .1 .1 .1), refl)
 
 -- the boundary matrix, and what the slice held at first
 abbrev whole : tie.Start Inv-loop μ-loop → theory.Matrix
@@ -31,22 +34,23 @@ old c = contents (c .args .m) (c .args .w .now)
 
 fill-column-requires : tie.Need-fill-column-requires Inv-loop μ-loop
 fill-column-requires c κs =
-    let start = c .before .before .before .before in let turn = c .before .before .loop in let below = c .before .loop-test .taken in (
-      start .pre .0,
+    let turn = c .before .before in let head = turn .before .loop in let start = turn .before .before .before in let below = turn .loop-test .taken in (
+      (start .pre .0 .0, start .pre .0 .1, head .inv .2),
       (
         (start .pre .1 .0 .0, start .pre .1 .0 .1, below),
         (
-          (record { ends = omega (arith, start .pre .1 .1 .0 .ends, turn .inv .1 .same-length) }, turn .inv .1 .small),
-          λ i l. columns-next (whole start) (old start) (turn .j) (turn .inv .1) i l below ∙ start .pre .1 .1 .2 .at i (turn .j) l below,
+          (record { ends = omega (arith, start .pre .1 .1 .0 .ends, head .inv .1 .same-length) }, head .inv .1 .small),
+          λ i l. columns-next (whole start) (old start) (head .j) (head .inv .1) i l below ∙ start .pre .1 .1 .2 .at i (head .j) l below,
         ),
       ),
     )
 
 loop-again : tie.Need-loop-again Inv-loop μ-loop
 loop-again c =
-    let start = c .before .before .before .before .before .before in let turn = c .before .before .before .before .loop in (
-      omega (arith, c .before .before .before .loop-test .taken),
-      columns-more (whole start) (old start) (turn .j) (turn .inv .1) (c .before .fill-column .ensures) (λ i l. refl),
+    let called = c .before in let turn = called .before .before .before in let head = turn .before .loop in let start = turn .before .before .before in (
+      omega (arith, turn .loop-test .taken),
+      columns-more (whole start) (old start) (head .j) (head .inv .1) (called .fill-column .ensures .0) (λ i l. refl),
+      called .fill-column .ensures .1,
     )
 
 same-length : tie.Need-same-length Inv-loop μ-loop

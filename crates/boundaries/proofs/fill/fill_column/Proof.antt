@@ -5,7 +5,7 @@ use mathlib.Core.List.{List}
 use Prim.Native.Nat.{ℕ, suc, _+_, _-_, _<_, _≤_}
 use native.Mathlib.Omega.{arith}
 use denote.Ref.{now}
-use lib.ListN.{length, set}
+use lib.ListN.{length, getD, set}
 use lib.IntN.{ℤ}
 use Rattle.integers.specs.Ring.{zero-add}
 use Rattle.matrices.specs.Matrix.{null}
@@ -91,10 +91,10 @@ module _ {b : List ℕ} {p : ℕ} {M : Matrix} {w₀ : List ℤ} {j : ℕ} (give
         all = omega (arith, inv .within)
 
 abbrev Inv-loop : tie.InvT-loop
-Inv-loop s p m w₀ j t₀ w t = Invariant s p m w₀ j w t
+Inv-loop s p m w₀ j places t₀ w t = Invariant s p m w₀ j w t
 
 abbrev μ-loop : tie.MeasureT-loop
-μ-loop s p m w₀ j t₀ w t = p + 2 - t
+μ-loop s p m w₀ j places t₀ w t = p + 2 - t
 
 given : (c : tie.After-shared-slice-known Inv-loop μ-loop) →
     let args = c .before .args in Given (args .s .now) (args .p) (args .m) (args .w .now) (args .j)
@@ -112,16 +112,39 @@ given c =
       zero = pre .1 .1 .1;
     }
 
+face-places-requires : tie.Need-face-places-requires Inv-loop μ-loop
+face-places-requires c κs = let pre = c .before .before .pre in (pre .0 .0, (pre .0 .1, cell-below (given (c .before)), pre .0 .2))
+
 loop-holds : tie.Need-loop-holds Inv-loop μ-loop
-loop-holds c = begun (given c)
+loop-holds c = begun (given (c .before .before))
+
+-- a turn
+module _ (c : tie.In-loop Inv-loop μ-loop) where
+  abbrev head : tie.At-loop Inv-loop μ-loop
+  head = c .before
+
+  abbrev known : tie.After-shared-slice-known Inv-loop μ-loop
+  known = head .before .before .before
+
+  -- the place of face t
+  abbrev row : ℕ
+  row = getD (head .before .face-places .last .1 .1 .1 .0) (head .loop .t) 0
+
+  face : let args = known .before .args in IsFace (args .s .now) (args .p) (args .j) (head .loop .t) row
+  face = head .before .face-places .ensures .face (head .loop .t) (omega (arith, c .loop-test .taken))
+
+element-copy-out-line : tie.Need-element-copy-out-line Inv-loop μ-loop
+element-copy-out-line c = omega (arith, c .loop-test .taken, given (known c) .inside)
+
+line-requires : tie.Need-line-requires Inv-loop μ-loop
+line-requires c κs = let turn = c .before in let g = given (known turn) in omega (arith, g .held .ends, face turn .below, g .lines)
 
 module _ (c : tie.After-line Inv-loop μ-loop) where
-  abbrev known : tie.After-shared-slice-known Inv-loop μ-loop
-  known = c .before .before .before .before
+  abbrev turn : tie.In-loop Inv-loop μ-loop
+  turn = c .before .before
 
-  place : let args = known .before .args in
-      Place (args .m) (length (args .w .now)) (c .before .face-place .result) (args .j) (c .line .result + args .j)
-  place = entry-place (given known) (c .before .face-place .ensures) (omega (arith, c .line .ensures))
+  place : let args = known turn .before .args in Place (args .m) (length (args .w .now)) (row turn) (args .j) (c .line .result + args .j)
+  place = entry-place (given (known turn)) (face turn) (omega (arith, c .line .ensures))
 
 add-at : tie.Need-add-at Inv-loop μ-loop
 add-at c = omega (arith, place-inside (place c))
@@ -130,37 +153,29 @@ sign-requires : tie.Need-sign-requires Inv-loop μ-loop
 sign-requires c κs = tt
 
 cast-w : tie.Need-cast-w Inv-loop μ-loop
-cast-w c = sign-cast (c .sign .result) (c .before .before .before .before .loop .t) (c .sign .ensures)
+cast-w c = sign-cast (c .sign .result) (head (turn (c .before)) .loop .t) (c .sign .ensures)
 
-mul-t9 : tie.Need-mul-t9 Inv-loop μ-loop
-mul-t9 c = omega (arith, place-inside (place (c .before)))
+mul-t11 : tie.Need-mul-t11 Inv-loop μ-loop
+mul-t11 c = omega (arith, place-inside (place (c .before)))
 
 slice-set-from-w : tie.Need-slice-set-from-w Inv-loop μ-loop
-slice-set-from-w c = omega (arith, place-inside (place (c .before)), c .before .before .before .before .loop .inv .so-far .same-length)
+slice-set-from-w c = omega (arith, place-inside (place (c .before)), head (turn (c .before)) .loop .inv .so-far .same-length)
 
 loop-again : tie.Need-loop-again Inv-loop μ-loop
 loop-again c =
-    let turn = c .before .before .before in let args = known (c .before) .before .args in let place-of = c .before .line .result + args .j in
-    subst (λ (v : ℤ). Invariant (args .s .now) (args .p) (args .m) (args .w .now) (args .j) (set (turn .before .loop .w) place-of v) (turn .before .loop .t + 1))
-    (sym (sign-entry (c .sign .result) (turn .before .loop .t) (c .sign .ensures)))
-    (more (given (known (c .before))) (turn .before .loop .inv) (turn .loop-test .taken) (c .before .before .face-place .ensures) (place (c .before)))
+    let at = turn (c .before) in let loop = head at .loop in let args = known at .before .args in let place-of = c .before .line .result + args .j in
+    subst (λ (v : ℤ). Invariant (args .s .now) (args .p) (args .m) (args .w .now) (args .j) (set (loop .w) place-of v) (loop .t + 1))
+    (sym (sign-entry (c .sign .result) (loop .t) (c .sign .ensures)))
+    (more (given (known at)) (loop .inv) (at .loop-test .taken) (face at) (place (c .before)))
 
 same-length : tie.Need-same-length Inv-loop μ-loop
 same-length c = c .before .loop .inv .so-far .same-length
 
 returns : tie.Need-returns Inv-loop μ-loop
-returns c = ended (given (c .before .before)) (c .before .loop .inv) (c .loop-test .left)
-
-face-place-requires : tie.Need-face-place-requires Inv-loop μ-loop
-face-place-requires c κs =
-    let pre = c .before .before .before .pre in (pre .0 .0, (pre .0 .1, cell-below (given (c .before .before)), omega (arith, c .loop-test .taken)))
-
-line-requires : tie.Need-line-requires Inv-loop μ-loop
-line-requires c κs =
-    let g = given (c .before .before .before) in omega (arith, g .held .ends, c .face-place .ensures .below, g .lines)
+returns c = let called = c .before .before in (ended (given (called .before .before)) (c .before .loop .inv) (c .loop-test .left), called .face-places .ensures .sized)
 
 pub fill-column-spec : {M : Type 1} → statement M
 fill-column-spec =
     tie.close
-    (tie.spec Inv-loop μ-loop loop-holds (λ c. omega arith) face-place-requires line-requires add-at sign-requires cast-w mul-t9
-    slice-set-from-w (λ c. omega arith) (λ c. omega arith) loop-again same-length returns)
+    (tie.spec Inv-loop μ-loop face-places-requires loop-holds (λ c. omega arith) (λ c. omega (arith, element-copy-out-line c)) element-copy-out-line line-requires
+    add-at sign-requires cast-w mul-t11 slice-set-from-w (λ c. omega arith) (λ c. omega arith) loop-again same-length returns)

@@ -26,36 +26,34 @@ use Rattle.lines.proofs.Operations.{upTo, upTo-below, upTo-from}
 use Rattle.words.specs.Read.{read, read-entry, entry-fits}
 use Rattle.words.specs.Tests.{beyond-low, beyond-high, within}
 use Rattle.faces.specs.Face.{AreFaces}
-use Rattle.boundaries.specs.Column.{ColumnFilled, ColumnExceeds}
+use Rattle.boundaries.specs.Column.{atPlaces, ColumnFilled, ColumnExceeds}
 use Rattle.faces.proofs.Sheet.{complex}
 use Rattle.boundaries.proofs.Store.{Place, place-inside, entry-set, column-set}
 use Rattle.boundaries.proofs.Products.{product, contents-kept, product-entry}
 use Rattle.boundaries.proofs.product.multiply_column.Statement.{statement}
 use Rattle.boundaries.proofs.product.multiply_column.Tie as tie
 
--- what the function is given, and the places of the faces
-record Given (b : List ℕ) (p : ℕ) (q M : Matrix) (w₀ : List ℤ) (j : ℕ) (places : List ℕ) : Type 0 where
-  sheet : Complex top libraryLimit (sectionsOf b)
-  rows : q .width ≡ count (sectionsOf b) p
-  columns : M .width ≡ count (sectionsOf b) (suc p)
+-- what the function is given
+record Given (q M : Matrix) (w₀ : List ℤ) (j : ℕ) (places : List ℕ) (faces : ℕ) : Type 0 where
   lines : M .lines ≡ q .lines
   below : j < M .width
+  few : faces ≤ suc top
+  inside : (t : ℕ) → t < faces → getD places t 0 < q .width
   held : Held (length w₀) q
   before : end M ≤ q .at
   small : Small w₀
-  faces : AreFaces b p j places
 
-record Invariant (b : List ℕ) (p : ℕ) (q M : Matrix) (w₀ : List ℤ) (j : ℕ) (w : List ℤ) (i : ℕ) : Type 0 where
+record Invariant (q M : Matrix) (w₀ : List ℤ) (j : ℕ) (places : List ℕ) (faces : ℕ) (w : List ℤ) (i : ℕ) : Type 0 where
   below : i ≤ M .lines
-  so-far : ColumnFilled M w₀ (upTo i (product (chainCells b) p q w₀) (contents M w₀)) j w
+  so-far : ColumnFilled M w₀ (upTo i (atPlaces q w₀ places faces) (contents M w₀)) j w
 
-module _ {b : List ℕ} {p : ℕ} {q M : Matrix} {w₀ : List ℤ} {j : ℕ} {places : List ℕ} (given : Given b p q M w₀ j places) where
-  begun : Invariant b p q M w₀ j w₀ 0
+module _ {q M : Matrix} {w₀ : List ℤ} {j : ℕ} {places : List ℕ} {faces : ℕ} (given : Given q M w₀ j places faces) where
+  begun : Invariant q M w₀ j places faces w₀ 0
   begun = record {
     below = omega arith;
     so-far = record {
       same-length = refl;
-      on = λ i l. sym (upTo-from 0 (product (chainCells b) p q w₀) (contents M w₀) i j (omega arith));
+      on = λ i l. sym (upTo-from 0 (atPlaces q w₀ places faces) (contents M w₀) i j (omega arith));
       beside = λ i k l m d. refl;
       off = λ i o. refl;
       small = given .small;
@@ -65,33 +63,32 @@ module _ {b : List ℕ} {p : ℕ} {q M : Matrix} {w₀ : List ℤ} {j : ℕ} {pl
   held-before : Held (length w₀) M
   held-before = record { ends = omega (arith, given .before, given .held .ends) }
 
-  module _ {w : List ℤ} {i : ℕ} (inv : Invariant b p q M w₀ j w i) where
+  module _ {w : List ℤ} {i : ℕ} (inv : Invariant q M w₀ j places faces w i) where
     -- line i times the column
-    entry-is : (line : ℕ) → line ≡ lineAt (q .at) (q .width) i → (v : ℤ) → v ≡ sum (p + 2) (λ t. at w (line + getD places t 0) *ℤ sign t)
-        → v ≡ product (chainCells b) p q w₀ i j
+    entry-is : (line : ℕ) → line ≡ lineAt (q .at) (q .width) i → (v : ℤ) → v ≡ sum faces (λ t. at w (line + getD places t 0) *ℤ sign t)
+        → v ≡ atPlaces q w₀ places faces i j
     entry-is line e v v-is =
         v-is
-        ∙ ap (λ (l : ℕ). sum (p + 2) (λ t. at w (l + getD places t 0) *ℤ sign t)) e
-        ∙ sum-ext (p + 2) (λ t. contents q w i (getD places t 0) *ℤ sign t) (λ t. contents q w₀ i (getD places t 0) *ℤ sign t)
+        ∙ ap (λ (l : ℕ). sum faces (λ t. at w (l + getD places t 0) *ℤ sign t)) e
+        ∙ sum-ext faces (λ t. contents q w i (getD places t 0) *ℤ sign t) (λ t. contents q w₀ i (getD places t 0) *ℤ sign t)
         (λ t l. ap (λ (x : ℤ). x *ℤ sign t) (contents-kept q M w₀ w (given .before) (inv .so-far .off) i (getD places t 0)))
-        ∙ product-entry b (given .sheet) p j (omega (arith, given .below, given .columns)) places (given .faces) (q .width) (given .rows) (contents q w₀) i
 
-    too-wide : i < M .lines → entryLimit < natAbs (product (chainCells b) p q w₀ i j) → ColumnExceeds M w₀ (product (chainCells b) p q w₀) j w
+    too-wide : i < M .lines → entryLimit < natAbs (atPlaces q w₀ places faces i j) → ColumnExceeds M w₀ (atPlaces q w₀ places faces) j w
     too-wide l h = record { same-length = inv .so-far .same-length; line = i; line-below = l; beyond = h; small = inv .so-far .small }
 
-    more : {place : ℕ} (v : ℤ) → Place M (length w₀) i j place → v ≡ product (chainCells b) p q w₀ i j → natAbs v ≤ entryLimit
-        → Invariant b p q M w₀ j (set w place v) (i + 1)
+    more : {place : ℕ} (v : ℤ) → Place M (length w₀) i j place → v ≡ atPlaces q w₀ places faces i j → natAbs v ≤ entryLimit
+        → Invariant q M w₀ j places faces (set w place v) (i + 1)
     more v e v-is l = record {
       below = omega (arith, e .line);
-      so-far = column-set (entry-set e w v (inv .so-far .same-length) (inv .so-far .small) l) (upTo (i + 1) (product (chainCells b) p q w₀) (contents M w₀))
-          (upTo-below (i + 1) (product (chainCells b) p q w₀) (contents M w₀) i j (omega arith) ∙ sym v-is)
+      so-far = column-set (entry-set e w v (inv .so-far .same-length) (inv .so-far .small) l) (upTo (i + 1) (atPlaces q w₀ places faces) (contents M w₀))
+          (upTo-below (i + 1) (atPlaces q w₀ places faces) (contents M w₀) i j (omega arith) ∙ sym v-is)
           (inv .so-far)
           (λ a k d. pick a d (decLt a i))
           (given .below);
     }
       where
         new : theory.Matrix
-        new = product (chainCells b) p q w₀
+        new = atPlaces q w₀ places faces
 
         old : theory.Matrix
         old = contents M w₀
@@ -100,36 +97,33 @@ module _ {b : List ℕ} {p : ℕ} {q M : Matrix} {w₀ : List ℤ} {j : ℕ} {pl
         pick a d (yes m) = upTo-below (i + 1) new old a j (omega arith) ∙ sym (upTo-below i new old a j m)
         pick a d (no m) = upTo-from (i + 1) new old a j (omega arith) ∙ sym (upTo-from i new old a j (omega arith))
 
-    ended : M .lines ≤ i → ColumnFilled M w₀ (product (chainCells b) p q w₀) j w
+    ended : M .lines ≤ i → ColumnFilled M w₀ (atPlaces q w₀ places faces) j w
     ended done = record {
       same-length = inv .so-far .same-length;
-      on = λ a l. inv .so-far .on a l ∙ upTo-below i (product (chainCells b) p q w₀) (contents M w₀) a j (omega arith);
+      on = λ a l. inv .so-far .on a l ∙ upTo-below i (atPlaces q w₀ places faces) (contents M w₀) a j (omega arith);
       beside = inv .so-far .beside;
       off = inv .so-far .off;
       small = inv .so-far .small;
     }
 
 abbrev Inv-loop : tie.InvT-loop
-Inv-loop s p q m w₀ j places lines width i₀ w i = Invariant s p q m w₀ j w i
+Inv-loop q m w₀ j places faces lines width i₀ w i = Invariant q m w₀ j places faces w i
 
 abbrev μ-loop : tie.MeasureT-loop
-μ-loop s p q m w₀ j places lines width i₀ w i = m .lines - i
+μ-loop q m w₀ j places faces lines width i₀ w i = m .lines - i
 
-given : (c : tie.After-face-places Inv-loop μ-loop) →
-    let args = c .before .before .args in Given (args .s .now) (args .p) (args .q) (args .m) (args .w .now) (args .j) (c .face-places .result)
-unfolding chainCells
+given : (c : tie.Start Inv-loop μ-loop) →
+    let args = c .args in Given (args .q) (args .m) (args .w .now) (args .j) (args .places) (args .faces)
 given c =
-    let pre = c .before .before .pre in
+    let pre = c .pre in
     record {
-      sheet = complex (record { small = λ i. c .before .shared-slice-known .given i .fits }) (pre .0 .0);
-      rows = pre .1 .0 .0;
-      columns = pre .1 .0 .1;
-      lines = pre .1 .0 .2;
-      below = pre .1 .0 .3;
+      lines = pre .0 .0;
+      below = pre .0 .1;
+      few = pre .0 .2;
+      inside = pre .1 .0;
       held = pre .1 .1 .0;
       before = pre .1 .1 .1;
       small = pre .1 .1 .2;
-      faces = c .face-places .ensures;
     }
 
 loop-holds : tie.Need-loop-holds Inv-loop μ-loop
@@ -137,11 +131,10 @@ loop-holds c = begun (given c)
 
 line-product-requires : tie.Need-line-product-requires Inv-loop μ-loop
 line-product-requires c κs =
-    let turn = c .before .before in let facing = turn .before .before in let start = facing .before .before in let g = given facing in
-    let inv = turn .before .loop .inv in
+    let turn = c .before .before in let start = turn .before .before in let g = given start in let inv = turn .before .loop .inv in
     let line = line-span (start .args .q) (c .line .result) (turn .before .loop .i) (c .line .ensures) (turn .loop-test .taken) in (
-      (omega (arith, span-inside line (g .held), inv .so-far .same-length), inv .so-far .small, omega (arith, start .pre .0 .1)),
-      λ t l. omega (arith, g .faces .face t (omega arith) .below, g .rows),
+      (omega (arith, span-inside line (g .held), inv .so-far .same-length), inv .so-far .small, g .few),
+      g .inside,
     )
 
 sub-if1 : tie.Need-sub-if1 Inv-loop μ-loop
@@ -152,11 +145,8 @@ module _ (c : tie.After-line-product Inv-loop μ-loop) where
   abbrev turn : tie.In-loop Inv-loop μ-loop
   turn = c .before .before .before
 
-  abbrev facing : tie.After-face-places Inv-loop μ-loop
-  facing = turn .before .before
-
   abbrev start : tie.Start Inv-loop μ-loop
-  start = facing .before .before
+  start = turn .before .before
 
   abbrev v : ℤ
   v = c .line-product .result
@@ -167,16 +157,16 @@ module _ (c : tie.After-line-product Inv-loop μ-loop) where
   read-v : read w64 v ≡ v
   read-v = toZ-ofZ v-fits
 
-  v-is : v ≡ product (chainCells (start .args .s .now)) (start .args .p) (start .args .q) (start .args .w .now) (turn .before .loop .i) (start .args .j)
-  v-is = entry-is (given facing) (turn .before .loop .inv) (c .before .line .result) (c .before .line .ensures) v (c .line-product .ensures)
+  v-is : v ≡ atPlaces (start .args .q) (start .args .w .now) (start .args .places) (start .args .faces) (turn .before .loop .i) (start .args .j)
+  v-is = entry-is (given start) (turn .before .loop .inv) (c .before .line .result) (c .before .line .ensures) v (c .line-product .ensures)
 
   line-below : turn .before .loop .i < start .args .m .lines
-  line-below = omega (arith, turn .loop-test .taken, given facing .lines)
+  line-below = omega (arith, turn .loop-test .taken, given start .lines)
 
   exceeds : entryLimit < natAbs (read w64 v)
-      → ColumnExceeds (start .args .m) (start .args .w .now) (product (chainCells (start .args .s .now)) (start .args .p) (start .args .q) (start .args .w .now)) (start .args .j)
+      → ColumnExceeds (start .args .m) (start .args .w .now) (atPlaces (start .args .q) (start .args .w .now) (start .args .places) (start .args .faces)) (start .args .j)
       (turn .before .loop .w)
-  exceeds h = too-wide (given facing) (turn .before .loop .inv) line-below (subst (λ (z : ℤ). entryLimit < natAbs z) (read-v ∙ v-is) h)
+  exceeds h = too-wide (given start) (turn .before .loop .inv) line-below (subst (λ (z : ℤ). entryLimit < natAbs z) (read-v ∙ v-is) h)
 
 same-length : tie.Need-same-length Inv-loop μ-loop
 same-length c = turn (c .before) .before .loop .inv .so-far .same-length
@@ -201,9 +191,9 @@ module _ (c : tie.After-line2 Inv-loop μ-loop) where
   place : let args = start made .args in
       Place (args .m) (length (args .w .now)) (turn made .before .loop .i) (args .j) (c .line2 .result + args .j)
   place = record {
-    held = held-before (given (facing made));
+    held = held-before (given (start made));
     line = line-below made;
-    column = given (facing made) .below;
+    column = given (start made) .below;
     is = omega (arith, c .line2 .ensures);
   }
 
@@ -217,8 +207,8 @@ add-at c = omega (arith, place-inside (place c))
 cast-w : tie.Need-cast-w Inv-loop μ-loop
 cast-w c = rw (read-v (made c)) (entry-fits (v (made c)) (stays (c .before)))
 
-mul-t16 : tie.Need-mul-t16 Inv-loop μ-loop
-mul-t16 c = omega (arith, place-inside (place c))
+mul-t15 : tie.Need-mul-t15 Inv-loop μ-loop
+mul-t15 c = omega (arith, place-inside (place c))
 
 slice-set-from-w : tie.Need-slice-set-from-w Inv-loop μ-loop
 slice-set-from-w c = omega (arith, place-inside (place c), turn (made c) .before .loop .inv .so-far .same-length)
@@ -226,9 +216,9 @@ slice-set-from-w c = omega (arith, place-inside (place c), turn (made c) .before
 loop-again : tie.Need-loop-again Inv-loop μ-loop
 loop-again c =
     let args = start (made c) .args in let head = turn (made c) .before .loop in
-    subst (λ (z : ℤ). Invariant (args .s .now) (args .p) (args .q) (args .m) (args .w .now) (args .j) (set (head .w) (c .line2 .result + args .j) z) (head .i + 1))
+    subst (λ (z : ℤ). Invariant (args .q) (args .m) (args .w .now) (args .j) (args .places) (args .faces) (set (head .w) (c .line2 .result + args .j) z) (head .i + 1))
     (sym (written c))
-    (more (given (facing (made c))) (head .inv) (v (made c)) (place c) (v-is (made c)) (stays (c .before)))
+    (more (given (start (made c))) (head .inv) (v (made c)) (place c) (v-is (made c)) (stays (c .before)))
 
 same-length-3 : tie.Need-same-length-3 Inv-loop μ-loop
 same-length-3 c = c .before .loop .inv .so-far .same-length
@@ -236,13 +226,9 @@ same-length-3 c = c .before .loop .inv .so-far .same-length
 returns-3 : tie.Need-returns-3 Inv-loop μ-loop
 returns-3 c = ended (given (c .before .before)) (c .before .loop .inv) (omega (arith, c .loop-test .left, given (c .before .before) .lines))
 
-face-places-requires : tie.Need-face-places-requires Inv-loop μ-loop
-unfolding chainCells
-face-places-requires c κs = let pre = c .before .pre in (pre .0 .0, (pre .0 .1, omega (arith, pre .1 .0 .1, pre .1 .0 .3)))
-
 pub multiply-column-spec : {M : Type 1} → statement M
 multiply-column-spec =
     tie.close
-    (tie.spec Inv-loop μ-loop face-places-requires loop-holds (λ c κs. omega arith) (λ c. omega arith) line-product-requires sub-if1 same-length
-    returns same-length-2 returns-2 (λ c κs. omega arith) add-at cast-w mul-t16 slice-set-from-w (λ c. omega arith) (λ c. omega arith) loop-again
+    (tie.spec Inv-loop μ-loop loop-holds (λ c κs. omega arith) line-product-requires sub-if1 same-length
+    returns same-length-2 returns-2 (λ c κs. omega arith) add-at cast-w mul-t15 slice-set-from-w (λ c. omega arith) (λ c. omega arith) loop-again
     same-length-3 returns-3)

@@ -134,10 +134,10 @@ ended {b} {p} {j} {x} {sums₀} {t} {sums} given inv done = record {
     all = omega (arith, inv .within)
 
 abbrev Inv-loop : tie.InvT-loop
-Inv-loop s p j x sums₀ t₀ sums t = Invariant s p j (toZ w64 x) sums₀ t sums
+Inv-loop s p j x sums₀ places t₀ sums t = Invariant s p j (toZ w64 x) sums₀ t sums
 
 abbrev μ-loop : tie.MeasureT-loop
-μ-loop s p j x sums₀ t₀ sums t = p + 2 - t
+μ-loop s p j x sums₀ places t₀ sums t = p + 2 - t
 
 -- the factor as the machine reads it
 read-x : (c : tie.Start Inv-loop μ-loop) → read w64 (c .args .x) ≡ c .args .x
@@ -156,66 +156,76 @@ given c =
       sums = pre .1 .1 .1;
     }
 
-loop-holds : tie.Need-loop-holds Inv-loop μ-loop
-loop-holds c = let args = c .before .args in begun (args .s .now) (args .p) (args .j) (read w64 (args .x)) (args .sums .now)
+face-places-requires : tie.Need-face-places-requires Inv-loop μ-loop
+unfolding chainCells
+face-places-requires c κs = let pre = c .before .before .pre in (pre .0, pre .1 .0)
 
--- the place of a face is one of the sums
-inside : (c : tie.After-face-place Inv-loop μ-loop) → c .face-place .result < libraryLimit
-inside c =
-    let known = c .before .before .before in omega (arith, c .face-place .ensures .below, given known .sheet .within (known .before .args .p))
+loop-holds : tie.Need-loop-holds Inv-loop μ-loop
+loop-holds c = let args = c .before .before .before .args in begun (args .s .now) (args .p) (args .j) (read w64 (args .x)) (args .sums .now)
+
+-- a turn
+module _ (c : tie.In-loop Inv-loop μ-loop) where
+  abbrev head : tie.At-loop Inv-loop μ-loop
+  head = c .before
+
+  abbrev known : tie.After-shared-slice-known Inv-loop μ-loop
+  known = head .before .before .before
+
+  -- the place of face t
+  abbrev row : ℕ
+  row = getD (head .before .face-places .last .1 .1 .1 .0) (head .loop .t) 0
+
+  face : let args = known .before .args in IsFace (args .s .now) (args .p) (args .j) (head .loop .t) row
+  face = head .before .face-places .ensures .face (head .loop .t) (omega (arith, c .loop-test .taken))
+
+  -- .. is one of the sums
+  inside : row < libraryLimit
+  inside = omega (arith, face .below, given known .sheet .within (known .before .args .p))
+
+  before : let args = known .before .args in Invariant (args .s .now) (args .p) (args .j) (args .x) (args .sums .now) (head .loop .t) (head .loop .sums)
+  before = with-factor (read-x (known .before)) (head .loop .inv)
+
+element-copy-out-i : tie.Need-element-copy-out-i Inv-loop μ-loop
+element-copy-out-i c = omega (arith, c .loop-test .taken, given (known c) .inside)
 
 mul-sums : tie.Need-mul-sums Inv-loop μ-loop
-mul-sums c = omega (arith, inside c)
+mul-sums c = omega (arith, inside (c .before))
 
 element-copy-out-sums : tie.Need-element-copy-out-sums Inv-loop μ-loop
-element-copy-out-sums c = inside c
+element-copy-out-sums c = inside (c .before)
 
 sign-requires : tie.Need-sign-requires Inv-loop μ-loop
 sign-requires c κs = tt
 
-module _ (c : tie.After-sign Inv-loop μ-loop) where
-  abbrev called : tie.After-face-place Inv-loop μ-loop
-  called = c .before .before
-
-  abbrev known : tie.After-shared-slice-known Inv-loop μ-loop
-  known = called .before .before .before
-
-  before : let args = known .before .args in
-      Invariant (args .s .now) (args .p) (args .j) (args .x) (args .sums .now) (called .before .before .loop .t) (called .before .before .loop .sums)
-  before = with-factor (read-x (known .before)) (called .before .before .loop .inv)
+-- the turn of a term
+abbrev turn : tie.After-sign Inv-loop μ-loop → tie.In-loop Inv-loop μ-loop
+turn c = c .before .before .before
 
 mul-sums-2 : tie.Need-mul-sums-2 Inv-loop μ-loop
 mul-sums-2 c =
-    term-word (given (known c)) (before c) (called c .before .loop-test .taken) (called c .face-place .result) (called c .face-place .ensures) (c .sign .result)
-    (c .sign .ensures)
+    term-word (given (known (turn c))) (before (turn c)) (turn c .loop-test .taken) (row (turn c)) (face (turn c)) (c .sign .result) (c .sign .ensures)
 
 add-sums : tie.Need-add-sums Inv-loop μ-loop
-add-sums c =
-    sum-word (given (known c)) (before c) (called c .before .loop-test .taken) (called c .face-place .result) (called c .face-place .ensures) (c .sign .result)
-    (c .sign .ensures)
+add-sums c = sum-word (given (known (turn c))) (before (turn c)) (turn c .loop-test .taken) (row (turn c)) (face (turn c)) (c .sign .result) (c .sign .ensures)
 
-mul-t16 : tie.Need-mul-t16 Inv-loop μ-loop
-mul-t16 c = omega (arith, inside (called c))
+mul-t15 : tie.Need-mul-t15 Inv-loop μ-loop
+mul-t15 c = omega (arith, inside (turn c))
 
 element-set-from-sums : tie.Need-element-set-from-sums Inv-loop μ-loop
-element-set-from-sums c = inside (called c)
+element-set-from-sums c = inside (turn c)
 
 loop-again : tie.Need-loop-again Inv-loop μ-loop
 loop-again c =
-    with-factor (sym (read-x (known c .before)))
-    (again (given (known c)) (before c) (called c .before .loop-test .taken) (called c .face-place .result) (called c .face-place .ensures) (c .sign .result)
-    (c .sign .ensures))
+    with-factor (sym (read-x (known (turn c) .before)))
+    (again (given (known (turn c))) (before (turn c)) (turn c .loop-test .taken) (row (turn c)) (face (turn c)) (c .sign .result) (c .sign .ensures))
 
 returns : tie.Need-returns Inv-loop μ-loop
-returns c = ended (given (c .before .before)) (with-factor (read-x (c .before .before .before)) (c .before .loop .inv)) (c .loop-test .left)
-
-face-place-requires : tie.Need-face-place-requires Inv-loop μ-loop
-unfolding chainCells
-face-place-requires c κs =
-    let pre = c .before .before .before .pre in (pre .0, (pre .1 .0 .0, pre .1 .0 .1, omega (arith, c .loop-test .taken)))
+returns c =
+    let called = c .before .before in let known = called .before .before in
+    (ended (given known) (with-factor (read-x (known .before)) (c .before .loop .inv)) (c .loop-test .left), called .face-places .ensures .sized)
 
 pub add-faces-spec : {M : Type 1} → statement M
 add-faces-spec =
     tie.close
-    (tie.spec Inv-loop μ-loop loop-holds (λ c. omega arith) face-place-requires mul-sums element-copy-out-sums sign-requires mul-sums-2 add-sums
-    mul-t16 element-set-from-sums (λ c. omega arith) (λ c. omega arith) loop-again returns)
+    (tie.spec Inv-loop μ-loop face-places-requires loop-holds (λ c. omega arith) (λ c. omega (arith, element-copy-out-i c)) element-copy-out-i mul-sums
+    element-copy-out-sums sign-requires mul-sums-2 add-sums mul-t15 element-set-from-sums (λ c. omega arith) (λ c. omega arith) loop-again returns)

@@ -125,10 +125,10 @@ module _ {K : Sections} {p : ℕ} {chain : List ℤ} {j : ℕ} {sums : List ℤ}
       (λ i l. ap not (eq-eqb (natAbs (whole i)) 0 (ap natAbs (sym (sum-is i l) ∙ h i l)))))
 
 abbrev Inv-loop : tie.InvT-loop
-Inv-loop s p chain sums₀ j₀ sums j = Summed (chainCells s) (p - 1) chain j sums
+Inv-loop s p chain sums₀ places₀ j₀ sums places j = Summed (chainCells s) (p - 1) chain j sums × (length places ≡ suc top)
 
 abbrev μ-loop : tie.MeasureT-loop
-μ-loop s p chain sums₀ j₀ sums j = length chain - j
+μ-loop s p chain sums₀ places₀ j₀ sums places j = length chain - j
 
 abbrev Inv-loop2 : tie.InvT-loop2
 Inv-loop2 s p chain sums j rows row₀ row = (row ≤ rows) × ((k : ℕ) → k < row → getD sums k (pos 0) ≡ pos 0)
@@ -157,7 +157,8 @@ given c =
     }
 
 loop-holds : tie.Need-loop-holds Inv-loop μ-loop Inv-loop2 μ-loop2
-loop-holds c = let args = c .before .before .args in begun (chainCells (args .s .now)) (args .p - 1) (args .chain .now) (given c .sheet .within (args .p - 1))
+loop-holds c =
+    let args = c .before .before .args in (begun (chainCells (args .s .now)) (args .p - 1) (args .chain .now) (given c .sheet .within (args .p - 1)), refl)
 
 shared-slice-copy-out-x : tie.Need-shared-slice-copy-out-x Inv-loop μ-loop Inv-loop2 μ-loop2
 shared-slice-copy-out-x c = c .loop-test .taken
@@ -185,11 +186,11 @@ cast-x c = cast-fits (x c) (x-fits c)
 
 add-faces-requires : tie.Need-add-faces-requires Inv-loop μ-loop Inv-loop2 μ-loop2
 add-faces-requires c κs =
-    let at = c .before .before in let g = given (head at .before) in (
+    let at = c .before .before .before in let g = given (head at .before) in (
       start at .pre .0,
       (
-        (g .inside, omega (arith, at .before .loop-test .taken, g .sized)),
-        (subst (λ (z : ℤ). natAbs z ≤ coefficientLimit) (sym (x-is at)) (g .small (head at .loop .j)), sums-small g (head at .loop .inv)),
+        (g .inside, omega (arith, at .before .loop-test .taken, g .sized), head at .loop .inv .1),
+        (subst (λ (z : ℤ). natAbs z ≤ coefficientLimit) (sym (x-is at)) (g .small (head at .loop .j)), sums-small g (head at .loop .inv .0)),
       ),
     )
 
@@ -198,13 +199,17 @@ loop-again c =
     let at = c .before in let g = given (head at .before) in let args = start at .args in let j = head at .loop .j in let inv = head at .loop .inv in
     let more = at .before .loop-test .taken in
     ⊎-elim
-    (λ way.
-    subst (λ (sums : List ℤ). Summed (chainCells (args .s .now)) (args .p - 1) (args .chain .now) (j + 1) sums) (sym (way .3))
-    (added g inv more
-    (subst (λ (z : ℤ). AddsFaces (chainCells (args .s .now)) (args .p - 1) j z (head at .loop .sums) (way .2 .last .1 .1 .1 .1 .0)) (x-is at) (way .2 .ensures))))
-    (λ way.
-    subst (λ (sums : List ℤ). Summed (chainCells (args .s .now)) (args .p - 1) (args .chain .now) (j + 1) sums) (sym (way .1))
-    (skipped g inv more (sym (toZ-ofZ (x-fits at)) ∙ zero-of-bits (cast-x at) (way .0 .left))))
+    (λ way. (
+      subst (λ (sums : List ℤ). Summed (chainCells (args .s .now)) (args .p - 1) (args .chain .now) (j + 1) sums) (sym (way .4))
+          (added g (inv .0) more
+          (subst (λ (z : ℤ). AddsFaces (chainCells (args .s .now)) (args .p - 1) j z (head at .loop .sums) (way .3 .last .1 .1 .1 .1 .0)) (x-is at) (way .3 .ensures .0))),
+      ap length (way .5) ∙ way .3 .ensures .1,
+    ))
+    (λ way. (
+      subst (λ (sums : List ℤ). Summed (chainCells (args .s .now)) (args .p - 1) (args .chain .now) (j + 1) sums) (sym (way .1))
+          (skipped g (inv .0) more (sym (toZ-ofZ (x-fits at)) ∙ zero-of-bits (cast-x at) (way .0 .left))),
+      ap length (way .2) ∙ inv .1,
+    ))
     (c .if2 .came)
 
 count-requires : tie.Need-count-requires Inv-loop μ-loop Inv-loop2 μ-loop2
@@ -231,7 +236,7 @@ returns-2 c =
     let turn = c .before .before in let counted = turn .before .before in let first = counted .before .before .before in
     let args = first .before .before .args in
     subst (λ (n : ℕ). true ≡ boundaryNotZero (chainCells (now (args .s))) n (now (args .chain))) (positive first)
-    (found (given first) (counted .before .before .loop .inv) (counted .before .loop-test .left) (turn .before .loop2 .row)
+    (found (given first) (counted .before .before .loop .inv .0) (counted .before .loop-test .left) (turn .before .loop2 .row)
     (omega (arith, turn .loop2-test .taken, rows counted))
     (λ e. c .if3 .taken (ap (ofZ w64) e)))
 
@@ -251,7 +256,7 @@ returns-3 : tie.Need-returns-3 Inv-loop μ-loop Inv-loop2 μ-loop2
 returns-3 c =
     let counted = c .before .before in let first = counted .before .before .before in let args = first .before .before .args in
     subst (λ (n : ℕ). false ≡ boundaryNotZero (chainCells (now (args .s))) n (now (args .chain))) (positive first)
-    (none (given first) (counted .before .before .loop .inv) (counted .before .loop-test .left)
+    (none (given first) (counted .before .before .loop .inv .0) (counted .before .loop-test .left)
     (λ i l. c .before .loop2 .inv .1 i (omega (arith, c .loop2-test .left, rows counted))))
 
 pub boundary-not-zero-spec : {M : Type 1} → statement M
