@@ -1,6 +1,7 @@
 #!/usr/bin/env python3
 """Writes the sheets of the benchmark: the sized meshes of tests/model/meshes.py, and others so that each of four families has about 60, 120 and 250
-cells in its busiest dimension. Meshes with many loops stand in a folder of their own, for bench/lists.c."""
+cells in its busiest dimension. Meshes with many loops stand in a folder of their own, for bench/lists.c, and so do sheets with as many cells in every
+dimension, for bench/reading.c."""
 
 import argparse
 import re
@@ -9,8 +10,8 @@ from itertools import product
 from pathlib import Path
 
 sys.path.insert(0, str(Path(__file__).resolve().parent.parent / "tests"))
-from model import meshes  # noqa: E402
-from model.sheet import from_facets  # noqa: E402
+from model import meshes, sheet_cases  # noqa: E402
+from model.sheet import LIBRARY_COUNT_LIMIT, PROGRAM_COUNT_LIMIT, from_facets  # noqa: E402
 
 
 def between():
@@ -42,20 +43,31 @@ def many_loops():
     return {"chequered 11x9": chequered(11, 9), "lattice 4x4": lattice(4, 4), "lattice 10x11": lattice(10, 11)}
 
 
-def write(folder, facets_by_name):
-    """Writes FOLDER/NAME.sheet for each mesh."""
+def write(folder, sheets):
+    """Writes FOLDER/NAME.sheet for each sheet."""
     folder.mkdir(parents=True, exist_ok=True)
-    for name, facets in facets_by_name.items():
-        (folder / (re.sub(r"[^a-z0-9]+", "-", name.lower()) + ".sheet")).write_bytes(from_facets(facets))
+    for name, data in sheets.items():
+        (folder / (re.sub(r"[^a-z0-9]+", "-", name.lower()) + ".sheet")).write_bytes(data)
+
+
+def sheets_of(facets_by_name):
+    """The sheet of each mesh."""
+    return {name: from_facets(facets) for name, facets in facets_by_name.items()}
+
+
+def full():
+    """Sheets with as many cells in every dimension, by name: as many as the host calls take, and as the library's calls take."""
+    return {f"full {count}": sheet_cases.full(count) for count in (PROGRAM_COUNT_LIMIT, LIBRARY_COUNT_LIMIT)}
 
 
 def main():
-    """Writes the sheets to FOLDER, those with many loops to FOLDER/loops."""
+    """Writes the sheets to FOLDER, those with many loops to FOLDER/loops, those with as many cells in every dimension to FOLDER/full."""
     parser = argparse.ArgumentParser(description=__doc__)
     parser.add_argument("folder", metavar="FOLDER", type=Path)
     folder = parser.parse_args().folder
-    write(folder, {**meshes.sized(), **between()})
-    write(folder / "loops", many_loops())
+    write(folder, sheets_of({**meshes.sized(), **between()}))
+    write(folder / "loops", sheets_of(many_loops()))
+    write(folder / "full", full())
 
 
 if __name__ == "__main__":

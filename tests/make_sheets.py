@@ -29,7 +29,7 @@ def fault_sheets():
     sheets = {}
     for limit in (PROGRAM_COUNT_LIMIT, LIBRARY_COUNT_LIMIT):
         cases = {**sheet_cases.damaged(limit), **sheet_cases.at_limit(limit)}
-        for name, (data, due) in {**cases, **sheet_cases.long_tails()}.items():
+        for name, (data, due) in {**cases, **sheet_cases.long_tails(), **sheet_cases.at_word_edges()}.items():
             if refusal(data, limit) != due:
                 raise SystemExit(f"{name}: refusal {due} is due at {limit} cells")
             sheets[name] = data

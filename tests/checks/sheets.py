@@ -2,11 +2,12 @@
 
 import struct
 import unittest
+from itertools import product
 
 from checks.common import EDGE, HOLLOW, random_sheets
 from model import sheet_cases
 from model.matrices import boundary, multiply
-from model.sheet import closure, dump, from_facets, layout, parse, refusal
+from model.sheet import closure, dump, from_facets, layout, parse, refusal, word
 
 
 class Sheets(unittest.TestCase):
@@ -45,6 +46,18 @@ class Sheets(unittest.TestCase):
         self.assertEqual(refusal(layout([vertices, [(0, 3), (1, 2)], [], []]), 48), 0)
         self.assertEqual(refusal(layout([vertices, [(1, 2), (0, 3)], [], []]), 48), 6)
         self.assertEqual(refusal(layout([vertices, [(0, 3), (0, 2)], [], []]), 48), 6)
+
+    def test_cells_at_word_edges(self):
+        for name, (data, due) in sheet_cases.at_word_edges().items():
+            self.assertEqual(refusal(data, 48), due, name)
+
+    def test_words_are_ordered_as_lists_of_one_length_and_shared_by_equal_ones(self):
+        numbers = [*sheet_cases.EDGE_NUMBERS, 1, 2]
+        for length in range(1, 5):
+            lists = sorted(product(numbers, repeat=length))
+            words = [word(vertices) for vertices in lists]
+            self.assertTrue(all(a < b for a, b in zip(words, words[1:])), length)
+            self.assertLess(words[-1], 1 << 64)
 
     def test_sheets_read_back(self):
         for data in random_sheets(1, 100):

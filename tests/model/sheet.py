@@ -44,6 +44,14 @@ def faces(cell):
     return [cell[:i] + cell[i + 1:] for i in range(len(cell))]
 
 
+def word(vertices):
+    """02, Note 2: up to four vertex numbers packed in 64 bits, the first in the highest."""
+    packed = 0
+    for v in vertices:
+        packed = packed << 16 | v
+    return packed
+
+
 def section_starts(counts):
     """The required offset of each section, and after them the required length."""
     starts = [HEADER_BYTES]

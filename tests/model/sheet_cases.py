@@ -175,6 +175,25 @@ def long_tails():
     return sheets
 
 
+# Vertex numbers at the edges of one byte, of 15 bits and of two bytes, where words of packed vertices would be ordered wrongly or shared.
+EDGE_NUMBERS = (0, 255, 256, 32767, 32768, 65535)
+
+
+def at_word_edges():
+    """All cells on such vertex numbers: whole, and with two neighbours exchanged, a cell twice or a cell left out, with the refusal due."""
+    whole = closure(combinations(EDGE_NUMBERS, DIMENSIONS))
+    sheets = {"all cells at word edges": (layout(whole), 0)}
+    for p, section in enumerate(whole):
+        for i, cell in enumerate(section):
+            changes = {"twice": (section[:i] + [cell] + section[i:], 6), "left out": (section[:i] + section[i + 1:], 7 if p < DIMENSIONS - 1 else 0)}
+            if i > 0:
+                changes["first exchanged"] = (section[:i - 1] + [cell, section[i - 1]] + section[i + 1:], 6)
+            for name, (changed, number) in changes.items():
+                cells = whole[:p] + [changed] + whole[p + 1:]
+                sheets[f"cell {'-'.join(map(str, cell))} {name}"] = (layout(cells), number)
+    return sheets
+
+
 def damage(rng, data):
     """The bytes of a sheet with one to three small changes anywhere."""
     data = bytearray(data)

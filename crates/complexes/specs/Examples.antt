@@ -1,16 +1,18 @@
--- The order of cells, and the boundary matrices of the full tetrahedron on the vertices 0 to 3, entry by entry.
---     order-examples       the cells of the table rise
---     boundary-examples    the rows of the matrix of each dimension 0 to 4 are those of the table
+-- The order of cells, their words, and the boundary matrices of the full tetrahedron on the vertices 0 to 3, entry by entry.
+--     order-examples, word-order-examples    the cells of the table rise, and so do their words
+--     packed-examples                        the words of the table are those of its cells
+--     boundary-examples                      the rows of the matrix of each dimension 0 to 4 are those of the table
 use mathlib.Core.Bool.{Bool, not, _&&_}
 use mathlib.Core.List.{List, [], _∷_}
 use Prim.Native.Nat.{ℕ}
-use lib.Dec.{T}
+use lib.Dec.{T, eqb, ltb}
 use lib.IntN.{ℤ, pos, negℤ}
 use Rattle.lists.specs.Tabulate.{tabulate}
 use Rattle.lists.specs.Same.{every, sameNumber, sameList}
 use Rattle.matrices.specs.Sum.{sum}
 use Rattle.complexes.specs.Cell.{Cell, without, same, precedes}
 use Rattle.complexes.specs.Complex.{Sections, count}
+use Rattle.complexes.specs.Packed.{packed}
 use Rattle.complexes.specs.Boundary.{sign, coefficient, countBelow, boundary}
 
 -- ---- the order of cells
@@ -36,6 +38,41 @@ rising pair = precedes (pair .first) (pair .second) && not (precedes (pair .seco
 pub order-examples : T (every rising pairs)
 unfolding every rising precedes
 order-examples = tt
+
+-- ---- words
+
+-- a cell and its word
+pub record Packing : Type 0 where
+  pub cell : Cell
+  pub word : ℕ
+
+abbrev pub packings : List Packing
+packings =
+    record { cell = 7 ∷ []; word = 7 }
+    -- the first vertex in the highest bits: 1 × 65536 + 2
+    ∷ record { cell = 1 ∷ 2 ∷ []; word = 65538 }
+    -- 0001 0002 0003 0004 in base 16
+    ∷ record { cell = 1 ∷ 2 ∷ 3 ∷ 4 ∷ []; word = 281483566841860 }
+    -- all 64 bits
+    ∷ record { cell = 65535 ∷ 65535 ∷ 65535 ∷ 65535 ∷ []; word = 18446744073709551615 }
+    -- lists of other lengths may share a word
+    ∷ record { cell = 0 ∷ 7 ∷ []; word = 7 }
+    ∷ []
+
+unfoldable pub packs : Packing → Bool
+packs packing = eqb (packed (packing .cell)) (packing .word)
+
+pub packed-examples : T (every packs packings)
+unfolding every packs packed
+packed-examples = tt
+
+-- of each pair above the first cell has the lesser word
+unfoldable pub wordsRise : Pair → Bool
+wordsRise pair = ltb (packed (pair .first)) (packed (pair .second))
+
+pub word-order-examples : T (every wordsRise pairs)
+unfolding every wordsRise packed
+word-order-examples = tt
 
 -- ---- the tetrahedron
 

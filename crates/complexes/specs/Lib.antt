@@ -1,5 +1,5 @@
--- Simplicial complexes as lists of cells, and their boundary matrices. `Cell`, `Complex` and `Boundary` have the definitions,
--- `Examples` the order of some cells and the matrices of a tetrahedron.
+-- Simplicial complexes as lists of cells, their words and their boundary matrices. `Cell`, `Complex`, `Packed` and `Boundary` have the definitions,
+-- `Examples` the order and the words of some cells and the matrices of a tetrahedron.
 pub mod Cell
 pub mod CellLaws
 pub mod OrderLaws

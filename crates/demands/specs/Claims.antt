@@ -6,12 +6,15 @@
 -- `Bytes`: the contract of `Sheet::read` says so.
 use mathlib.Core.Path.{_≡_}
 use mathlib.Core.Logic.{_↔_, _≢_}
+use mathlib.Core.Bool.{true}
 use mathlib.Core.List.{List, _++_}
-use Prim.Native.Nat.{ℕ, _+_, _*_, _≤_, _<_}
+use Prim.Native.Nat.{ℕ, _+_, _*_, _^_, _≤_, _<_}
 use lib.ListN.{length, getD, take}
 use lib.IntN.{ℤ, pos, _-ℤ_}
 use lib.Signed.{_≤ℤ_, _<ℤ_}
+use Rattle.complexes.specs.Cell.{Cell, precedes}
 use Rattle.complexes.specs.Complex.{count}
+use Rattle.complexes.specs.Packed.{wordVertices, packed, Numbered}
 use Rattle.sheet_format.specs.Layout.{longest}
 use Rattle.sheet_format.specs.Check.{first, refusal, sectionsOf}
 use Rattle.sheet_format.specs.Sheet.{Bytes, IsSheet}
@@ -288,6 +291,21 @@ abbrev pub HostListCounts : Type 0
 HostListCounts =
     (b : List ℕ) (p number : ℕ) (chains coordinates : List ℕ) → Bytes b →
     hostCoordinateLists b p number chains coordinates .number ≡ 0 → HostListsDone b p number chains coordinates
+
+-- ==== Cells compared as words
+
+-- 02, Note 2, "compare the vertices a word at a time, up to four packed in 64 bits": `packed` is the word of a list of vertex numbers, and the contract of
+-- `pack` says that the code makes it of each cell that it compares
+abbrev pub WordFits : Type 0
+WordFits = (c : Cell) → Numbered c → length c ≤ wordVertices → packed c < 2 ^ 64
+
+-- "Of two such lists of one length, the one first in 01's order has the lesser word": and no other
+abbrev pub WordsOrdered : Type 0
+WordsOrdered = (c d : Cell) → Numbered c → Numbered d → length c ≡ length d → (precedes c d ≡ true) ↔ (packed c < packed d)
+
+-- "and only equal lists share one"
+abbrev pub WordsShared : Type 0
+WordsShared = (c d : Cell) → Numbered c → Numbered d → length c ≡ length d → packed c ≡ packed d → c ≡ d
 
 -- ==== The program
 

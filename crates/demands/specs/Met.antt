@@ -5,8 +5,10 @@
 --     plane-host-report, ..                the same through the host calls, and an accepted sheet for the program
 --     triangle-no-cycle, triangle-first,
 --     triangle-host-first                  a chain that is no cycle, on the hollow triangle; and the first faulty of two chains
+--     edges-precede                        two cells of one length, whose words are ordered as they are
 --     plane-goes-wide                      the two reductions go too wide, at the entry limit 1; at 1,048,575 no sheet that computes here does
 use mathlib.Core.Path.{_≡_, refl, sym, _∙_, ap, subst}
+use mathlib.Core.Bool.{true}
 use mathlib.Core.List.{List, [], _∷_, _++_}
 use Prim.Native.Nat.{ℕ, zero, suc, _+_, _*_, _<_}
 use native.Mathlib.Omega.{arith}
@@ -17,8 +19,9 @@ use Rattle.lists.specs.Same.{every, both}
 use Rattle.lists.specs.Tabulate.{tabulate}
 use Rattle.matrices.specs.Sum.{sum}
 use Rattle.matrices.specs.Vector.{apply}
-use Rattle.complexes.specs.Cell.{without, same, rises, precedes, listed}
-use Rattle.complexes.specs.Complex.{Sections, count, Complex}
+use Rattle.complexes.specs.Cell.{Cell, without, same, rises, precedes, listed}
+use Rattle.complexes.specs.Complex.{Sections, count, vertexBound, Complex}
+use Rattle.complexes.specs.Packed.{packed, Numbered}
 use Rattle.complexes.specs.ChainComplex.{ChainComplex, complex-chains}
 use Rattle.complexes.specs.Boundary.{sign, coefficient, countBelow, boundary}
 use Rattle.sheet_format.specs.Layout.{top, start}
@@ -42,7 +45,7 @@ use Rattle.projective_plane.specs.Plane.{cells, sheet, loop, twice, backwards}
 use Rattle.projective_plane.specs.Examples.{nines, counts, plane-calls, plane-too-wide}
 use Rattle.demands.specs.Claims.{TooWide, CoordinatesOf, ReportOf}
 use Rattle.demands.specs.Claims as claims
-use Rattle.demands.specs.Proofs.{reportNumbers, listNumbers, firstFaultyChain, hostFirstFaultyChain, listsLeave, notACycle, coordinateCounts, coordinatesDecide, hostReportNumbers, hostCoordinateNumbers, hostListNumbers}
+use Rattle.demands.specs.Proofs.{reportNumbers, listNumbers, firstFaultyChain, hostFirstFaultyChain, listsLeave, notACycle, coordinateCounts, coordinatesDecide, hostReportNumbers, hostCoordinateNumbers, hostListNumbers, wordsOrdered}
 
 -- ---- a sheet of bytes
 
@@ -55,6 +58,27 @@ bytes-of (x ∷ b) h (suc i) = bytes-of b (both (ltb x 256) (every (λ y. ltb y 
 pub plane-bytes : Bytes sheet
 unfolding every
 plane-bytes = record { small = bytes-of sheet tt }
+
+-- ---- two cells of one length, and their words
+
+numbers-of : (c : Cell) → T (every (λ x. ltb x vertexBound) c) → (j : ℕ) → j < length c → getD c j 0 < vertexBound
+unfolding every
+numbers-of [] h j l = absurd (omega arith)
+numbers-of (x ∷ c) h zero l = ltb→lt x vertexBound (both (ltb x vertexBound) (every (λ y. ltb y vertexBound) c) h .0)
+numbers-of (x ∷ c) h (suc j) l = numbers-of c (both (ltb x vertexBound) (every (λ y. ltb y vertexBound) c) h .1) j (omega arith)
+
+-- the edges 0 65535 and 1 2
+pub first-edge : Numbered (0 ∷ 65535 ∷ [])
+unfolding every
+first-edge = record { at = numbers-of (0 ∷ 65535 ∷ []) tt }
+
+pub second-edge : Numbered (1 ∷ 2 ∷ [])
+unfolding every
+second-edge = record { at = numbers-of (1 ∷ 2 ∷ []) tt }
+
+pub edges-precede : precedes (0 ∷ 65535 ∷ []) (1 ∷ 2 ∷ []) ≡ true
+unfolding packed
+edges-precede = wordsOrdered (0 ∷ 65535 ∷ []) (1 ∷ 2 ∷ []) first-edge second-edge refl .1 (ltb→lt (packed (0 ∷ 65535 ∷ [])) (packed (1 ∷ 2 ∷ [])) tt)
 
 -- ---- a report and coordinates that are done
 

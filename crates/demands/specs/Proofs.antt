@@ -10,6 +10,7 @@ use lib.IntN.{ℤ, pos, _-ℤ_}
 use lib.Signed.{_<ℤ_}
 use Rattle.limits.specs.Limits.{hostLimit, coefficientLimit}
 use Rattle.complexes.specs.Complex.{count}
+use Rattle.complexes.specs.PackedLaws.{packed-fits, packed-precedes, packed-injective}
 use Rattle.sheet_format.specs.Check.{first, sectionsOf, chainCells}
 use Rattle.sheet_format.specs.Sheet.{Bytes}
 use Rattle.sheet_format.specs.Accept.{accepted-iff, sections-layout}
@@ -44,7 +45,7 @@ use Rattle.demands.specs.Claims.{ReportNumbers, CoordinateNumbers, NotAC
 use Rattle.demands.specs.Claims.{CoordinatesOf, ReportOf, CoordinatesDecide, CoordinatesCombine, CoordinatesReduced}
 use Rattle.demands.specs.Claims.{HostReportNumbers, HostCoordinateNumbers, HostReportLeft, HostCoordinatesLeft, HostReports, HostCoordinateCounts}
 use Rattle.demands.specs.Claims.{ListNumbers, FirstFaultyChain, HostFirstFaultyChain, ListsLeave, ListCounts, ListsSingle, HostListsSingle, HostListNumbers, HostListsLeft, HostListCounts}
-use Rattle.demands.specs.Claims.{ProgramRefuses, ProgramPrints, ProgramInput}
+use Rattle.demands.specs.Claims.{WordFits, WordsOrdered, WordsShared, ProgramRefuses, ProgramPrints, ProgramInput}
 use Rattle.demands.specs.Claims as claims
 
 -- ==== Demand 1
@@ -411,6 +412,17 @@ hostListCounts b p number chains coordinates bytes e =
       counts = has-counts (h .right);
       past = host-lists-kept b bytes p number chains coordinates e;
     }
+
+-- ==== Cells compared as words
+
+pub wordFits : WordFits
+wordFits = packed-fits
+
+pub wordsOrdered : WordsOrdered
+wordsOrdered = packed-precedes
+
+pub wordsShared : WordsShared
+wordsShared = packed-injective
 
 -- ==== The program
 
