@@ -3,7 +3,7 @@ use mathlib.Core.Path.{_≡_}
 use mathlib.Core.Logic.{_≢_}
 use mathlib.Core.Bool.{Bool, true, false, not}
 use mathlib.Core.List.{List, []}
-use Prim.Native.Nat.{ℕ, suc, _<_}
+use Prim.Native.Nat.{ℕ, suc, _≤_, _<_}
 use lib.ListN.{length, getD}
 use Rattle.complexes.specs.Cell.{Cell, without, precedes, listed}
 use Rattle.sheet_format.specs.Layout.{top}
@@ -11,6 +11,11 @@ use Rattle.sheet_format.specs.Check.{some}
 use Rattle.cells.specs.Word.{Packs}
 use Rattle.cells.specs.declared.face.Found.{Found}
 use Rattle.cells.specs.declared.face.Found.the-variants.{At, Nothing}
+
+-- a step within `left` cells: one at least, where there is one, and not past them
+pub record Steps (left r : ℕ) : Type 0 where
+  pub some-left : 0 < left → 0 < r
+  pub within : r ≤ left
 
 -- the cells rise strictly
 pub record Rising (l : List Cell) : Type 0 where

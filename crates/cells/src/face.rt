@@ -5,7 +5,7 @@ ghost use lib.ListN.{length};
 ghost use Rattle.complexes.specs.Packed.{wordVertices};
 ghost use Rattle.sheet_format.specs.Layout.{top};
 ghost use Rattle.sheet_format.specs.Check.{cellOf, cellsOf};
-ghost use Rattle.cells.specs.Find.{FindsWord, FindsFaces, Rising};
+ghost use Rattle.cells.specs.Find.{Steps, FindsWord, FindsFaces, Rising};
 ghost use Rattle.cells.specs.Word.{Packs};
 use crate::word::leave_out;
 use crate::word::pack;
@@ -27,46 +27,46 @@ fn pack_cell(s: &[u8], at: usize, n: usize, i: usize) -> u64
     pack(s, at + 2 * (n * i), n)
 }
 
-// The place of the cell of n vertices with this word among the `many` cells from byte `at` on, by halving.
-fn halve(s: &[u8], word: u64, at: usize, n: usize, many: usize) -> Found
+// The next step of a search that has `left` cells left: twice the last one and one more, but no more than half of the cells.
+fn farther(step: usize, left: usize) -> usize
+    requires { ⌜ (step < 65536) × (left < 65536) ⌝ }
+    ensures { λ r. ⌜ Steps left r ⌝ }
+{
+    let half = (left + 1) / 2;
+    if 2 * step + 1 < half {
+        2 * step + 1
+    } else {
+        half
+    }
+}
+
+// The place of the cell of n vertices with this word among the `many` cells from byte `at` on. The search starts at place `from`, goes away from it by
+// growing steps until it has passed the place, and then halves.
+fn find(s: &[u8], word: u64, at: usize, n: usize, many: usize, from: usize) -> Found
     requires { ⌜ (at < 2 ^ 31) × (0 < n) × (n ≤ wordVertices) × (many < 65536) ⌝ }
     requires { ⌜ Rising (cellsOf (now s) n many at) ⌝ }
     ensures { λ r. ⌜ FindsWord n word (cellsOf (now (s .entry)) n many at) r ⌝ }
 {
     let mut lo: usize = 0;
     let mut hi = many;
+    let mut mid = if from < many { from } else { 0 };
+    let mut step: usize = 0;
     while lo < hi {
-        let mid = lo + (hi - lo) / 2;
         let other = pack_cell(s, at, n, mid);
+        if word == other {
+            return Found::At(mid);
+        }
         if word < other {
             hi = mid;
-        } else if other < word {
-            lo = mid + 1;
+            step = farther(step, hi - lo);
+            mid = hi - step;
         } else {
-            return Found::At(mid);
+            lo = mid + 1;
+            step = farther(step, hi - lo);
+            mid = lo + step - 1;
         }
     }
     Found::Nothing
-}
-
-// The place of the cell of n vertices with this word among the `many` cells from byte `at` on. It is looked for at place `from` and the next first.
-fn find(s: &[u8], word: u64, at: usize, n: usize, many: usize, from: usize) -> Found
-    requires { ⌜ (at < 2 ^ 31) × (0 < n) × (n ≤ wordVertices) × (many < 65536) ⌝ }
-    requires { ⌜ Rising (cellsOf (now s) n many at) ⌝ }
-    ensures { λ r. ⌜ FindsWord n word (cellsOf (now (s .entry)) n many at) r ⌝ }
-{
-    if from < many {
-        if word == pack_cell(s, at, n, from) {
-            return Found::At(from);
-        }
-        let next = from + 1;
-        if next < many {
-            if word == pack_cell(s, at, n, next) {
-                return Found::At(next);
-            }
-        }
-    }
-    halve(s, word, at, n, many)
 }
 
 // Whether a face of the cell of n + 1 vertices at byte a is missing among the `many` cells of n vertices from byte `at` on. If none is, `places` becomes
