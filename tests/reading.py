@@ -3,9 +3,10 @@
 usage: python3 tests/reading.py [--names]
 
 Starts at crates/demands/specs/Claims.antt and follows every name to its definition in the repository; names of the kit are not followed. Lines of
-definitions are counted; blank lines, comments and `use` lines are not. Four parts, each without what an earlier one has: the sheet; what it means
-that an answer is right; when each refusal and "too wide" is told, and what is left in the slices; and which numbers, bytes and text stand there, by
-the pivot rule. In the first three the calls themselves are not opened: whatever they answer, the claims say what it is.
+definitions are counted; blank lines, comments and `use` lines are not. Five parts, each without what an earlier one has: the sheet; what it means
+that an answer is right; the words by which cells are compared; when each refusal and "too wide" is told, and what is left in the slices; and which
+numbers, bytes and text stand there, by the pivot rule. In all but the last the calls themselves are not opened: whatever they answer, the claims say
+what it is.
 """
 import os
 import re
@@ -18,6 +19,7 @@ RIGHT = ["Reports", "CoordinateCounts", "ListCounts", "SameCounts", "Coordinates
 PARTS = [
     ("the sheet", ["Acceptance", "SheetCells"], CALLS),
     ("the answers are right", RIGHT, CALLS),
+    ("cells compared as words", ["WordFits", "WordsOrdered", "WordsShared"], CALLS),
     ("refusals, too wide and what is left", [], CALLS),
     ("which numbers, bytes and text, by the pivot rule", sorted(CALLS), set()),
 ]

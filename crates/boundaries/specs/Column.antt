@@ -14,7 +14,7 @@ use Rattle.lines.specs.declared.matrix.Matrix.{Matrix}
 use Rattle.lines.specs.declared.line.Effect.{Effect}
 use Rattle.lines.specs.declared.line.Effect.the-variants.{Done, TooWide}
 
--- the lines of the matrix Q in a slice times a column that has sign t at place t, for t below `faces`, and 0 elsewhere: in every column
+-- the matrix whose every column is that of the slice's matrix q times the column with sign t in row places[t], for t below `faces`, and 0 elsewhere
 abbrev pub atPlaces : Matrix → List ℤ → List ℕ → ℕ → theory.Matrix
 atPlaces q w places faces i j = sum faces (λ t. contents q w i (getD places t 0) *ℤ sign t)
 

@@ -1,4 +1,4 @@
--- What the proofs of the crate and of those above it share: cells read field by field, and the search by halving.
+-- What the proofs of the crate and of those above it share: cells read field by field, their words, and the search for a cell.
 pub mod Cells
-pub mod Halving
 pub mod Words
+pub mod Bracket

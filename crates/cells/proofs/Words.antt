@@ -3,7 +3,7 @@
 --     words-before, words-precede       what comparing two words tells of the order of the cells
 --     words-same                        cells that share a word are equal
 use mathlib.Core.Path.{_≡_, sym, _∙_}
-use mathlib.Core.Bool.{Bool, true, false}
+use mathlib.Core.Bool.{true}
 use mathlib.Core.List.{List, []}
 use Prim.Native.Nat.{ℕ, _+_, _*_, _<_}
 use native.Mathlib.Decide.{decLt}

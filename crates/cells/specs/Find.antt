@@ -1,7 +1,7 @@
 -- What finding cells answers.
 use mathlib.Core.Path.{_≡_}
 use mathlib.Core.Logic.{_≢_}
-use mathlib.Core.Bool.{Bool, true, false, not}
+use mathlib.Core.Bool.{Bool, true, not}
 use mathlib.Core.List.{List, []}
 use Prim.Native.Nat.{ℕ, suc, _≤_, _<_}
 use lib.ListN.{length, getD}
@@ -30,9 +30,8 @@ Finds c l Nothing = (i : ℕ) → i < length l → getD l i [] ≢ c
 abbrev pub FindsWord : ℕ → ℕ → List Cell → Found → Type 0
 FindsWord n w l r = (c : Cell) → Packs n c w → Finds c l r
 
--- whether one of the n + 1 faces of c is missing in l; if none is, the first n + 1 of the numbers, one for each face that a cell may have, are their
--- places
-pub record FindsFaces (n : ℕ) (c : Cell) (l : List Cell) (missing : Bool) (places : List ℕ) : Type 0 where
-  pub tells : missing ≡ some (suc n) (λ j. not (listed (without j c) l))
-  pub finds : missing ≡ false → (j : ℕ) → j < suc n → Finds (without j c) l (At (getD places j 0))
+-- whether all n + 1 faces of c stand in l; if so, the first n + 1 of the numbers, one for each face that a cell may have, are their places
+pub record FindsFaces (n : ℕ) (c : Cell) (l : List Cell) (all : Bool) (places : List ℕ) : Type 0 where
+  pub tells : not all ≡ some (suc n) (λ j. not (listed (without j c) l))
+  pub finds : all ≡ true → (j : ℕ) → j < suc n → Finds (without j c) l (At (getD places j 0))
   pub sized : length places ≡ suc top

@@ -1,4 +1,4 @@
-// The places of faces. The faces of rising cells nearly rise, so that a search looks first where the last one ended.
+// The places of faces. The faces of rising cells nearly rise, so that the search for a face starts where that for the same face of the last cell ended.
 ghost use mathlib.Core.Path.{_≡_};
 ghost use Prim.Native.Nat.{suc, _+_, _*_, _^_, _≤_, _<_};
 ghost use lib.ListN.{length};
@@ -19,15 +19,15 @@ pub enum Found {
     Nothing,
 }
 
-// The word of cell i of the cells of n vertices each from byte `at` on.
-fn pack_cell(s: &[u8], at: usize, n: usize, i: usize) -> u64
+// The word of the cell at place i of the cells of n vertices each from byte `at` on.
+fn pack_place(s: &[u8], at: usize, n: usize, i: usize) -> u64
     requires { ⌜ (at < 2 ^ 31) × (0 < n) × (n ≤ wordVertices) × (i < 65536) ⌝ }
     ensures { λ r. ⌜ Packs n (cellOf (now (s .entry)) n (at + 2 * (n * i))) r ⌝ }
 {
     pack(s, at + 2 * (n * i), n)
 }
 
-// The next step of a search that has `left` cells left: twice the last one and one more, but no more than half of the cells.
+// The next step of a search that has `left` cells left: twice the last one and one more, but at most half of the cells, rounded up.
 fn farther(step: usize, left: usize) -> usize
     requires { ⌜ (step < 65536) × (left < 65536) ⌝ }
     ensures { λ r. ⌜ Steps left r ⌝ }
@@ -40,8 +40,8 @@ fn farther(step: usize, left: usize) -> usize
     }
 }
 
-// The place of the cell of n vertices with this word among the `many` cells from byte `at` on. The search starts at place `from`, goes away from it by
-// growing steps until it has passed the place, and then halves.
+// The place of the cell of n vertices with this word among the `many` cells from byte `at` on. The search starts at place `from`, if it is one, goes
+// away from it by growing steps and, where these would pass over half of the cells left, halves.
 fn find(s: &[u8], word: u64, at: usize, n: usize, many: usize, from: usize) -> Found
     requires { ⌜ (at < 2 ^ 31) × (0 < n) × (n ≤ wordVertices) × (many < 65536) ⌝ }
     requires { ⌜ Rising (cellsOf (now s) n many at) ⌝ }
@@ -52,7 +52,7 @@ fn find(s: &[u8], word: u64, at: usize, n: usize, many: usize, from: usize) -> F
     let mut mid = if from < many { from } else { 0 };
     let mut step: usize = 0;
     while lo < hi {
-        let other = pack_cell(s, at, n, mid);
+        let other = pack_place(s, at, n, mid);
         if word == other {
             return Found::At(mid);
         }
@@ -69,8 +69,8 @@ fn find(s: &[u8], word: u64, at: usize, n: usize, many: usize, from: usize) -> F
     Found::Nothing
 }
 
-// Whether a face of the cell of n + 1 vertices at byte a is missing among the `many` cells of n vertices from byte `at` on. If none is, `places` becomes
-// the places of its faces, in the order of the vertices that they leave out. Each is looked for first at the place that stands there before.
+// Whether all faces of the cell of n + 1 vertices at byte a stand among the `many` cells of n vertices from byte `at` on. If so, `places` becomes their
+// places, in the order of the vertices that they leave out. The search for each starts at the place that `places` held for it.
 pub fn find_faces(
     s: &[u8],
     a: usize,
@@ -88,10 +88,10 @@ pub fn find_faces(
     while j <= n {
         let face = leave_out(cell, n - j);
         let Found::At(i) = find(s, face, at, n, many, places[j]) else {
-            return true;
+            return false;
         };
         places[j] = i;
         j = j + 1;
     }
-    false
+    true
 }

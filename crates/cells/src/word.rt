@@ -1,5 +1,5 @@
-// The word of a cell: document 02, Note 2. Cells with as many vertices are compared by their words: the one that stands first has the lesser, and only
-// equal cells share one.
+// The word of a cell: document 02, Note 2. Cells with as many vertices are compared by their words: the one that stands first has the lesser, and
+// only equal cells share one.
 ghost use mathlib.Core.Path.{_≡_};
 ghost use mathlib.Core.List.{[], _∷_};
 ghost use Prim.Native.Nat.{_+_, _^_, _≤_, _<_};
@@ -16,7 +16,7 @@ const WORD_VERTICES: usize = 4;
 const VERTEX_BITS: usize = 16;
 
 // Vertex numbers are below this.
-const VERTEX_BOUND: u64 = 65536;
+const VERTEX_BOUND: u64 = 1 << VERTEX_BITS;
 
 // VERTEX_BOUND to the power n.
 fn power(n: usize) -> u64

@@ -68,7 +68,7 @@ fn section_misses(s: &[u8], a: usize, cells: usize, at: usize, n: usize, many: u
     let mut places = [0usize; FACES];
     let mut i: usize = 0;
     while i < cells {
-        if find_faces(s, a + 2 * ((n + 1) * i), at, n, many, &mut places) {
+        if !find_faces(s, a + 2 * ((n + 1) * i), at, n, many, &mut places) {
             return true;
         }
         i = i + 1;

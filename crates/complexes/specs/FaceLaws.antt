@@ -1,12 +1,12 @@
--- The faces of a cell: length-without, getD-without-below, getD-without-above, rises-without, without-injective (the faces of a rising
--- cell differ), and without-without, the exchange law for leaving out two vertices.
+-- The faces of a cell: length-without, getD-without-below, getD-without-above, without-parts, rises-without, without-injective (the faces
+-- of a rising cell differ), and without-without, the exchange law for leaving out two vertices.
 use mathlib.Core.Path.{_≡_, refl, sym, ap}
 use mathlib.Core.Bool.{true}
-use mathlib.Core.List.{[], _∷_}
+use mathlib.Core.List.{[], _∷_, _++_}
 use Prim.Native.Nat.{ℕ, zero, suc, _<_, _≤_}
 use native.Mathlib.Omega.{arith}
 use native.Mathlib.Decide.{decLt}
-use lib.ListN.{length, getD}
+use lib.ListN.{length, getD, take, drop}
 use Rattle.complexes.specs.Cell.{Cell, without, rises}
 use Rattle.complexes.specs.CellLaws.{rises-lt, rises-of}
 
@@ -15,6 +15,13 @@ unfolding without
 length-without j [] l = absurd (omega arith)
 length-without zero (v ∷ c) l = refl
 length-without (suc j) (v ∷ c) l = ap suc (length-without j c (omega arith))
+
+-- the vertices before the one left out, and those behind it
+pub without-parts : (j : ℕ) (c : Cell) → j < length c → without j c ≡ take j c ++ drop (suc j) c
+unfolding without
+without-parts j [] l = absurd (omega arith)
+without-parts zero (v ∷ c) l = refl
+without-parts (suc j) (v ∷ c) l = ap (λ (r : Cell). v ∷ r) (without-parts j c (omega arith))
 
 pub getD-without-below : (j : ℕ) (c : Cell) (t : ℕ) → t < j → getD (without j c) t 0 ≡ getD c t 0
 unfolding without

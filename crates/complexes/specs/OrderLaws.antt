@@ -1,4 +1,4 @@
--- The order of the cells of a section. `precedes` is a strict order: precedes-irrefl, precedes-trans, precedes-asym; two cells of equal length
+-- The order of the cells of a section. `precedes` is a strict order: precedes-irrefl, precedes-trans; two cells of equal length
 -- are equal or one precedes the other: precedes-total. In a list whose neighbours rise, cells rise from any place to any later one
 -- (ordered-precedes), so a cell stands at one place at most (ordered-unique).
 use mathlib.Core.Path.{_≡_, refl, sym}
@@ -58,9 +58,6 @@ precedes-trans (u ∷ a) (v ∷ b) (w ∷ c) p q = go (precedes-true u v a b p) 
     go (first k) (next l m) r = precedes-first u w a c (omega arith)
     go (next k m) (first l) r = precedes-first u w a c (omega arith)
     go (next k m) (next l n) r = precedes-next u w a c (omega arith) (r m n)
-
-pub precedes-asym : (c d : Cell) → precedes c d ≡ true → precedes d c ≡ true → ⊥
-precedes-asym c d p q = precedes-irrefl c (precedes-trans c d c p q)
 
 -- how two cells stand to each other
 pub data Compared (c d : Cell) : Type 0 where

@@ -1,5 +1,5 @@
 -- The vertices of a cell packed into a word: document 02, Note 2.
-use mathlib.Core.List.{List, [], _∷_}
+use mathlib.Core.List.{[], _∷_}
 use Prim.Native.Nat.{ℕ, _+_, _*_, _^_, _<_}
 use lib.ListN.{length, getD}
 use Rattle.complexes.specs.Cell.{Cell}

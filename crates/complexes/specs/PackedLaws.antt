@@ -3,12 +3,13 @@
 --                                          equal cells share one
 --     packed-below, packed-fits            the word of n vertices is below 65536 ^ n, and so up to `wordVertices` of them fit 64 bits
 --     packed-take, packed-without          the word of the first vertices, and of a face, from that of the cell
-use mathlib.Core.Path.{_≡_, refl, sym, ap, _∙_}
+use mathlib.Core.Path.{_≡_, sym, ap, _∙_}
 use mathlib.Core.Logic.{_↔_}
 use mathlib.Core.Bool.{true, true≢false}
-use mathlib.Core.List.{List, [], _∷_, _++_}
-use Prim.Native.Nat.{ℕ, zero, suc, _+_, _*_, _-_, _/_, _%_, _^_, _≤_, _<_}
-use native.Mathlib.Nat.{mul-le-mul-right, suc-mul, add-mul, mul-assoc, pow-suc, pow-le-pow-right, mul-add-div-right, mul-add-mod-self-right, mod-eq-of-lt, div-eq-of-lt, div-div-eq-div-mul}
+use mathlib.Core.List.{[], _∷_, _++_}
+use Prim.Native.Nat.{ℕ, zero, suc, _+_, _*_, _/_, _%_, _^_, _≤_, _<_}
+use native.Mathlib.Nat.{mul-le-mul-right, suc-mul, add-mul, mul-assoc, pow-suc, one-le-pow, pow-le-pow-right}
+use native.Mathlib.Nat.{mul-add-div-right, mul-add-mod-self-right, mod-eq-of-lt, div-eq-of-lt, div-div-eq-div-mul}
 use native.Mathlib.Omega.{arith}
 use lib.ListN.{length, getD, take, drop, length-append, length-drop, take-append-drop}
 use lib.Seq.{getD-drop}
@@ -16,6 +17,7 @@ use Rattle.integers.specs.Power.{pow-add}
 use Rattle.complexes.specs.Cell.{Cell, without, precedes}
 use Rattle.complexes.specs.Complex.{vertexBound}
 use Rattle.complexes.specs.OrderLaws.{Precedes, first, next, precedes-true, Compared, equal, before, after, precedes-total}
+use Rattle.complexes.specs.FaceLaws.{without-parts}
 use Rattle.complexes.specs.Packed.{wordVertices, packed, Numbered}
 
 numbered-rest : {v : ℕ} {c : Cell} → Numbered (v ∷ c) → Numbered c
@@ -70,13 +72,10 @@ packed-append (v ∷ c) d =
       add-mul (v * vertexBound ^ length c) (packed c) (vertexBound ^ length d),
     ))
 
-pub power-positive : (n : ℕ) → 0 < vertexBound ^ n
-power-positive n = omega (arith, pow-le-pow-right {n = vertexBound} (omega arith) {i = 0} {j = n} (omega arith))
-
 module _ (c d : Cell) (h : Numbered d) where
   high : packed (c ++ d) / vertexBound ^ length d ≡ packed c
   high =
-      rw (packed-append c d, mul-add-div-right (power-positive (length d)) (packed c) (packed d), div-eq-of-lt (packed-below d h)) (omega arith)
+      rw (packed-append c d, mul-add-div-right (one-le-pow (length d) vertexBound (omega arith)) (packed c) (packed d), div-eq-of-lt (packed-below d h)) (omega arith)
 
   low : packed (c ++ d) % vertexBound ^ length d ≡ packed d
   low =
@@ -88,12 +87,6 @@ packed-take c n m h e = rw (take-append-drop n c, behind) at (high (take n c) (d
   where
     behind : length (drop n c) ≡ m
     behind = omega (arith, length-drop n c)
-
-without-parts : (j : ℕ) (c : Cell) → j < length c → without j c ≡ take j c ++ drop (suc j) c
-unfolding without
-without-parts j [] l = absurd (omega arith)
-without-parts zero (v ∷ c) l = refl
-without-parts (suc j) (v ∷ c) l = ap (λ (r : Cell). v ∷ r) (without-parts j c (omega arith))
 
 -- .. and of all but the one that m stand behind
 pub packed-without : (c : Cell) (j m : ℕ) → Numbered c → length c ≡ suc (j + m)

@@ -294,8 +294,8 @@ HostListCounts =
 
 -- ==== Cells compared as words
 
--- 02, Note 2, "compare the vertices a word at a time, up to four packed in 64 bits": `packed` is the word of a list of vertex numbers, and the contract of
--- `pack` says that the code makes it of each cell that it compares
+-- 02, Note 2, "compare the vertices a word at a time, up to four packed in 64 bits": `packed` is the word of a list of vertex numbers. The contracts of
+-- `pack` and `leave_out` say that the code makes it, of a cell of the sheet and of a face
 abbrev pub WordFits : Type 0
 WordFits = (c : Cell) → Numbered c → length c ≤ wordVertices → packed c < 2 ^ 64
 

@@ -19,7 +19,7 @@ use Rattle.lists.specs.Same.{every, both}
 use Rattle.lists.specs.Tabulate.{tabulate}
 use Rattle.matrices.specs.Sum.{sum}
 use Rattle.matrices.specs.Vector.{apply}
-use Rattle.complexes.specs.Cell.{Cell, without, same, rises, precedes, listed}
+use Rattle.complexes.specs.Cell.{without, same, rises, precedes, listed}
 use Rattle.complexes.specs.Complex.{Sections, count, vertexBound, Complex}
 use Rattle.complexes.specs.Packed.{packed, Numbered}
 use Rattle.complexes.specs.ChainComplex.{ChainComplex, complex-chains}
@@ -49,36 +49,31 @@ use Rattle.demands.specs.Proofs.{reportNumbers, listNumbers, firstFaulty
 
 -- ---- a sheet of bytes
 
-bytes-of : (b : List ℕ) → T (every (λ x. ltb x 256) b) → (i : ℕ) → getD b i 0 < 256
+numbers-below : (bound : ℕ) → 0 < bound → (l : List ℕ) → T (every (λ x. ltb x bound) l) → (i : ℕ) → getD l i 0 < bound
 unfolding every
-bytes-of [] h i = omega arith
-bytes-of (x ∷ b) h zero = ltb→lt x 256 (both (ltb x 256) (every (λ y. ltb y 256) b) h .0)
-bytes-of (x ∷ b) h (suc i) = bytes-of b (both (ltb x 256) (every (λ y. ltb y 256) b) h .1) i
+numbers-below bound h [] t i = h
+numbers-below bound h (x ∷ l) t zero = ltb→lt x bound (both (ltb x bound) (every (λ y. ltb y bound) l) t .0)
+numbers-below bound h (x ∷ l) t (suc i) = numbers-below bound h l (both (ltb x bound) (every (λ y. ltb y bound) l) t .1) i
 
 pub plane-bytes : Bytes sheet
 unfolding every
-plane-bytes = record { small = bytes-of sheet tt }
+plane-bytes = record { small = numbers-below 256 (omega arith) sheet tt }
 
 -- ---- two cells of one length, and their words
 
-numbers-of : (c : Cell) → T (every (λ x. ltb x vertexBound) c) → (j : ℕ) → j < length c → getD c j 0 < vertexBound
-unfolding every
-numbers-of [] h j l = absurd (omega arith)
-numbers-of (x ∷ c) h zero l = ltb→lt x vertexBound (both (ltb x vertexBound) (every (λ y. ltb y vertexBound) c) h .0)
-numbers-of (x ∷ c) h (suc j) l = numbers-of c (both (ltb x vertexBound) (every (λ y. ltb y vertexBound) c) h .1) j (omega arith)
-
 -- the edges 0 65535 and 1 2
-pub first-edge : Numbered (0 ∷ 65535 ∷ [])
+pub first-numbered : Numbered (0 ∷ 65535 ∷ [])
 unfolding every
-first-edge = record { at = numbers-of (0 ∷ 65535 ∷ []) tt }
+first-numbered = record { at = λ j l. numbers-below vertexBound (omega arith) (0 ∷ 65535 ∷ []) tt j }
 
-pub second-edge : Numbered (1 ∷ 2 ∷ [])
+pub second-numbered : Numbered (1 ∷ 2 ∷ [])
 unfolding every
-second-edge = record { at = numbers-of (1 ∷ 2 ∷ []) tt }
+second-numbered = record { at = λ j l. numbers-below vertexBound (omega arith) (1 ∷ 2 ∷ []) tt j }
 
 pub edges-precede : precedes (0 ∷ 65535 ∷ []) (1 ∷ 2 ∷ []) ≡ true
 unfolding packed
-edges-precede = wordsOrdered (0 ∷ 65535 ∷ []) (1 ∷ 2 ∷ []) first-edge second-edge refl .1 (ltb→lt (packed (0 ∷ 65535 ∷ [])) (packed (1 ∷ 2 ∷ [])) tt)
+edges-precede =
+    wordsOrdered (0 ∷ 65535 ∷ []) (1 ∷ 2 ∷ []) first-numbered second-numbered refl .1 (ltb→lt (packed (0 ∷ 65535 ∷ [])) (packed (1 ∷ 2 ∷ [])) tt)
 
 -- ---- a report and coordinates that are done
 
@@ -231,7 +226,7 @@ faulty = pos 1 ∷ pos 0 ∷ pos 0 ∷ pos 32768 ∷ pos 0 ∷ pos 0 ∷ []
 
 pub triangle-first : FirstFault (λ i. first (chainChecks coefficientLimit hollowTriangle 1 (chainAt (count (sectionsOf hollowTriangle) 1) faulty i))) 2 12
 unfolding every coordinateListsCall callChecks chainsChecks cyclesChecks countField offsetField cellOf cellsOf sectionsOf chainCells some verticesDoNotRise cellsDoNotRise faceMissing without same rises precedes listed start refusal countBelow tabulate coefficientExceeds boundaryNotZero boundary coefficient sign apply sum
-triangle-first = firstFaultyChain 256 hollowTriangle 1 2 faulty (nines 6) (nines 27) (record { small = bytes-of hollowTriangle tt }) passed refl 12 (λ e. absurd (omega arith)) (λ e. absurd (omega arith)) .0 told
+triangle-first = firstFaultyChain 256 hollowTriangle 1 2 faulty (nines 6) (nines 27) (record { small = numbers-below 256 (omega arith) hollowTriangle tt }) passed refl 12 (λ e. absurd (omega arith)) (λ e. absurd (omega arith)) .0 told
   where
     passed : first (callChecks 256 hollowTriangle 1 (listSlots 2) (length (nines 6)) (length (nines 27))) ≡ 0
     passed = refl
@@ -247,7 +242,7 @@ pub triangle-host-first :
     FirstFault (λ i. first (chainChecks coefficientLimit hollowTriangle 1 (chainFrom (count (sectionsOf hollowTriangle) 1) (chainBytes (count (sectionsOf hollowTriangle) 1) faulty-bytes i)))) 2 12
 unfolding every hostCoordinateLists callChecks chainsChecks cyclesChecks chainFrom coefficientAt countField offsetField cellOf cellsOf sectionsOf chainCells some verticesDoNotRise cellsDoNotRise faceMissing without same rises precedes listed start refusal countBelow tabulate coefficientExceeds boundaryNotZero boundary coefficient sign apply sum
 triangle-host-first =
-    hostFirstFaultyChain hollowTriangle 1 2 faulty-bytes (replicate 48 9) (record { small = bytes-of hollowTriangle tt }) passed refl 12 (λ e. absurd (omega arith))
+    hostFirstFaultyChain hollowTriangle 1 2 faulty-bytes (replicate 48 9) (record { small = numbers-below 256 (omega arith) hollowTriangle tt }) passed refl 12 (λ e. absurd (omega arith))
     (λ e. absurd (omega arith)) .0 told
   where
     passed : first (callChecks hostLimit hollowTriangle 1 (listSlots 2) (slotsIn (replicate 48 9)) (workSlots (sectionsOf hollowTriangle) 1)) ≡ 0

@@ -1,11 +1,12 @@
--- What an accepted sheet holds: a complex (`complex`), with at most `libraryLimit` cells in each section (`count-le`). The search for the faces of a cell
--- may be made (`rising`), and finds their places (`found`).
+-- What an accepted sheet holds: a complex (`complex`), with at most `libraryLimit` cells in each section (`count-le`). The search for the faces of a
+-- cell may be made (`rising`), and finds their places (`found`).
 use mathlib.Core.Path.{_≡_, ap, _∙_}
 use mathlib.Core.Bool.{Bool, false, not}
 use mathlib.Core.List.{List}
 use Prim.Native.Nat.{ℕ, suc, _+_, _*_, _≤_, _<_}
 use native.Mathlib.Nat.{mul-le-mul}
 use native.Mathlib.Omega.{arith}
+use borrow.Author.Tests.{not-false}
 use Rattle.complexes.specs.Cell.{without, listed}
 use Rattle.complexes.specs.CellLaws.{Listed-listed}
 use Rattle.complexes.specs.Complex.{count, cell, section, Complex}
@@ -47,9 +48,9 @@ module _ {b : List ℕ} (bytes : Bytes b) (accepted : Accepted b) where
   rising {p} l =
       rw (l .vertices, l .cells, l .starts, ← section-sectionsOf b p (omega (arith, l .inside))) (record { next = complex .ordered p })
 
-  pub found : {p j a n at many : ℕ} → Looked b p j a n at many → (missing : Bool) (places : List ℕ)
-      → FindsFaces n (cellOf b (suc n) a) (cellsOf b n many at) missing places → AreFaces b p j places
-  found {p} {j} look missing places f =
+  pub found : {p j a n at many : ℕ} → Looked b p j a n at many → (all : Bool) (places : List ℕ)
+      → FindsFaces n (cellOf b (suc n) a) (cellsOf b n many at) all places → AreFaces b p j places
+  found {p} {j} look all places f =
       go (rw (
         look .vertices,
         look .cells,
@@ -62,5 +63,5 @@ module _ {b : List ℕ} (bytes : Bytes b) (accepted : Accepted b) where
       none : some (suc (suc p)) (misses b p j) ≡ false
       none = some-false (suc (suc p)) (misses b p j) .1 (λ t k. ap not (Listed-listed (complex .closed p j t (look .below) k)))
 
-      go : FindsFaces (suc p) (cell (sectionsOf b) (suc p) j) (section (sectionsOf b) p) missing places → AreFaces b p j places
-      go f = record { sized = f .sized; face = λ t k. let h = f .finds (f .tells ∙ none) t k in record { below = h .0; is = h .1 } }
+      go : FindsFaces (suc p) (cell (sectionsOf b) (suc p) j) (section (sectionsOf b) p) all places → AreFaces b p j places
+      go f = record { sized = f .sized; face = λ t k. let h = f .finds (not-false all (f .tells ∙ none)) t k in record { below = h .0; is = h .1 } }

@@ -18,7 +18,7 @@ pub record IsFace (b : List ℕ) (p j t r : ℕ) : Type 0 where
   pub below : r < count (sectionsOf b) p
   pub is : cell (sectionsOf b) p r ≡ without t (cell (sectionsOf b) (suc p) j)
 
--- of the numbers, one for each face that a cell may have, the first p + 2 are the places of its faces
+-- of the numbers, one for each face that a cell may have, the first p + 2 are the places of the faces of cell j of section p + 1
 pub record AreFaces (b : List ℕ) (p j : ℕ) (places : List ℕ) : Type 0 where
   pub sized : length places ≡ suc top
   pub face : (t : ℕ) → t < suc (suc p) → IsFace b p j t (getD places t 0)

@@ -19,7 +19,8 @@ pub fn sign(t: usize) -> i64
     if t % 2 == 0 { 1 } else { -1 }
 }
 
-// Makes of `places` the places in section p of the p + 2 faces of cell j of section p + 1. Each is looked for first at the place that stands there before.
+// Makes of `places` the places in section p of the p + 2 faces of cell j of section p + 1. The search for each starts at the place that `places` held
+// for it.
 pub fn face_places(s: &[u8], p: usize, j: usize, places: &mut [usize; FACES])
     requires { ⌜ Accepted (now s) ⌝ }
     requires { ⌜ (p < top) × (j < count (sectionsOf (now s)) (suc p)) × (length (now places) ≡ suc top) ⌝ }

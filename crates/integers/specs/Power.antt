@@ -1,5 +1,5 @@
 -- Powers of natural numbers: the power of a sum (pow-add) and of a product (pow-mul).
-use mathlib.Core.Path.{_≡_, sym, ap, _∙_}
+use mathlib.Core.Path.{_≡_, sym}
 use Prim.Native.Nat.{ℕ, zero, suc, _+_, _*_, _^_}
 use native.Mathlib.Nat.{add-zero, add-suc, mul-one, mul-zero, mul-suc, mul-assoc, pow-zero, pow-suc}
 

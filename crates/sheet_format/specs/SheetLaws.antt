@@ -8,7 +8,8 @@ use Prim.Native.Nat.{ℕ, zero, suc, _+_, _-_, _*_, _≤_, _<_}
 use native.Mathlib.Nat.{lt-suc-self, mul-le-mul, le-refl, le-trans, le-add-right, add-zero, add-suc, add-sub-of-le}
 use native.Mathlib.Decide.{decLe, decLt}
 use native.Mathlib.Omega.{arith}
-use lib.ListN.{length, getD, List·getD-eq-default}
+use lib.ListN.{length, getD, take, List·getD-eq-default}
+use lib.Seq.{ext-getD, length-take-le, getD-take}
 use borrow.Author.Tests.{le-leb, lt-leb}
 use Rattle.complexes.specs.Cell.{Cell}
 use Rattle.complexes.specs.Complex.{Sections, section, count, cell}
@@ -63,6 +64,17 @@ length-cellOf b n at = length-tabulate n (λ j. fieldAt b (at + 2 * j))
 pub getD-cellOf : (b : List ℕ) (n at j : ℕ) → j < n → getD (cellOf b n at) j 0 ≡ fieldAt b (at + 2 * j)
 unfolding cellOf
 getD-cellOf b n at j h = getD-tabulate n (λ k. fieldAt b (at + 2 * k)) j 0 h
+
+-- the first n of m vertices
+pub take-cellOf : (b : List ℕ) (n m at : ℕ) → n ≤ m → take n (cellOf b m at) ≡ cellOf b n at
+take-cellOf b n m at l =
+    ext-getD 0 (take n (cellOf b m at)) (cellOf b n at) (sized ∙ sym (length-cellOf b n at))
+    (λ j k.
+    let k′ : j < n = omega (arith, sized) in
+    getD-take n (cellOf b m at) j 0 k′ ∙ getD-cellOf b m at j (omega arith) ∙ sym (getD-cellOf b n at j k′))
+  where
+    sized : length (take n (cellOf b m at)) ≡ n
+    sized = length-take-le n (cellOf b m at) (omega (arith, length-cellOf b m at))
 
 pub count-sectionsOf : (b : List ℕ) (p : ℕ) → count (sectionsOf b) p ≡ countField b p
 count-sectionsOf b p = pick (decLe p top)

@@ -39,7 +39,7 @@ record Faced (b : List ℕ) (p : ℕ) (q : Matrix) (j : ℕ) (places : List ℕ)
 
 module _ {b : List ℕ} {p : ℕ} {q M : Matrix} {w₀ w : List ℤ} {j : ℕ} (inv : Invariant (chainCells b) p q M w₀ w j) (before : end M ≤ q .at) {places : List ℕ}
     (faced : Faced b p q j places) where
-  -- q is kept, and so is the product
+  -- line i times the column of cell j is the entry of the product, since q is kept
   entry-is : (i : ℕ) → atPlaces q w places (p + 2) i j ≡ product (chainCells b) p q w₀ i j
   entry-is i =
       product-entry b (faced .sheet) p j (faced .below) places (faced .faces) (q .width) (faced .rows) (contents q w) i
@@ -174,5 +174,5 @@ returns-2 c =
 pub multiply-spec : {M : Type 1} → statement M
 multiply-spec =
     tie.close
-    (tie.spec Inv-loop μ-loop loop-holds face-places-requires (λ c. omega (arith, inside (c .before .before .before))) multiply-column-requires enum-told enum-told-2 same-length returns (λ c. omega arith) (λ c. omega arith)
-    loop-again same-length-2 returns-2)
+    (tie.spec Inv-loop μ-loop loop-holds face-places-requires (λ c. omega (arith, inside (c .before .before .before))) multiply-column-requires
+    enum-told enum-told-2 same-length returns (λ c. omega arith) (λ c. omega arith) loop-again same-length-2 returns-2)

@@ -13,11 +13,8 @@ use mir.Facts.{toZ-ofZ, sfits-lit}
 use Rattle.matrices.specs.Sum.{sum}
 use Rattle.matrices.specs.SumLaws.{sum-ext}
 use Rattle.matrices.specs.Matrix as theory
-use Rattle.complexes.specs.Complex.{count, Complex}
 use Rattle.complexes.specs.Boundary.{sign}
 use Rattle.sheet_format.specs.Layout.{top}
-use Rattle.sheet_format.specs.Check.{sectionsOf, chainCells}
-use Rattle.limits.specs.Limits.{libraryLimit}
 use Rattle.lines.specs.Slice.{entryLimit, at, lineAt, Small}
 use Rattle.lines.specs.Matrices.{Held, contents, end}
 use Rattle.lines.specs.declared.matrix.Matrix.{Matrix}
@@ -25,11 +22,9 @@ use Rattle.lines.proofs.Spans.{line-span, span-inside}
 use Rattle.lines.proofs.Operations.{upTo, upTo-below, upTo-from}
 use Rattle.words.specs.Read.{read, read-entry, entry-fits}
 use Rattle.words.specs.Tests.{beyond-low, beyond-high, within}
-use Rattle.faces.specs.Face.{AreFaces}
 use Rattle.boundaries.specs.Column.{atPlaces, ColumnFilled, ColumnExceeds}
-use Rattle.faces.proofs.Sheet.{complex}
 use Rattle.boundaries.proofs.Store.{Place, place-inside, entry-set, column-set}
-use Rattle.boundaries.proofs.Products.{product, contents-kept, product-entry}
+use Rattle.boundaries.proofs.Products.{contents-kept}
 use Rattle.boundaries.proofs.product.multiply_column.Statement.{statement}
 use Rattle.boundaries.proofs.product.multiply_column.Tie as tie
 

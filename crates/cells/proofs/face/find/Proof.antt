@@ -16,7 +16,7 @@ use Rattle.cells.specs.Word.{Packs}
 use Rattle.cells.specs.Find.{Steps, Rising, FindsWord}
 use Rattle.cells.specs.declared.face.Found.the-variants.{At}
 use Rattle.cells.proofs.Words.{packs-at, words-before, words-same}
-use Rattle.cells.proofs.Halving.{Bracket, bracket-start, bracket-down, bracket-up, bracket-end}
+use Rattle.cells.proofs.Bracket.{Bracket, bracket-start, bracket-down, bracket-up, bracket-end}
 use Rattle.cells.proofs.face.find.Statement.{statement}
 use Rattle.cells.proofs.face.find.Tie as tie
 
@@ -77,20 +77,20 @@ loop-holds c =
 placed : (c : tie.In-loop Inv-loop μ-loop) → (c .before .loop .lo ≤ c .before .loop .mid) × (c .before .loop .mid < c .before .loop .hi)
 placed c = c .before .loop .inv .between (c .loop-test .taken)
 
-pack-cell-requires : tie.Need-pack-cell-requires Inv-loop μ-loop
-pack-cell-requires c κs = omega (arith, placed c)
+pack-place-requires : tie.Need-pack-place-requires Inv-loop μ-loop
+pack-place-requires c κs = omega (arith, placed c)
 
-module _ (c : tie.After-pack-cell Inv-loop μ-loop) where
+module _ (c : tie.After-pack-place Inv-loop μ-loop) where
   abbrev turn : tie.In-loop Inv-loop μ-loop
   turn = c .before
 
   abbrev start : tie.Start Inv-loop μ-loop
   start = turn .before .before .before .before
 
-  packs-mid : let a = start .args in Packs (a .n) (getD (cellsOf (now (a .s)) (a .n) (a .many) (a .at)) (turn .before .loop .mid) []) (c .pack-cell .result)
+  packs-mid : let a = start .args in Packs (a .n) (getD (cellsOf (now (a .s)) (a .n) (a .many) (a .at)) (turn .before .loop .mid) []) (c .pack-place .result)
   packs-mid =
       let a = start .args in
-      packs-at (now (a .s)) (a .at) (a .n) (a .many) (turn .before .loop .mid) (c .pack-cell .result) (omega (arith, placed turn)) (c .pack-cell .ensures)
+      packs-at (now (a .s)) (a .at) (a .n) (a .many) (turn .before .loop .mid) (c .pack-place .result) (omega (arith, placed turn)) (c .pack-place .ensures)
 
 returns : tie.Need-returns Inv-loop μ-loop
 returns c = let r = c .before in here (turn r .before .loop .inv) (start r .pre .1) (turn r .loop-test .taken) (packs-mid r) (c .if2 .taken)
@@ -141,5 +141,5 @@ returns-2 c d h =
 pub find-spec : {M : Type 1} → statement M
 find-spec =
     tie.close
-    (tie.spec Inv-loop μ-loop loop-holds pack-cell-requires returns sub-farther farther-requires sub-mid loop-less loop-again add-lo sub-farther-2
+    (tie.spec Inv-loop μ-loop loop-holds pack-place-requires returns sub-farther farther-requires sub-mid loop-less loop-again add-lo sub-farther-2
     farther-requires-2 add-mid (λ c. search needs) loop-less-2 loop-again-2 returns-2)

@@ -1,6 +1,6 @@
 -- `find_faces` meets its contract. The loop's invariant: the places before number j are those of the first j faces.
 use borrow.Author.Needs.{needs}
-use mathlib.Core.Path.{_≡_, refl, sym, ap, subst, _∙_}
+use mathlib.Core.Path.{_≡_, sym, ap, subst, _∙_}
 use mathlib.Core.Bool.{Bool, true, false, not, true≢false}
 use mathlib.Core.List.{List}
 use Prim.Native.Nat.{ℕ, suc, _+_, _-_, _≤_, _<_}
@@ -12,23 +12,23 @@ use lib.Seq.{getD-set-same, getD-set-other}
 use denote.Ref.{now}
 use Rattle.complexes.specs.Cell.{Cell, without, listed}
 use Rattle.sheet_format.specs.Layout.{top}
-use Rattle.sheet_format.specs.Check.{cellOf, cellsOf, some}
+use Rattle.sheet_format.specs.Check.{cellOf, cellsOf}
 use Rattle.sheet_format.specs.CheckLaws.{some-at, some-false}
 use Rattle.cells.specs.Word.{Packs, LeavesOut}
 use Rattle.cells.specs.Find.{Finds, FindsFaces}
 use Rattle.cells.specs.declared.face.Found.{Found}
 use Rattle.cells.specs.declared.face.Found.the-variants.{At, Nothing}
-use Rattle.cells.proofs.Halving.{finds-listed}
+use Rattle.cells.proofs.Bracket.{finds-listed}
 use Rattle.cells.proofs.face.find_faces.Statement.{statement}
 use Rattle.cells.proofs.face.find_faces.Tie as tie
 
-record Invariant (n : ℕ) (c : Cell) (l : List Cell) (j : ℕ) (places : List ℕ) : Type 0 where
+record Invariant (c : Cell) (l : List Cell) (j : ℕ) (places : List ℕ) : Type 0 where
   sized : length places ≡ suc top
   placed : (k : ℕ) → k < j → Finds (without k c) l (At (getD places k 0))
 
-more : {n : ℕ} {c : Cell} {l : List Cell} {j : ℕ} {places : List ℕ} → Invariant n c l j places → j < suc top → (i : ℕ) → Finds (without j c) l (At i)
-    → Invariant n c l (j + 1) (set places j i)
-more {n} {c} {l} {j} {places} inv inside i h = record { sized = length-set places j i ∙ inv .sized; placed = λ k m. pick k m (ℕ-discrete k j) }
+more : {c : Cell} {l : List Cell} {j : ℕ} {places : List ℕ} → Invariant c l j places → j < suc top → (i : ℕ) → Finds (without j c) l (At i)
+    → Invariant c l (j + 1) (set places j i)
+more {c} {l} {j} {places} inv inside i h = record { sized = length-set places j i ∙ inv .sized; placed = λ k m. pick k m (ℕ-discrete k j) }
   where
     pick : (k : ℕ) → k < j + 1 → Dec (k ≡ j) → Finds (without k c) l (At (getD (set places j i) k 0))
     pick k m (yes e) = rw (e, getD-set-same places j i 0 (omega (arith, inv .sized))) h
@@ -44,8 +44,8 @@ face-packs n j c w r l h k =
 abbrev Missing : Cell → List Cell → ℕ → Bool
 Missing c l j = not (listed (without j c) l)
 
-all-found : {n : ℕ} {c : Cell} {l : List Cell} {j : ℕ} {places : List ℕ} → Invariant n c l j places → suc n ≤ j
-    → FindsFaces n c l false places
+all-found : {n : ℕ} {c : Cell} {l : List Cell} {j : ℕ} {places : List ℕ} → Invariant c l j places → suc n ≤ j
+    → FindsFaces n c l true places
 all-found {n} {c} {l} {j} {places} inv done = record {
   tells =
       sym (some-false (suc n) (Missing c l) .1
@@ -55,15 +55,15 @@ all-found {n} {c} {l} {j} {places} inv done = record {
 }
 
 one-missing : (n : ℕ) (c : Cell) (l : List Cell) (j : ℕ) (places : List ℕ) → j < suc n → Finds (without j c) l Nothing
-    → length places ≡ suc top → FindsFaces n c l true places
+    → length places ≡ suc top → FindsFaces n c l false places
 one-missing n c l j places m h sized = record {
   tells = sym (some-at (suc n) (Missing c l) j m (ap not (sym (finds-listed (without j c) l Nothing h))));
-  finds = λ e. absurd (true≢false e);
+  finds = λ e. absurd (true≢false (sym e));
   sized = sized;
 }
 
 abbrev Inv-loop : tie.InvT-loop
-Inv-loop s a at n many places₀ cell j₀ places j = Invariant n (cellOf s (suc n) a) (cellsOf s n many at) j places
+Inv-loop s a at n many places₀ cell j₀ places j = Invariant (cellOf s (suc n) a) (cellsOf s n many at) j places
 
 abbrev μ-loop : tie.MeasureT-loop
 μ-loop s a at n many places₀ cell j₀ places j = suc n - j

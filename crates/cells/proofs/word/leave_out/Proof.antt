@@ -1,15 +1,12 @@
 -- `leave_out` meets its contract: the vertices before the one left out stand above it in the word, and those behind it below.
 use borrow.Author.Needs.{needs}
-use mathlib.Core.Path.{_≡_, refl, sym, _∙_}
-use Prim.Native.Nat.{ℕ, suc, _+_, _*_, _/_, _%_, _^_, _≤_, _<_}
-use native.Mathlib.Nat.{mul-le-mul-right, div-le-self, div-add-mod', pow-le-pow-right}
+use mathlib.Core.Path.{sym}
+use Prim.Native.Nat.{ℕ, _+_, _*_, _/_, _%_, _≤_, _<_}
+use native.Mathlib.Nat.{mul-le-mul-right, div-le-self, div-add-mod', one-le-pow}
 use native.Mathlib.Omega.{arith}
-use lib.ListN.{length}
-use Rattle.complexes.specs.Cell.{Cell, without}
 use Rattle.complexes.specs.Complex.{vertexBound}
 use Rattle.complexes.specs.FaceLaws.{length-without}
-use Rattle.complexes.specs.Packed.{packed, Numbered}
-use Rattle.complexes.specs.PackedLaws.{power-positive, packed-without, numbered-without}
+use Rattle.complexes.specs.PackedLaws.{packed-without, numbered-without}
 use Rattle.cells.proofs.word.leave_out.Statement.{statement}
 use Rattle.cells.proofs.word.leave_out.Tie as tie
 
@@ -21,7 +18,7 @@ module _ (c : tie.After-power) where
   base = c .power .result
 
   positive : 0 < base
-  positive = omega (arith, c .power .ensures, power-positive (c .before .args .behind))
+  positive = omega (arith, c .power .ensures, one-le-pow (c .before .args .behind) vertexBound (omega arith))
 
   -- what is left is no more than the word
   less : word / base / vertexBound * base + word % base ≤ word

@@ -1,34 +1,22 @@
 -- `pack` meets its contract: of the word of four vertices, the first n stand in the highest bits.
 use borrow.Author.Needs.{needs}
-use mathlib.Core.Path.{_≡_, sym, ap, _∙_}
-use mathlib.Core.List.{List}
-use Prim.Native.Nat.{ℕ, _-_, _<_, _≤_}
+use mathlib.Core.Path.{ap, _∙_}
+use Prim.Native.Nat.{_-_}
+use native.Mathlib.Nat.{one-le-pow}
 use native.Mathlib.Omega.{arith}
-use lib.ListN.{length, take}
-use lib.Seq.{ext-getD, length-take-le, getD-take}
 use denote.Ref.{now}
+use Rattle.complexes.specs.Complex.{vertexBound}
 use Rattle.complexes.specs.Packed.{wordVertices, packed}
-use Rattle.complexes.specs.PackedLaws.{power-positive, packed-take}
+use Rattle.complexes.specs.PackedLaws.{packed-take}
 use Rattle.sheet_format.specs.Check.{cellOf}
 use Rattle.sheet_format.specs.Sheet.{Bytes}
-use Rattle.sheet_format.specs.SheetLaws.{length-cellOf, getD-cellOf}
+use Rattle.sheet_format.specs.SheetLaws.{length-cellOf, take-cellOf}
 use Rattle.cells.proofs.Words.{numbered-cell}
 use Rattle.cells.proofs.word.pack.Statement.{statement}
 use Rattle.cells.proofs.word.pack.Tie as tie
 
--- the first n of m vertices
-take-cellOf : (s : List ℕ) (n m at : ℕ) → n ≤ m → take n (cellOf s m at) ≡ cellOf s n at
-take-cellOf s n m at l =
-    ext-getD 0 (take n (cellOf s m at)) (cellOf s n at) (sized ∙ sym (length-cellOf s n at))
-    (λ j k.
-    let k′ : j < n = omega (arith, sized) in
-    getD-take n (cellOf s m at) j 0 k′ ∙ getD-cellOf s m at j (omega arith) ∙ sym (getD-cellOf s n at j k′))
-  where
-    sized : length (take n (cellOf s m at)) ≡ n
-    sized = length-take-le n (cellOf s m at) (omega (arith, length-cellOf s m at))
-
 div-result : tie.Need-div-result
-div-result c = omega (arith, c .power .ensures, power-positive (wordVertices - c .before .before .before .args .n))
+div-result c = omega (arith, c .power .ensures, one-le-pow (wordVertices - c .before .before .before .args .n) vertexBound (omega arith))
 
 returns : tie.Need-returns
 returns c =

@@ -1,6 +1,5 @@
 -- `power` meets its contract: 2 to the power 16 × n is 65536 to the power n, which fits the word.
 use borrow.Author.Needs.{needs}
-use mathlib.Core.Path.{_∙_}
 use Prim.Native.Nat.{_*_, _^_}
 use native.Mathlib.Nat.{one-mul, mod-eq-of-lt, pow-le-pow-right}
 use native.Mathlib.Omega.{arith}

@@ -41,7 +41,7 @@ module _ (c : tie.After-find-faces Inv-loop μ-loop) where
   abbrev start : tie.Start Inv-loop μ-loop
   start = head .before .before
 
-  told : Test start (head .loop .i) ≡ c .find-faces .result
+  told : Test start (head .loop .i) ≡ not (c .find-faces .result)
   told = sym (rw (add-one (start .args .n)) at (c .find-faces .ensures .tells))
 
 loop-holds : tie.Need-loop-holds Inv-loop μ-loop

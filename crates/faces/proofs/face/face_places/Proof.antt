@@ -32,7 +32,7 @@ mul-a-2 c = omega (arith, passed c)
 add-a-2 : tie.Need-add-a-2
 add-a-2 c = omega (arith, passed c, c .start .ensures .below)
 
--- the cell and the section where its face is looked for
+-- the cell and the section where its faces are looked for
 looked : (c : tie.After-count) →
     let args = c .before .before .before .before .args in
     Looked (now (args .s)) (args .p) (args .j) (c .before .before .start .result + 2 * ((args .p + 2) * args .j)) (args .p + 1) (c .before .start2 .result)

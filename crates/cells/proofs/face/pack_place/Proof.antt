@@ -1,11 +1,11 @@
--- `pack_cell` meets its contract: the cell's byte is small enough.
+-- `pack_place` meets its contract: the cell's byte is small enough.
 use borrow.Author.Needs.{needs}
 use Prim.Native.Nat.{_*_, _≤_}
 use native.Mathlib.Nat.{mul-le-mul}
 use native.Mathlib.Omega.{arith}
 use Rattle.complexes.specs.Packed.{wordVertices}
-use Rattle.cells.proofs.face.pack_cell.Statement.{statement}
-use Rattle.cells.proofs.face.pack_cell.Tie as tie
+use Rattle.cells.proofs.face.pack_place.Statement.{statement}
+use Rattle.cells.proofs.face.pack_place.Tie as tie
 
 -- the vertices before the cell
 passed : (c : tie.Start) → c .args .n * c .args .i ≤ wordVertices * 65536
@@ -23,5 +23,5 @@ add-pack c = omega (arith, passed (c .before))
 pack-requires : tie.Need-pack-requires
 pack-requires c κs = omega (arith, passed (c .before))
 
-pub pack-cell-spec : {M : Type 1} → statement M
-pack-cell-spec = tie.close (tie.spec mul-pack mul-pack-2 add-pack pack-requires (λ c. search needs))
+pub pack-place-spec : {M : Type 1} → statement M
+pack-place-spec = tie.close (tie.spec mul-pack mul-pack-2 add-pack pack-requires (λ c. search needs))

@@ -1,6 +1,6 @@
--- The search by halving for a cell c in a rising list l of `many` cells: the invariant is `Bracket`, with `bracket-start` where the loop
--- starts, `bracket-down` and `bracket-up` after a turn, and `bracket-end` where the loop ends. A place is found exactly where `listed` says
--- so: finds-listed.
+-- The search for a cell c in a rising list l of `many` cells: the invariant is `Bracket`, with `bracket-start` where the loop starts,
+-- `bracket-down` and `bracket-up` after a turn, and `bracket-end` where the loop ends. A place is found exactly where `listed` says so:
+-- finds-listed.
 use mathlib.Core.Path.{_≡_, refl, sym}
 use mathlib.Core.Logic.{_≢_, ⊎-elim}
 use mathlib.Core.Bool.{Bool, true, false}
