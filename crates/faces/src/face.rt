@@ -26,6 +26,8 @@ pub fn face_places(s: &[u8], p: usize, j: usize, places: &mut [usize; FACES])
     requires { ⌜ (p < top) × (j < count (sectionsOf (now s)) (suc p)) × (length (now places) ≡ suc top) ⌝ }
     ensures { λ r. ⌜ AreFaces (now (s .entry)) p j (now (places .exit)) ⌝ }
 {
-    let a = start(s, p + 1) + 2 * ((p + 2) * j);
-    find_faces(s, a, start(s, p), p + 1, count(s, p), places);
+    let at = start(s, p);
+    let many = count(s, p);
+    let next = at + 2 * ((p + 1) * many);
+    find_faces(s, next + 2 * ((p + 2) * j), at, p + 1, many, places);
 }
