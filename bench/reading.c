@@ -1,6 +1,6 @@
 /* Times the reading of a sheet alone: checks 1 to 7, by a report of dimension 4, which is refused with 8; by the library and by the library of an
- * earlier commit, in one process. All sheets take turns, so that the processor has read many others since it read one last and does not know the way
- * that its branches take. The aim is to be at least twice as fast on a sheet with 256 cells in every dimension. Ends with an error where a call is
+ * earlier commit, in one process. All sheets take turns, so that the processor has read many others since it read one last and cannot predict its
+ * branches from that. The aim is to be at least twice as fast on a sheet with 256 cells in every dimension. Ends with an error where a call is
  * answered otherwise, or the aim is missed. Usage: reading FILE.sheet .. */
 #include "library.h"
 #include "timing.h"
