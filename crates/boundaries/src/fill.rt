@@ -16,7 +16,7 @@ use faces::face::face_places;
 use faces::face::sign;
 use lines::matrix::Matrix;
 
-// Writes column j of the boundary matrix of dimension p + 1. The faces of cell j are looked for first at `places`, which become theirs.
+// Writes column j of the boundary matrix of dimension p + 1. The search for the faces of cell j starts at `places`, which become theirs.
 fn fill_column(s: &[u8], p: usize, m: Matrix, w: &mut [i32], j: usize, places: &mut [usize; FACES])
     requires { ⌜ Accepted (now s) × (p < top) × (length (now places) ≡ suc top) ⌝ }
     requires { ⌜ (m .lines ≡ count (chainCells (now s)) p) × (m .width ≡ count (chainCells (now s)) (suc p)) × (j < m .width) ⌝ }

@@ -1,4 +1,5 @@
-// The places of faces. The faces of rising cells nearly rise, so that the search for a face starts where that for the same face of the last cell ended.
+// The places of faces. The faces of rising cells nearly rise, so that the search for a face starts where that for the same face of the last cell
+// ended.
 ghost use mathlib.Core.Path.{_≡_};
 ghost use Prim.Native.Nat.{suc, _+_, _*_, _^_, _≤_, _<_};
 ghost use lib.ListN.{length};
@@ -69,8 +70,8 @@ fn find(s: &[u8], word: u64, at: usize, n: usize, many: usize, from: usize) -> F
     Found::Nothing
 }
 
-// Whether all faces of the cell of n + 1 vertices at byte a stand among the `many` cells of n vertices from byte `at` on. If so, `places` becomes their
-// places, in the order of the vertices that they leave out. The search for each starts at the place that `places` held for it.
+// Whether all faces of the cell of n + 1 vertices at byte a stand among the `many` cells of n vertices from byte `at` on. If so, `places` becomes
+// their places, in the order of the vertices that they leave out. The search for each starts at the place that `places` held for it.
 pub fn find_faces(
     s: &[u8],
     a: usize,

@@ -2,7 +2,7 @@
 // only equal cells share one.
 ghost use mathlib.Core.Path.{_≡_};
 ghost use mathlib.Core.List.{[], _∷_};
-ghost use Prim.Native.Nat.{_+_, _^_, _≤_, _<_};
+ghost use Prim.Native.Nat.{_^_, _≤_, _<_};
 ghost use Rattle.complexes.specs.Complex.{vertexBound};
 ghost use Rattle.complexes.specs.Packed.{wordVertices, packed};
 ghost use Rattle.sheet_format.specs.Check.{cellOf};

@@ -38,7 +38,7 @@ pub fn coefficient_exceeds(chain: &[i32], limit: u16) -> bool
     false
 }
 
-// Adds x times the boundary of cell j of section p + 1. The faces of cell j are looked for first at `places`, which become theirs.
+// Adds x times the boundary of cell j of section p + 1. The search for the faces of cell j starts at `places`, which become theirs.
 fn add_faces(
     s: &[u8],
     p: usize,

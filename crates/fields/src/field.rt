@@ -1,5 +1,5 @@
 // The bytes, fields, counts and section starts of a sheet. Each reads 0 past the end.
-ghost use Prim.Native.Nat.{suc, _+_, _*_, _^_, _≤_, _<_};
+ghost use Prim.Native.Nat.{suc, _+_, _^_, _≤_, _<_};
 ghost use lib.ListN.{length, getD};
 ghost use Rattle.sheet_format.specs.Layout.{top};
 ghost use Rattle.sheet_format.specs.Check.{fieldAt, countField, startAt};
