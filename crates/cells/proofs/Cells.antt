@@ -10,7 +10,7 @@ use Rattle.complexes.specs.CellLaws.{rises-at, rises-of}
 use Rattle.sheet_format.specs.Check.{fieldAt, cellOf}
 use Rattle.sheet_format.specs.SheetLaws.{length-cellOf, getD-cellOf}
 
--- ---- general lemmas on cells
+-- ---- general lemmas
 
 pub is-false : (b : Bool) → (b ≡ true → ⊥) → b ≡ false
 is-false true h = absurd (h refl)

@@ -3,6 +3,7 @@
 --                                          equal cells share one
 --     packed-below, packed-fits            the word of n vertices is below 65536 ^ n, and so up to `wordVertices` of them fit 64 bits
 --     packed-take, packed-without          the word of the first vertices, and of a face, from that of the cell
+--     numbered-without                     the vertices of a face are vertex numbers
 use mathlib.Core.Path.{_≡_, sym, ap, _∙_}
 use mathlib.Core.Logic.{_↔_}
 use mathlib.Core.Bool.{true, true≢false}
