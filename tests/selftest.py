@@ -9,12 +9,13 @@ import unittest
 
 from checks.calls import Calls
 from checks.homology import Coordinates, RefusalOrder, Reports, SlicesOfCheck9
+from checks.imports import Imports
 from checks.lists import ListRefusalOrder, Lists, ListSlices, NoChainsRefusalOrder
 from checks.meshes import Meshes
 from checks.reductions import Reductions
 from checks.sheets import Boundaries, Sheets
 
-__all__ = ["Boundaries", "Calls", "Coordinates", "ListRefusalOrder", "Lists", "ListSlices",
+__all__ = ["Boundaries", "Calls", "Coordinates", "Imports", "ListRefusalOrder", "Lists", "ListSlices",
            "Meshes", "NoChainsRefusalOrder", "Reductions", "RefusalOrder", "Reports", "Sheets",
            "SlicesOfCheck9"]
 

@@ -19,7 +19,7 @@ const VERTEX_BITS: usize = 16;
 const VERTEX_BOUND: u64 = 1 << VERTEX_BITS;
 
 // VERTEX_BOUND to the power n.
-fn power(n: usize) -> u64
+pub fn power(n: usize) -> u64
     requires { ⌜ n < wordVertices ⌝ }
     ensures { λ r. ⌜ r ≡ vertexBound ^ n ⌝ }
 {

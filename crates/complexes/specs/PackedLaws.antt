@@ -2,7 +2,9 @@
 --     packed-precedes, packed-injective    of two cells with as many vertices, the one that stands first has the lesser word, and no other, and only
 --                                          equal cells share one
 --     packed-below, packed-fits            the word of n vertices is below 65536 ^ n, and so up to `wordVertices` of them fit 64 bits
---     packed-take, packed-without          the word of the first vertices, and of a face, from that of the cell
+--     packed-append                        the word of one list after another
+--     packed-take, packed-drop             the words of the first and of the last vertices, from that of the cell
+--     packed-without                       the word of a face, from that of the cell
 --     numbered-without                     the vertices of a face are vertex numbers
 use mathlib.Core.Path.{_≡_, sym, ap, _∙_}
 use mathlib.Core.Logic.{_↔_}
@@ -61,7 +63,7 @@ packed-fits c h l = omega (arith, packed-below c h, pow-le-pow-right {n = vertex
 -- ---- the words of parts of a cell
 
 -- one part behind the other: the word of the first stands above that of the second
-packed-append : (c d : Cell) → packed (c ++ d) ≡ packed c * vertexBound ^ length d + packed d
+pub packed-append : (c d : Cell) → packed (c ++ d) ≡ packed c * vertexBound ^ length d + packed d
 unfolding packed
 packed-append [] d = omega arith
 packed-append (v ∷ c) d =
@@ -89,6 +91,13 @@ packed-take c n m h e = rw (take-append-drop n c, behind) at (high (take n c) (d
     behind : length (drop n c) ≡ m
     behind = omega (arith, length-drop n c)
 
+-- .. and of the last m
+pub packed-drop : (c : Cell) (n m : ℕ) → Numbered c → length c ≡ n + m → packed c % vertexBound ^ m ≡ packed (drop n c)
+packed-drop c n m h e = rw (take-append-drop n c, behind) at (low (take n c) (drop n c) (numbered-drop n c h))
+  where
+    behind : length (drop n c) ≡ m
+    behind = omega (arith, length-drop n c)
+
 -- .. and of all but the one that m stand behind
 pub packed-without : (c : Cell) (j m : ℕ) → Numbered c → length c ≡ suc (j + m)
     → packed (without j c) ≡ packed c / vertexBound ^ m / vertexBound * vertexBound ^ m + packed c % vertexBound ^ m
@@ -104,7 +113,7 @@ packed-without c j m h e =
     first-part = div-div-eq-div-mul (packed c) (vertexBound ^ m) vertexBound ∙ rw (pow-suc vertexBound m) at (packed-take c j (suc m) h (omega arith))
 
     last-part : packed c % vertexBound ^ m ≡ packed (drop (suc j) c)
-    last-part = rw (take-append-drop (suc j) c, behind) at (low (take (suc j) c) (drop (suc j) c) (numbered-drop (suc j) c h))
+    last-part = packed-drop c (suc j) m h (omega arith)
 
 -- ---- the order of words
 

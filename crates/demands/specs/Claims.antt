@@ -1,23 +1,30 @@
 -- The owner's demands, sentence by sentence, for every sheet b, dimension p, and every length and content of every slice. The contracts of the code
 -- say that the library's calls answer and leave what `reportCall`, `coordinateCall` and `coordinateListsCall` say, the host calls what `hostReport`,
--- `hostCoordinates` and `hostCoordinateLists` say, and that `print_input`, which the program calls between reading and writing, puts `programText`; here is claimed what these are. `Proofs`
+-- `hostCoordinates` and `hostCoordinateLists` say, the import calls what `importCall` says, and that `print_input`, which the program calls between
+-- reading and writing, puts `programText`; here is claimed what these are. `Proofs`
 -- proves each claim, and `Met` shows that hypotheses are met. "ends on all input .. nothing undefined happens" (demand 1) is settled by the
 -- proof of every function, "nothing is assumed beyond 01's rule on overlapping slices" (demand 3) by calls without a `requires`. A slice of bytes meets
 -- `Bytes`: the contract of `Sheet::read` says so.
 use mathlib.Core.Path.{_≡_}
 use mathlib.Core.Logic.{_↔_, _≢_}
-use mathlib.Core.Bool.{true}
+use mathlib.Core.Bool.{true, false}
 use mathlib.Core.List.{List, _++_}
 use Prim.Native.Nat.{ℕ, _+_, _*_, _^_, _≤_, _<_}
-use lib.ListN.{length, getD, take}
+use lib.ListN.{length, getD, take, drop}
 use lib.IntN.{ℤ, pos, _-ℤ_}
 use lib.Signed.{_≤ℤ_, _<ℤ_}
 use Rattle.complexes.specs.Cell.{Cell, precedes}
-use Rattle.complexes.specs.Complex.{count}
+use Rattle.complexes.specs.Complex.{Sections, count}
 use Rattle.complexes.specs.Packed.{wordVertices, packed, Numbered}
-use Rattle.sheet_format.specs.Layout.{longest}
+use Rattle.sheet_format.specs.Layout.{top, layout, longest}
 use Rattle.sheet_format.specs.Check.{first, refusal, sectionsOf}
 use Rattle.sheet_format.specs.Sheet.{Bytes, IsSheet}
+use Rattle.closures.specs.Form.{IsClosure}
+use Rattle.mesh_format.specs.Mesh.{Mesh}
+use Rattle.mesh_format.specs.Form.{MeshText}
+use Rattle.imports.specs.Import.{isRight, nodeLists, complexOf, tooLong, importCall, importNumber}
+use Rattle.imports.specs.Import as imports
+use Rattle.imports.specs.Sheet.{ImportedSheet}
 use Rattle.homology_groups.specs.Chain.{Chain, combination}
 use Rattle.reduction_steps.specs.Pivot.{pivotRule}
 use Rattle.reports.specs.Report.{Counts}
@@ -306,6 +313,57 @@ WordsOrdered = (c d : Cell) → Numbered c → Numbered d → length c ≡ lengt
 -- "and only equal lists share one"
 abbrev pub WordsShared : Type 0
 WordsShared = (c d : Cell) → Numbered c → Numbered d → length c ≡ length d → packed c ≡ packed d → c ≡ d
+
+-- ==== Meshes straight from the mesher
+
+-- 02, Note 3. The contracts of `importer::import::import` and `fildwuk_import` say that these calls answer and leave what `importCall` says, at the
+-- limits of the library and of the host calls. "New numbers: 14, the text is not of that form or a node number exceeds 65535":
+abbrev pub ImportMalformed : Type 0
+ImportMalformed =
+    (limit : ℕ) (text sheet : List ℕ) → (importNumber (importCall limit text sheet .answer) ≡ 14) ↔ ((m : Mesh) → MeshText m text → ⊥)
+
+-- .. and a text of that form tells one mesh
+abbrev pub MeshesUnique : Type 0
+MeshesUnique = (m m′ : Mesh) (text : List ℕ) → MeshText m text → MeshText m′ text → m ≡ m′
+
+-- "15, an element has another kind, another number of nodes than its kind, an unlisted node or a node twice"; "The import call tries them in this order":
+-- whatever the slice
+abbrev pub ImportFaulty : Type 0
+ImportFaulty =
+    (limit : ℕ) (text sheet : List ℕ) (m : Mesh) → MeshText m text → (importNumber (importCall limit text sheet .answer) ≡ 15) ↔ (isRight m ≡ false)
+
+-- the cells of a mesh whose elements are right: the elements' vertex sets and their nonempty subsets. There are such sections, and no others
+abbrev pub MeshCells : Type 0
+MeshCells = (m : Mesh) → isRight m ≡ true → IsClosure top (nodeLists (m .elements)) (complexOf (m .elements))
+
+abbrev pub MeshCellsUnique : Type 0
+MeshCellsUnique = (m : Mesh) (K L : Sections) → IsClosure top (nodeLists (m .elements)) K → IsClosure top (nodeLists (m .elements)) L → K ≡ L
+
+-- "16, the sheet's slice is too short or a count would exceed its limit": where neither 14 nor 15 applies
+abbrev pub ImportTooLong : Type 0
+ImportTooLong =
+    (limit : ℕ) (text sheet : List ℕ) (m : Mesh) → MeshText m text → isRight m ≡ true → (K : Sections) → IsClosure top (nodeLists (m .elements)) K →
+    (importNumber (importCall limit text sheet .answer) ≡ 16) ↔ (tooLong limit (length sheet) K ≡ true)
+
+-- demand 3, "A call answers done whenever no numbered refusal applies to it"; "A call that writes a sheet answers done with its length in bytes"; 01,
+-- "untouched past what the call writes"
+abbrev pub ImportDone : Type 0
+ImportDone =
+    (limit : ℕ) (text sheet : List ℕ) (m : Mesh) → MeshText m text → isRight m ≡ true → (K : Sections) → IsClosure top (nodeLists (m .elements)) K →
+    tooLong limit (length sheet) K ≡ false →
+    importCall limit text sheet ≡ record { answer = imports.done (length (layout K)); output = layout K ++ drop (length (layout K)) sheet }
+
+-- 01, "Every other slice that a call writes is untouched by a refusal"
+abbrev pub ImportLeft : Type 0
+ImportLeft =
+    (limit : ℕ) (text sheet : List ℕ) → importNumber (importCall limit text sheet .answer) ≢ 0 → importCall limit text sheet .output ≡ sheet
+
+-- "The sheet written is always accepted, and its cells are exactly the elements' vertex sets and their nonempty subsets": so the claims above hold of it
+-- as of any sheet. Its header gives its length to a C caller
+abbrev pub ImportSheet : Type 0
+ImportSheet =
+    (limit : ℕ) → limit ≤ libraryLimit → (text sheet : List ℕ) (n : ℕ) → importCall limit text sheet .answer ≡ imports.done n →
+    ImportedSheet limit text sheet (importCall limit text sheet .output) n
 
 -- ==== The program
 

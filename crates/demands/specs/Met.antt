@@ -6,6 +6,7 @@
 --     triangle-no-cycle, triangle-first,
 --     triangle-host-first                  a chain that is no cycle, on the hollow triangle; and the first faulty of two chains
 --     edges-precede                        two cells of one length, whose words are ordered as they are
+--     hollow-imported, hollow-short        the mesh text of the hollow triangle, imported, and refused with 16 where the slice is too short
 --     plane-goes-wide                      the two reductions go too wide, at the entry limit 1; at 1,048,575 no sheet that computes here does
 use mathlib.Core.Path.{_≡_, refl, sym, _∙_, ap, subst}
 use mathlib.Core.Bool.{true}
@@ -24,14 +25,20 @@ use Rattle.complexes.specs.Complex.{Sections, count, vertexBound, Complex}
 use Rattle.complexes.specs.Packed.{packed, Numbered}
 use Rattle.complexes.specs.ChainComplex.{ChainComplex, complex-chains}
 use Rattle.complexes.specs.Boundary.{sign, coefficient, countBelow, boundary}
-use Rattle.sheet_format.specs.Layout.{top, start}
+use Rattle.sheet_format.specs.Layout.{top, start, cellBytes, sectionBytes, sectionsBytes, headerBytes, layout}
 use Rattle.sheet_format.specs.Check.{first, countField, offsetField, cellOf, cellsOf, sectionsOf, chainCells, some, verticesDoNotRise, cellsDoNotRise, faceMissing, refusal}
 use Rattle.sheet_format.specs.Sheet.{Bytes}
 use Rattle.sheet_format.specs.Starred.{hollowTriangle}
 use Rattle.sheet_format.specs.Accept.{accepted-complex}
+use Rattle.closures.specs.Insert.{insert, insertAll}
+use Rattle.closures.specs.Closure.{ofDimension, facesOf, closedSection, closure}
+use Rattle.closures.specs.Form.{IsClosure}
+use Rattle.imports.specs.Import.{nodeLists, complexOf, tooLong, importCall, importNumber}
+use Rattle.imports.specs.Sheet.{ImportedSheet}
+use Rattle.imports.specs.Examples.{hollow, lent, hollowMesh, hollow-text, hollow-right, hollow-done}
 use Rattle.reduction_steps.specs.Pivot.{release1}
 use Rattle.reduction_steps.specs.PivotLaws.{release1-is-rule}
-use Rattle.limits.specs.Limits.{hostLimit, coefficientLimit}
+use Rattle.limits.specs.Limits.{libraryLimit, hostLimit, coefficientLimit}
 use Rattle.reports.specs.Call.{Called, callChecks, chainChecks, coefficientExceeds, boundaryNotZero, reportSlots, coordinateSlots, workSlots, reportCall, coordinateCall}
 use Rattle.reports.specs.Lists.{chainAt, chainBytes, listSlots, cyclesChecks, chainsChecks, coordinateListsCall, hostCoordinateLists, FirstFault}
 use Rattle.reports.specs.Host.{coefficientAt, coefficientIn, chainFrom, slotsIn, numberAt, hostReport, hostCoordinates}
@@ -45,7 +52,7 @@ use Rattle.projective_plane.specs.Plane.{cells, sheet, loop, twice, backwards}
 use Rattle.projective_plane.specs.Examples.{nines, counts, plane-calls, plane-too-wide}
 use Rattle.demands.specs.Claims.{TooWide, CoordinatesOf, ReportOf}
 use Rattle.demands.specs.Claims as claims
-use Rattle.demands.specs.Proofs.{reportNumbers, listNumbers, firstFaultyChain, hostFirstFaultyChain, listsLeave, notACycle, coordinateCounts, coordinatesDecide, hostReportNumbers, hostCoordinateNumbers, hostListNumbers, wordsOrdered}
+use Rattle.demands.specs.Proofs.{reportNumbers, listNumbers, firstFaultyChain, hostFirstFaultyChain, listsLeave, notACycle, coordinateCounts, coordinatesDecide, hostReportNumbers, hostCoordinateNumbers, hostListNumbers, wordsOrdered, meshCells, importTooLong, importSheet}
 
 -- ---- a sheet of bytes
 
@@ -250,3 +257,17 @@ triangle-host-first =
 
     told : hostCoordinateLists hollowTriangle 1 2 faulty-bytes (replicate 48 9) .number ≡ 12
     told = refl
+
+-- ---- a mesh text
+
+-- its sheet is accepted, with exactly the cells of its elements
+pub hollow-imported : ImportedSheet libraryLimit hollow (lent 40) (importCall libraryLimit hollow (lent 40) .output) 34
+hollow-imported = importSheet libraryLimit (omega arith) hollow (lent 40) 34 hollow-done
+
+-- the cells of its elements, and 16 where the slice is one byte too short for their sheet
+pub hollow-cells : IsClosure top (nodeLists (hollowMesh .elements)) (complexOf (hollowMesh .elements))
+hollow-cells = meshCells hollowMesh hollow-right
+
+pub hollow-short : importNumber (importCall libraryLimit hollow (lent 33) .answer) ≡ 16
+unfolding tooLong some insert insertAll ofDimension facesOf closedSection closure tabulate without precedes layout headerBytes start sectionsBytes sectionBytes cellBytes
+hollow-short = importTooLong libraryLimit hollow (lent 33) hollowMesh hollow-text hollow-right (complexOf (hollowMesh .elements)) hollow-cells .1 refl

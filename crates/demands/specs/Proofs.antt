@@ -14,6 +14,10 @@ use Rattle.complexes.specs.PackedLaws.{packed-fits, packed-precedes, packed-inj
 use Rattle.sheet_format.specs.Check.{first, sectionsOf, chainCells}
 use Rattle.sheet_format.specs.Sheet.{Bytes}
 use Rattle.sheet_format.specs.Accept.{accepted-iff, sections-layout}
+use Rattle.closures.specs.ClosureLaws.{closure-unique}
+use Rattle.mesh_format.specs.Accept.{mesh-unique}
+use Rattle.imports.specs.ImportLaws.{import-malformed, import-faulty, mesh-cells, import-too-long, import-done, import-left}
+use Rattle.imports.specs.SheetLaws.{import-sheet}
 use Rattle.homology_groups.specs.Chain.{Chain, combination}
 use Rattle.homology_groups.specs.ChainLaws.{boundary-same}
 use Rattle.reduction_steps.specs.State.{State}
@@ -46,6 +50,7 @@ use Rattle.demands.specs.Claims.{CoordinatesOf, ReportOf, CoordinatesDec
 use Rattle.demands.specs.Claims.{HostReportNumbers, HostCoordinateNumbers, HostReportLeft, HostCoordinatesLeft, HostReports, HostCoordinateCounts}
 use Rattle.demands.specs.Claims.{ListNumbers, FirstFaultyChain, HostFirstFaultyChain, ListsLeave, ListCounts, ListsSingle, HostListsSingle, HostListNumbers, HostListsLeft, HostListCounts}
 use Rattle.demands.specs.Claims.{WordFits, WordsOrdered, WordsShared, ProgramRefuses, ProgramPrints, ProgramInput}
+use Rattle.demands.specs.Claims.{ImportMalformed, MeshesUnique, ImportFaulty, MeshCells, MeshCellsUnique, ImportTooLong, ImportDone, ImportLeft, ImportSheet}
 use Rattle.demands.specs.Claims as claims
 
 -- ==== Demand 1
@@ -423,6 +428,35 @@ wordsOrdered = packed-precedes
 
 pub wordsShared : WordsShared
 wordsShared = packed-injective
+
+-- ==== Meshes straight from the mesher
+
+pub importMalformed : ImportMalformed
+importMalformed = import-malformed
+
+pub meshesUnique : MeshesUnique
+meshesUnique = mesh-unique
+
+pub importFaulty : ImportFaulty
+importFaulty = import-faulty
+
+pub meshCells : MeshCells
+meshCells = mesh-cells
+
+pub meshCellsUnique : MeshCellsUnique
+meshCellsUnique m K L = closure-unique
+
+pub importTooLong : ImportTooLong
+importTooLong = import-too-long
+
+pub importDone : ImportDone
+importDone = import-done
+
+pub importLeft : ImportLeft
+importLeft = import-left
+
+pub importSheet : ImportSheet
+importSheet limit small text sheet = import-sheet limit small text sheet
 
 -- ==== The program
 

@@ -5,6 +5,9 @@ ghost use lib.ListN.{length};
 ghost use Rattle.reports.specs.Host.{hostReport, hostCoordinates};
 ghost use Rattle.reports.specs.Lists.{hostCoordinateLists};
 ghost use Rattle.reports.specs.HostCallLaws.{reportRoom, workRoom};
+ghost use Rattle.limits.specs.Limits.{hostLimit};
+ghost use Rattle.imports.specs.Import.{importCall};
+ghost use Rattle.importer.specs.Answer.{ImportTold};
 ghost use Rattle.fildwuk.specs.Answer.{HostAnswers};
 
 pub mod coordinate_lists;
@@ -15,6 +18,7 @@ use calls::report::report_at;
 use calls::slots::REPORT_SLOTS;
 use calls::slots::WORK_SLOTS;
 use fields::field::count;
+use importer::import::import_at;
 use little_endian::smaller;
 use little_endian::write_numbers;
 use sheet::reader::Sheet;
@@ -97,4 +101,16 @@ pub extern "C" fn fildwuk_coordinates(
         ⌝ }
 {
     fildwuk_coordinate_lists(sheet, dimension, 1, chain, coordinates)
+}
+
+// The import of a mesh text.
+#[no_mangle]
+pub extern "C" fn fildwuk_import(text: &[u8], sheet: &mut [u8]) -> u32
+    ensures { λ r.
+        let left = now (sheet .exit) in ⌜
+        ImportTold (importCall hostLimit (now (text .entry)) (now (sheet .entry))) r left
+        ⌝ }
+{
+    let imported = import_at(Sheet::host(), text, sheet);
+    imported.number()
 }

@@ -4,6 +4,8 @@ ghost use Rattle.reports.specs.Call.{reportCall, coordinateCall};
 ghost use Rattle.reports.specs.Lists.{coordinateListsCall};
 ghost use Rattle.limits.specs.Limits.{libraryLimit};
 ghost use Rattle.calls.specs.Answer.{answered};
+ghost use Rattle.imports.specs.Import.{importCall};
+ghost use Rattle.importer.specs.Answer.{ImportTold};
 ghost use Rattle.library_host.specs.Answer.{numberTold, LibraryAnswers};
 use calls::answer::Answer;
 
@@ -80,4 +82,16 @@ pub extern "C" fn library_coordinate_lists(
         coordinates,
         work,
     ))
+}
+
+// The import of a mesh text.
+#[no_mangle]
+pub extern "C" fn library_import(text: &[u8], sheet: &mut [u8]) -> u32
+    ensures { λ r.
+        let left = now (sheet .exit) in ⌜
+        ImportTold (importCall libraryLimit (now (text .entry)) (now (sheet .entry))) r left
+        ⌝ }
+{
+    let imported = importer::import::import(text, sheet);
+    imported.number()
 }

@@ -1,7 +1,7 @@
--- The number that document 01 gives to each refusal.
+-- The number that documents 01 and 02 give to each refusal.
 use Prim.Native.Nat.{ℕ}
 use Rattle.refusal.specs.declared.Refusal.{Refusal}
-use Rattle.refusal.specs.declared.Refusal.the-variants.{SheetTooShort, CountExceedsLimit, OffsetDiffers, LengthDiffers, VerticesDoNotRise, CellsDoNotRise, FaceMissing, DimensionExceedsTop, SliceTooShort, ChainLengthDiffers, CoefficientExceedsLimit, BoundaryNotZero, TooWide}
+use Rattle.refusal.specs.declared.Refusal.the-variants.{SheetTooShort, CountExceedsLimit, OffsetDiffers, LengthDiffers, VerticesDoNotRise, CellsDoNotRise, FaceMissing, DimensionExceedsTop, SliceTooShort, ChainLengthDiffers, CoefficientExceedsLimit, BoundaryNotZero, TooWide, MeshMalformed, ElementFaulty, SheetTooLong}
 
 abbrev pub numberOf : Refusal → ℕ
 numberOf SheetTooShort = 1
@@ -17,3 +17,6 @@ numberOf ChainLengthDiffers = 10
 numberOf CoefficientExceedsLimit = 11
 numberOf BoundaryNotZero = 12
 numberOf TooWide = 13
+numberOf MeshMalformed = 14
+numberOf ElementFaulty = 15
+numberOf SheetTooLong = 16

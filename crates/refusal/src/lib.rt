@@ -1,4 +1,4 @@
-// The refusals of document 01, in its order of trial.
+// The refusals of documents 01 and 02.
 ghost use mathlib.Core.Path.{_≡_};
 ghost use Rattle.refusal.specs.Number.{numberOf};
 
@@ -16,10 +16,13 @@ pub enum Refusal {
     CoefficientExceedsLimit,
     BoundaryNotZero,
     TooWide,
+    MeshMalformed,
+    ElementFaulty,
+    SheetTooLong,
 }
 
 impl Refusal {
-    // The number that document 01 gives it.
+    // The number that the documents give it.
     pub fn number(self) -> u32
         ensures { λ r. ⌜ r ≡ numberOf self ⌝ }
     {
@@ -37,6 +40,9 @@ impl Refusal {
             Refusal::CoefficientExceedsLimit => 11,
             Refusal::BoundaryNotZero => 12,
             Refusal::TooWide => 13,
+            Refusal::MeshMalformed => 14,
+            Refusal::ElementFaulty => 15,
+            Refusal::SheetTooLong => 16,
         }
     }
 }

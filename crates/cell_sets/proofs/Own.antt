@@ -1,0 +1,85 @@
+-- A list of cells collected one after another.
+--     holds-none           a slice with counts of 0 holds the cells of the empty list
+--     adding-own           the cells of a list with one cell more
+--     overfull-exceeds     a cell that does not fit makes the closure of every longer list exceed the limit
+use mathlib.Core.Path.{_≡_, refl, sym, ap, _∙_}
+use mathlib.Core.List.{List, [], _∷_, _++_}
+use Prim.Native.Nat.{ℕ, suc, _*_, _≤_}
+use native.Mathlib.Decide.{ℕ-discrete}
+use native.Mathlib.Omega.{arith}
+use lib.ListN.{length, replicate, getD-replicate}
+use lib.Seq.{ext-getD}
+use Rattle.limits.specs.Limits.{libraryLimit}
+use Rattle.lists.specs.TabulateLaws.{length-tabulate}
+use Rattle.complexes.specs.Cell.{Cell, precedes}
+use Rattle.complexes.specs.Complex.{section}
+use Rattle.sheet_format.specs.Layout.{top}
+use Rattle.closures.specs.Insert.{insert, insertAll}
+use Rattle.closures.specs.Closure.{ofDimension, ownSection, ownSections, closure}
+use Rattle.closures.specs.SectionLaws.{ownSection-snoc, ownSection-skip, ownSection-grows}
+use Rattle.closures.specs.ClosureLaws.{ownSections-section, ownSections-count}
+use Rattle.cell_sets.specs.Set.{HoldsSection, Holds, adding, Overfull}
+use Rattle.cell_sets.specs.Close.{Exceeds}
+use Rattle.cell_sets.proofs.Adding.{length-adding, section-adding-same, section-adding-other}
+
+length-own : (cs : List Cell) → length (ownSections top cs) ≡ suc top
+unfolding ownSections
+length-own cs = length-tabulate (suc top) (ownSection cs)
+
+pub holds-none : (limit : ℕ) (cells : List ℕ) → limit ≤ libraryLimit → suc top * limit ≤ length cells
+    → Holds limit cells (replicate (suc top) 0) (ownSections top [])
+unfolding ofDimension insertAll
+holds-none limit cells small room = record {
+  small = small;
+  room = room;
+  sized = refl;
+  dimensions = length-own [];
+  sections = λ p h. rw (ownSections-section top [] p h) (none p h);
+}
+  where
+    none : (p : ℕ) → p ≤ top → HoldsSection limit cells (replicate (suc top) 0) p []
+    none p h = record {
+      counted = getD-replicate (suc top) p 0 0 (omega arith);
+      within = omega arith;
+      words = refl;
+      rising = λ i l. absurd (omega arith);
+      vertices = λ i l. absurd (omega arith);
+    }
+
+module _ (cs : List Cell) (c : Cell) (p : ℕ) (small : p ≤ top) (sized : length c ≡ suc p) where
+  pub adding-own : adding (ownSections top cs) p (c ∷ []) ≡ ownSections top (cs ++ (c ∷ []))
+  unfolding insertAll
+  adding-own =
+      ext-getD [] (adding (ownSections top cs) p (c ∷ [])) (ownSections top (cs ++ (c ∷ [])))
+      (length-adding (ownSections top cs) p (c ∷ []) ∙ length-own cs ∙ sym (length-own (cs ++ (c ∷ []))))
+      (λ q l. at q (omega (arith, l, length-adding (ownSections top cs) p (c ∷ []), length-own cs)) (ℕ-discrete q p))
+    where
+      at : (q : ℕ) → q ≤ top → Dec (q ≡ p) → section (adding (ownSections top cs) p (c ∷ [])) q ≡ section (ownSections top (cs ++ (c ∷ []))) q
+      at q l (yes e) =
+          rw e
+          (section-adding-same (ownSections top cs) p (c ∷ []) (omega (arith, length-own cs))
+          ∙ ap (insert precedes c) (ownSections-section top cs p small)
+          ∙ sym (ownSection-snoc p cs c sized)
+          ∙ sym (ownSections-section top (cs ++ (c ∷ [])) p small))
+      at q l (no d) =
+          section-adding-other (ownSections top cs) p q (c ∷ []) d
+          ∙ ownSections-section top cs q l
+          ∙ sym (ownSection-skip q cs c (λ e. d (omega arith)))
+          ∙ sym (ownSections-section top (cs ++ (c ∷ [])) q l)
+
+  pub overfull-exceeds : {limit : ℕ} {cells counts cells′ counts′ : List ℕ} → Overfull limit (ownSections top cs) p c cells counts cells′ counts′
+      → (more : List Cell) → Exceeds limit (closure top ((cs ++ (c ∷ [])) ++ more))
+  overfull-exceeds h more = record {
+    dimension = p;
+    listed = small;
+    over =
+        omega (
+          arith,
+          h .longer,
+          ap (λ (l : List Cell). length (insert precedes c l)) (ownSections-section top cs p small),
+          ap length (ownSection-snoc p cs c sized),
+          ownSection-grows p (cs ++ (c ∷ [])) more,
+          ap length (ownSections-section top ((cs ++ (c ∷ [])) ++ more) p small),
+          ownSections-count top ((cs ++ (c ∷ [])) ++ more) p,
+        );
+  }

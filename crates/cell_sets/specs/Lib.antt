@@ -1,0 +1,6 @@
+-- What the contracts of src/ cite, a file for each of its modules.
+pub mod Insert
+pub mod Set
+pub mod Vertices
+pub mod Close
+pub mod Write

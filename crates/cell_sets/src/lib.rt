@@ -1,0 +1,6 @@
+// The cells of a complex as words, section by section: cells are added, then their faces, and the sheet is written.
+pub mod close;
+pub mod insert;
+pub mod set;
+pub mod vertices;
+pub mod write;

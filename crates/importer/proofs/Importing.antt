@@ -1,0 +1,121 @@
+-- What is answered for a text, from what its parts tell.
+--     not-of-the-form      a part is malformed, or something stands behind the last line
+--     tells-mesh           all parts are read, up to the end of the text
+--     right-map            whether elements are right, by the map of the nodes listed
+use mathlib.Core.Path.{_≡_, refl, sym, ap, ap₂, _∙_}
+use mathlib.Core.Logic.{_≢_}
+use mathlib.Core.Bool.{Bool, true, false, not, cond, _||_, _&&_}
+use mathlib.Core.List.{List, [], _∷_, map}
+use Prim.Native.Nat.{ℕ, zero, suc, _<_}
+use native.Mathlib.Omega.{arith}
+use lib.Dec.{eqb}
+use lib.ListN.{length, getD}
+use borrow.Author.Tests.{eq-eqb, ne-eqb}
+use Rattle.lists.specs.Same.{every}
+use Rattle.complexes.specs.Complex.{vertexBound}
+use Rattle.complexes.specs.Packed.{Numbered}
+use Rattle.closures.specs.Closure.{cellWith, member, repeats}
+use Rattle.closures.specs.Rising as rising
+use Rattle.mesh_format.specs.Mesh.{Element, Mesh}
+use Rattle.mesh_format.specs.Parse.{Parsed, malformed, parsed, then, headOf, nodesOf, elementsOf, meshOf}
+use Rattle.mesh_format.specs.Accept.{mesh-iff}
+use Rattle.imports.specs.Import.{nodesOfKind, faulty, noneFaulty, isRight, nodeLists, complexOf, tooLong, answerWith, importCall}
+use Rattle.imports.specs.Elements.{mesh-numbered}
+use Rattle.imports.specs.ImportLaws.{import-is, import-not}
+use Rattle.mesh_elements.specs.Map.{marked}
+use Rattle.mesh_elements.specs.Listed.{Maps}
+use Rattle.refusal.specs.declared.Refusal.the-variants.{MeshMalformed, ElementFaulty, SheetTooLong}
+use Rattle.sheet_format.specs.Layout.{top, layout}
+use Rattle.closures.specs.ClosureLaws.{ownSections-count}
+use Rattle.cell_sets.specs.Set.{Holds}
+use Rattle.cell_sets.specs.Close.{Exceeds}
+use Rattle.importer.specs.Gather.{ownCells}
+use Rattle.importer.specs.Answer.{ImportAnswers, WritesClosure}
+use Rattle.importer.specs.declared.answer.Imported.{Imported}
+use Rattle.importer.proofs.Writing.{too-many-faces}
+use Rattle.importer.specs.declared.answer.Imported.the-variants.{Refused}
+
+-- ---- the parts of the text
+
+module _ (s : List ℕ) where
+  pub no-head : headOf s ≡ malformed → meshOf s ≡ malformed
+  unfolding meshOf then
+  no-head e = rw e refl
+
+  module _ {a : ℕ} (head : headOf s ≡ parsed tt a) where
+    pub no-nodes : nodesOf s a ≡ malformed → meshOf s ≡ malformed
+    unfolding meshOf then
+    no-nodes e = rw (head, e) refl
+
+    module _ {nodes : List ℕ} {b : ℕ} (listed : nodesOf s a ≡ parsed nodes b) where
+      pub no-elements : elementsOf s b ≡ malformed → meshOf s ≡ malformed
+      unfolding meshOf then
+      no-elements e = rw (head, listed, e) refl
+
+      module _ {es : List Element} {c : ℕ} (elements : elementsOf s b ≡ parsed es c) where
+        pub no-end : c ≢ length s → meshOf s ≡ malformed
+        unfolding meshOf then
+        no-end d = rw (head, listed, elements, ne-eqb c (length s) d) refl
+
+        pub whole : c ≡ length s → meshOf s ≡ parsed (record { nodes = nodes; elements = es }) (length s)
+        unfolding meshOf then
+        whole d = rw (head, listed, elements, eq-eqb c (length s) d) (ap (parsed (record { nodes = nodes; elements = es })) d)
+
+-- ---- the answers
+
+pub not-of-the-form : (limit : ℕ) (text sheet : List ℕ) → meshOf text ≡ malformed → ImportAnswers (importCall limit text sheet) (Refused MeshMalformed) sheet
+not-of-the-form limit text sheet e = rw (import-not limit text sheet e) (record { answer = refl; output-is = refl })
+
+-- ---- listed or marked
+
+every-ext : (f g : ℕ → Bool) (l : List ℕ) → ((j : ℕ) → j < length l → f (getD l j 0) ≡ g (getD l j 0)) → every f l ≡ every g l
+unfolding every
+every-ext f g [] h = refl
+every-ext f g (v ∷ l) h = ap₂ (λ a b. a && b) (h 0 (omega arith)) (every-ext f g l (λ j m. h (suc j) (omega arith)))
+
+faulty-ext : (f g : ℕ → Bool) (e : Element) → every f (e .nodes) ≡ every g (e .nodes) → faulty f e ≡ faulty g e
+unfolding faulty
+faulty-ext f g e h =
+    ap
+    (λ (b : Bool).
+    eqb (nodesOfKind (e .kind)) 0 || not (eqb (length (e .nodes)) (nodesOfKind (e .kind))) || not b || repeats (e .nodes))
+    h
+
+noneFaulty-ext : (f g : ℕ → Bool) (es : List Element) → rising.All Numbered [] (nodeLists es) → ((v : ℕ) → v < vertexBound → f v ≡ g v)
+    → noneFaulty f es ≡ noneFaulty g es
+unfolding noneFaulty every
+noneFaulty-ext f g [] n h = refl
+noneFaulty-ext f g (e ∷ es) n h =
+    ap₂ (λ a b. not a && b) (faulty-ext f g e (every-ext f g (e .nodes) (λ j l. h (getD (e .nodes) j 0) (n 0 (omega arith) .at j l))))
+    (noneFaulty-ext f g es (λ i l. n (suc i) (omega arith)) h)
+
+pub right-map : (marks : List ℕ) (m : Mesh) (text : List ℕ) → meshOf text ≡ parsed m (length text) → Maps marks (m .nodes)
+    → noneFaulty (marked marks) (m .elements) ≡ isRight m
+right-map marks m text e maps =
+    noneFaulty-ext (marked marks) (λ v. member v (m .nodes)) (m .elements) (mesh-numbered m text (mesh-iff m text .1 e)) (λ v l. maps .marks v l)
+
+-- ---- a text that tells a mesh
+
+module _ (limit : ℕ) (text sheet marks : List ℕ) (m : Mesh) (e : meshOf text ≡ parsed m (length text)) (maps : Maps marks (m .nodes)) where
+  pub told-faulty : noneFaulty (marked marks) (m .elements) ≡ false → ImportAnswers (importCall limit text sheet) (Refused ElementFaulty) sheet
+  unfolding answerWith
+  told-faulty f =
+      rw (import-is limit text sheet m (length text) e, sym (right-map marks m text e maps) ∙ f) (record { answer = refl; output-is = refl })
+
+  module _ (r : noneFaulty (marked marks) (m .elements) ≡ true) where
+    right-is : importCall limit text sheet
+        ≡ answerWith (cond (tooLong limit (length sheet) (complexOf (m .elements))) 16 0) (layout (complexOf (m .elements))) sheet
+    right-is = rw (import-is limit text sheet m (length text) e, sym (right-map marks m text e maps) ∙ r) refl
+
+    pub told-many : Exceeds limit (ownCells (m .elements)) → ImportAnswers (importCall limit text sheet) (Refused SheetTooLong) sheet
+    told-many x =
+        rw right-is
+        (too-many-faces limit (complexOf (m .elements)) sheet (record {
+          dimension = x .dimension;
+          listed = x .listed;
+          over = omega (arith, x .over, ownSections-count top (map cellWith (nodeLists (m .elements))) (x .dimension));
+        }))
+
+    pub told-written : {answer : Imported} {after cells counts : List ℕ} → Holds limit cells counts (ownCells (m .elements))
+        → WritesClosure limit cells counts sheet answer after → ImportAnswers (importCall limit text sheet) answer after
+    told-written h w = rw right-is (w (map cellWith (nodeLists (m .elements))) h)

@@ -1,0 +1,8 @@
+-- What the proofs of the import share.
+mod Ends
+mod Marking
+mod Gathering
+mod Writing
+mod Importing
+mod Starting
+pub mod Told

@@ -1,0 +1,17 @@
+-- `number` meets its contract, by the definition at each answer.
+use borrow.Author.Needs.{needs}
+use mathlib.Core.Path.{refl}
+use Rattle.imports.specs.Import.{importNumber}
+use Rattle.importer.proofs.answer.Imported.number.Statement.{statement}
+use Rattle.importer.proofs.answer.Imported.number.Tie as tie
+
+returns : tie.Need-returns
+unfolding importNumber
+returns c = search needs
+
+returns-2 : tie.Need-returns-2
+unfolding importNumber
+returns-2 c = search needs
+
+pub number-spec : {M : Type 1} → statement M
+number-spec = tie.close (tie.spec (λ c. search needs) (λ c. search needs) (λ c κs. search needs) returns returns-2)

@@ -1,0 +1,99 @@
+// The import call: document 02, Note 3.
+ghost use mathlib.Core.Path.{_≡_};
+ghost use mathlib.Core.List.{[]};
+ghost use Prim.Native.Nat.{_≤_};
+ghost use lib.ListN.{length};
+ghost use Rattle.limits.specs.Limits.{libraryLimit};
+ghost use Rattle.cell_sets.specs.Set.{Holds};
+ghost use Rattle.cell_sets.specs.Close.{HeldOwn};
+ghost use Rattle.imports.specs.Import.{importCall};
+ghost use Rattle.mesh_elements.specs.Listed.{Maps};
+ghost use Rattle.importer.specs.Gather.{ownCells};
+ghost use Rattle.importer.specs.Answer.{WritesClosure, ImportAnswers};
+use crate::answer::Imported;
+use crate::elements::Elements;
+use crate::elements::read_elements;
+use crate::gather::Outcome;
+use crate::nodes::read_nodes;
+use cell_sets::close::close_cells;
+use cell_sets::set::SECTIONS;
+use cell_sets::write::sheet_length;
+use cell_sets::write::write_sheet;
+use mesh_elements::map::MAP_LENGTH;
+use mesh_lines::answer::Skipped;
+use mesh_reader::head::read_head;
+use refusal::Refusal;
+use sheet::reader::Sheet;
+
+// The words that the work array has room for.
+const CELLS: usize = SECTIONS * Sheet::LIBRARY_LIMIT;
+
+// Adds the faces of the cells, and writes the sheet if it fits.
+fn write_closure(
+    limit: usize,
+    cells: &mut [u64],
+    counts: &mut [usize; SECTIONS],
+    out: &mut [u8],
+) -> Imported
+    requires { ⌜ HeldOwn limit (now cells) (now counts) ⌝ }
+    ensures { λ r. ⌜ WritesClosure limit (now (cells .entry)) (now (counts .entry)) (now (out .entry)) r (now (out .exit)) ⌝ }
+{
+    if !close_cells(cells, counts, limit) {
+        return Imported::Refused(Refusal::SheetTooLong);
+    }
+    let length = sheet_length(counts);
+    if out.len() < length {
+        return Imported::Refused(Refusal::SheetTooLong);
+    }
+    write_sheet(cells, counts, limit, out);
+    Imported::Done(length)
+}
+
+// The import at a count limit, with a map that marks no node and work arrays that hold no cell.
+fn import_through(
+    limit: usize,
+    text: &[u8],
+    map: &mut [u8],
+    cells: &mut [u64],
+    counts: &mut [usize; SECTIONS],
+    out: &mut [u8],
+) -> Imported
+    requires { ⌜ Maps (now map) [] × Holds limit (now cells) (now counts) (ownCells []) ⌝ }
+    ensures { λ r. ⌜ ImportAnswers (importCall limit (now (text .entry)) (now (out .entry))) r (now (out .exit)) ⌝ }
+{
+    let Skipped::To(head) = read_head(text) else {
+        return Imported::Refused(Refusal::MeshMalformed);
+    };
+    let Skipped::To(nodes) = read_nodes(text, head, map) else {
+        return Imported::Refused(Refusal::MeshMalformed);
+    };
+    let Elements::Read(outcome, end) = read_elements(text, nodes, map, limit, cells, counts) else {
+        return Imported::Refused(Refusal::MeshMalformed);
+    };
+    if end.at != text.len() {
+        return Imported::Refused(Refusal::MeshMalformed);
+    }
+    match outcome {
+        Outcome::Faulty => Imported::Refused(Refusal::ElementFaulty),
+        Outcome::TooMany => Imported::Refused(Refusal::SheetTooLong),
+        Outcome::Gathered => write_closure(limit, cells, counts, out),
+    }
+}
+
+// The import at a count limit.
+pub fn import_at(sheet: Sheet, text: &[u8], out: &mut [u8]) -> Imported
+    requires { ⌜ sheet .limit ≤ libraryLimit ⌝ }
+    ensures { λ r. ⌜ ImportAnswers (importCall (sheet .limit) (now (text .entry)) (now (out .entry))) r (now (out .exit)) ⌝ }
+{
+    let mut map = [0u8; MAP_LENGTH];
+    let mut cells = [0u64; CELLS];
+    let mut counts = [0usize; SECTIONS];
+    import_through(sheet.limit, text, &mut map, &mut cells, &mut counts, out)
+}
+
+// Reads a mesh text, and writes the sheet of all its cells and their faces.
+pub fn import(text: &[u8], out: &mut [u8]) -> Imported
+    ensures { λ r. ⌜ ImportAnswers (importCall libraryLimit (now (text .entry)) (now (out .entry))) r (now (out .exit)) ⌝ }
+{
+    import_at(Sheet::library(), text, out)
+}

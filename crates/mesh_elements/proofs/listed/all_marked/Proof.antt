@@ -1,0 +1,122 @@
+-- `all_marked` meets its contract. The loop's invariant: `rest` is the word of the nodes before the last i, and those are marked. The measure is the
+-- number of nodes left.
+use borrow.Author.Needs.{needs}
+use mathlib.Core.Path.{_≡_, refl, sym, ap, _∙_}
+use mathlib.Core.Bool.{Bool, true, false, _&&_}
+use mathlib.Core.List.{List, [], _∷_}
+use Prim.Native.Nat.{ℕ, zero, suc, _+_, _-_, _*_, _/_, _%_, _≤_, _<_}
+use native.Mathlib.Omega.{arith}
+use borrow.Author.Tests.{not-true, not-false}
+use lib.ListN.{length, getD, take, drop}
+use lib.Seq.{take-suc, drop-cons, take-all, drop-length}
+use denote.Ref.{now}
+use Rattle.lists.specs.Same.{every}
+use Rattle.complexes.specs.Complex.{vertexBound}
+use Rattle.complexes.specs.Packed.{packed, Numbered}
+use Rattle.complexes.specs.PackedLaws.{packed-append}
+use Rattle.mesh_elements.specs.Map.{marked}
+use Rattle.mesh_elements.proofs.listed.all_marked.Statement.{statement}
+use Rattle.mesh_elements.proofs.listed.all_marked.Tie as tie
+
+-- every, where one element fails
+every-fails : (test : ℕ → Bool) (l : List ℕ) (j : ℕ) → j < length l → test (getD l j 0) ≡ false → every test l ≡ false
+unfolding every
+every-fails test [] j l e = absurd (omega arith)
+every-fails test (x ∷ l) zero m e = rw e refl
+every-fails test (x ∷ l) (suc j) m e = rw (every-fails test l j (omega arith) e) (fails (test x))
+  where
+    fails : (a : Bool) → a && false ≡ false
+    fails true = refl
+    fails false = refl
+
+-- `rest` is the word of the nodes before the last i, which are marked; `left` nodes stand before them
+record Marked (map : List ℕ) (i rest : ℕ) (nodes : List ℕ) : Type 0 where
+  left : ℕ
+  sum : left + i ≡ length nodes
+  word : rest ≡ packed (take left nodes)
+  last : every (marked map) (drop left nodes) ≡ true
+
+marked-start : (map : List ℕ) (word : ℕ) (nodes : List ℕ) → packed nodes ≡ word → Marked map 0 word nodes
+unfolding every
+marked-start map word nodes w = record {
+  left = length nodes;
+  sum = omega arith;
+  word = sym (ap packed (take-all (length nodes) nodes (omega arith)) ∙ w);
+  last = rw (drop-length nodes) refl;
+}
+
+-- the last of the nodes left
+module _ {map : List ℕ} {i rest : ℕ} {nodes : List ℕ} (more : i < length nodes) (h : Numbered nodes) (m : Marked map i rest nodes) where
+  -- its place
+  j : ℕ
+  j = m .left - 1
+
+  placed : m .left ≡ suc j
+  unfolding j
+  placed = omega (arith, m .sum)
+
+  below : j < length nodes
+  unfolding j
+  below = omega (arith, m .sum)
+
+  parts : rest ≡ packed (take j nodes) * vertexBound + getD nodes j 0
+  unfolding packed
+  parts =
+      m .word
+      ∙ ap (λ (k : ℕ). packed (take k nodes)) placed
+      ∙ ap packed (take-suc nodes j 0 below)
+      ∙ packed-append (take j nodes) (getD nodes j 0 ∷ [])
+      ∙ omega arith
+
+  the-node : rest % vertexBound ≡ getD nodes j 0
+  the-node = omega (arith, parts, h .at j below)
+
+  marked-fails : marked map (rest % vertexBound) ≡ false → every (marked map) nodes ≡ false
+  marked-fails f = every-fails (marked map) nodes j below (ap (marked map) (sym the-node) ∙ f)
+
+  marked-more : marked map (rest % vertexBound) ≡ true → Marked map (i + 1) (rest / vertexBound) nodes
+  unfolding every
+  marked-more t = record {
+    left = j;
+    sum = omega (arith, m .sum, placed);
+    word = omega (arith, parts, h .at j below);
+    last =
+        rw (drop-cons nodes j 0 below, ap (marked map) (sym the-node) ∙ t)
+        (ap (λ (k : ℕ). every (marked map) (drop k nodes)) (sym placed) ∙ m .last);
+  }
+
+marked-all : {map : List ℕ} {i rest : ℕ} {nodes : List ℕ} → length nodes ≤ i → Marked map i rest nodes → every (marked map) nodes ≡ true
+marked-all {map = map} {nodes = nodes} done m =
+    let none : 0 ≡ m .left = omega (arith, m .sum) in ap (λ (k : ℕ). every (marked map) (drop k nodes)) none ∙ m .last
+
+abbrev Inv-loop : tie.InvT-loop
+Inv-loop map word n rest₀ i₀ rest i =
+    (nodes : List ℕ) → length nodes ≡ n → Numbered nodes → packed nodes ≡ word → Marked map i rest nodes
+
+abbrev μ-loop : tie.MeasureT-loop
+μ-loop map word n rest₀ i₀ rest i = n - i
+
+loop-holds : tie.Need-loop-holds Inv-loop μ-loop
+loop-holds c nodes e h w = marked-start (now (c .before .args .map)) (c .before .args .word) nodes w
+
+is-marked-requires : tie.Need-is-marked-requires Inv-loop μ-loop
+is-marked-requires c κs = (omega arith, c .before .before .before .pre .1)
+
+returns : tie.Need-returns Inv-loop μ-loop
+returns c nodes e h w =
+    let call = c .before in let at = call .before .before in
+    sym (marked-fails (omega (arith, e)) h (at .loop .inv nodes e h w) (sym (call .is-marked .ensures) ∙ not-true (call .is-marked .result) (c .if1 .taken)))
+
+loop-again : tie.Need-loop-again Inv-loop μ-loop
+loop-again c nodes e h w =
+    let call = c .before in let at = call .before .before in
+    marked-more (omega (arith, e)) h (at .loop .inv nodes e h w) (sym (call .is-marked .ensures) ∙ not-false (call .is-marked .result) (c .if1 .left))
+
+returns-2 : tie.Need-returns-2 Inv-loop μ-loop
+returns-2 c nodes e h w = sym (marked-all (omega (arith, e, c .loop-test .left)) (c .before .loop .inv nodes e h w))
+
+pub all-marked-spec : {M : Type 1} → statement M
+all-marked-spec =
+    tie.close
+    (tie.spec Inv-loop μ-loop loop-holds (λ c. search needs) is-marked-requires returns (λ c. search needs) (λ c. search needs) (λ c. search needs) loop-again
+    returns-2)

@@ -1,0 +1,5 @@
+-- The elements of a mesh.
+pub mod Map
+pub mod Kind
+pub mod Listed
+pub mod Element

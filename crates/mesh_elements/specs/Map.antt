@@ -1,0 +1,30 @@
+-- The map of the nodes that a mesh lists: a bit for each node number, eight in a byte.
+use mathlib.Core.Path.{_≡_}
+use mathlib.Core.Logic.{_≢_}
+use mathlib.Core.Bool.{Bool, true}
+use mathlib.Core.List.{List}
+use Prim.Native.Nat.{ℕ, _/_, _%_, _^_, _<_}
+use lib.Dec.{eqb}
+use lib.ListN.{length, getD}
+
+abbrev pub mapLength : ℕ
+mapLength = 8192
+
+-- bit k of a byte is set
+unfoldable pub bitOf : ℕ → ℕ → Bool
+bitOf byte k = eqb (byte / 2 ^ k % 2) 1
+
+-- the byte y is the byte x with bit k set
+pub record SetsBit (k x y : ℕ) : Type 0 where
+  pub here : bitOf y k ≡ true
+  pub elsewhere : (j : ℕ) → j < 8 → j ≢ k → bitOf y j ≡ bitOf x j
+
+-- the node v is marked
+abbrev pub marked : List ℕ → ℕ → Bool
+marked map v = bitOf (getD map (v / 8) 0) (v % 8)
+
+-- the map `after` is the map `before` with the node v marked too
+pub record Marks (v : ℕ) (before after : List ℕ) : Type 0 where
+  pub sized : length after ≡ length before
+  pub here : marked after v ≡ true
+  pub elsewhere : (u : ℕ) → u ≢ v → marked after u ≡ marked before u

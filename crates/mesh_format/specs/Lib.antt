@@ -1,0 +1,19 @@
+-- Mesh texts: what they tell, their form, reading them, and that reading and the form agree.
+pub mod Mesh
+pub mod Words
+pub mod Form
+pub mod Parse
+pub mod ReadLaws
+pub mod Spans
+pub mod RunLaws
+pub mod WordLaws
+pub mod StepLaws
+pub mod LineLaws
+pub mod ElementLaws
+pub mod LinesLaws
+pub mod ClosingLaws
+pub mod SectionLaws
+pub mod PartLaws
+pub mod Accept
+pub mod WalkLaws
+pub mod Examples
