@@ -7,8 +7,8 @@
  * of them while the call runs. No pointer may be null, also where its length is 0. The calls keep no state: they may run at the same time on several
  * threads, each with its own output. They always return.
  *
- * Each call has its own work arrays on the caller's stack. 256 KiB of stack are enough for any sheet: how deep the calls go is bounded by proof,
- * whatever the sheet, and with the frames of the library as built they take about 60 KiB. docs/SOLVER.md, "Stack", has the figures.
+ * Each call has its own work arrays on the caller's stack. 256 KiB of stack are enough for any sheet or text: how deep the calls go is bounded by
+ * proof, whatever they are given, and with the frames of the library as built they take about 60 KiB. docs/SOLVER.md, "Stack", has the figures.
  *
  * Numbers stand in bytes, low byte first: 4 bytes for a coefficient of a chain, 8 for a number of a report and for a coordinate, all signed.
  */
@@ -86,7 +86,7 @@ uint32_t fildwuk_coordinate_lists(const uint8_t *sheet, size_t sheet_len, uint32
 uint32_t fildwuk_import(const uint8_t *text, size_t text_len, uint8_t *sheet, size_t sheet_len);
 
 /* The length in bytes of a sheet that fildwuk_import has written, from its header: section 3 starts at its offset and has 8 bytes for each cell.
- * Ask it only after FILDWUK_DONE: it reads 16 bytes. */
+ * Ask it only after FILDWUK_DONE: it reads the header, which a refused import has not written. */
 static inline size_t fildwuk_sheet_length(const uint8_t *sheet)
 {
     size_t cells = sheet[12] + 256u * (size_t)sheet[13];

@@ -11,7 +11,7 @@ use Rattle.cells.specs.Word.{Packs}
 use Rattle.cell_sets.specs.Set.{Holds, Adds}
 
 -- w is the word of a cell of n vertices
-pub record IsWord (n w : ℕ) : Type 0 where
+pub record IsPacked (n w : ℕ) : Type 0 where
   pub cell : Cell
   pub packs : Packs n cell w
 

@@ -2,7 +2,7 @@
 ghost use Prim.Native.Nat.{suc, _<_};
 ghost use Rattle.sheet_format.specs.Layout.{top};
 ghost use Rattle.cell_sets.specs.Set.{Held};
-ghost use Rattle.cell_sets.specs.Close.{IsWord, HeldOwn, AddsFaces, ClosesSection, ClosesCells};
+ghost use Rattle.cell_sets.specs.Close.{IsPacked, HeldOwn, AddsFaces, ClosesSection, ClosesCells};
 use crate::set::SECTIONS;
 use crate::set::add_cell;
 use cells::word::leave_out;
@@ -16,7 +16,7 @@ fn add_faces(
     p: usize,
     word: u64,
 ) -> bool
-    requires { ⌜ (p < top) × Held limit (now cells) (now counts) × IsWord (suc (suc p)) word ⌝ }
+    requires { ⌜ (p < top) × Held limit (now cells) (now counts) × IsPacked (suc (suc p)) word ⌝ }
     ensures { λ r. ⌜ AddsFaces limit p word (now (cells .entry)) (now (counts .entry)) r (now (cells .exit)) (now (counts .exit)) ⌝ }
 {
     let mut j: usize = 0;

@@ -9,7 +9,7 @@ use lib.ListN.{length, getD}
 use Rattle.complexes.specs.Cell.{Cell, rises, precedes, Listed, Subset}
 use Rattle.complexes.specs.Complex.{Sections, section, count, cell}
 
--- c is a cell of dimension p, and all its vertices stand in one of the lists
+-- c is a cell of dimension p, and all its vertices stand in the same one of the lists
 pub record IsPart (lists : List (List ℕ)) (p : ℕ) (c : Cell) : Type 0 where
   pub sized : length c ≡ suc p
   pub rising : rises c ≡ true

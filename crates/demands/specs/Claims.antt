@@ -1,10 +1,9 @@
 -- The owner's demands, sentence by sentence, for every sheet b, dimension p, and every length and content of every slice. The contracts of the code
 -- say that the library's calls answer and leave what `reportCall`, `coordinateCall` and `coordinateListsCall` say, the host calls what `hostReport`,
 -- `hostCoordinates` and `hostCoordinateLists` say, the import calls what `importCall` says, and that `print_input`, which the program calls between
--- reading and writing, puts `programText`; here is claimed what these are. `Proofs`
--- proves each claim, and `Met` shows that hypotheses are met. "ends on all input .. nothing undefined happens" (demand 1) is settled by the
--- proof of every function, "nothing is assumed beyond 01's rule on overlapping slices" (demand 3) by calls without a `requires`. A slice of bytes meets
--- `Bytes`: the contract of `Sheet::read` says so.
+-- reading and writing, puts `programText`; here is claimed what these are. `Proofs` proves each claim, and `Met` shows that hypotheses are met. "ends on
+-- all input .. nothing undefined happens" (demand 1) is settled by the proof of every function, "nothing is assumed beyond 01's rule on overlapping
+-- slices" (demand 3) by calls without a `requires`. A slice of bytes meets `Bytes`: the contract of `Sheet::read` says so.
 use mathlib.Core.Path.{_≡_}
 use mathlib.Core.Logic.{_↔_, _≢_}
 use mathlib.Core.Bool.{true, false}
@@ -22,9 +21,9 @@ use Rattle.sheet_format.specs.Sheet.{Bytes, IsSheet}
 use Rattle.closures.specs.Form.{IsClosure}
 use Rattle.mesh_format.specs.Mesh.{Mesh}
 use Rattle.mesh_format.specs.Form.{MeshText}
-use Rattle.imports.specs.Import.{isRight, nodeLists, complexOf, tooLong, importCall, importNumber}
+use Rattle.imports.specs.Import.{elementsRight, nodeLists, tooLong, importCall, importNumber}
 use Rattle.imports.specs.Import as imports
-use Rattle.imports.specs.Sheet.{ImportedSheet}
+use Rattle.imports.specs.Sheet.{headerGives, ImportedSheet}
 use Rattle.homology_groups.specs.Chain.{Chain, combination}
 use Rattle.reduction_steps.specs.Pivot.{pivotRule}
 use Rattle.reports.specs.Report.{Counts}
@@ -330,11 +329,15 @@ MeshesUnique = (m m′ : Mesh) (text : List ℕ) → MeshText m text → MeshTex
 -- whatever the slice
 abbrev pub ImportFaulty : Type 0
 ImportFaulty =
-    (limit : ℕ) (text sheet : List ℕ) (m : Mesh) → MeshText m text → (importNumber (importCall limit text sheet .answer) ≡ 15) ↔ (isRight m ≡ false)
+    (limit : ℕ) (text sheet : List ℕ) (m : Mesh) → MeshText m text → (importNumber (importCall limit text sheet .answer) ≡ 15) ↔ (elementsRight m ≡ false)
 
--- the cells of a mesh whose elements are right: the elements' vertex sets and their nonempty subsets. There are such sections, and no others
+-- the cells of a mesh: the elements' vertex sets and their nonempty subsets. Where the elements are right there are such sections, and no others
+pub record HasCells (m : Mesh) : Type 0 where
+  pub cells : Sections
+  pub are : IsClosure top (nodeLists (m .elements)) cells
+
 abbrev pub MeshCells : Type 0
-MeshCells = (m : Mesh) → isRight m ≡ true → IsClosure top (nodeLists (m .elements)) (complexOf (m .elements))
+MeshCells = (m : Mesh) → elementsRight m ≡ true → HasCells m
 
 abbrev pub MeshCellsUnique : Type 0
 MeshCellsUnique = (m : Mesh) (K L : Sections) → IsClosure top (nodeLists (m .elements)) K → IsClosure top (nodeLists (m .elements)) L → K ≡ L
@@ -342,14 +345,14 @@ MeshCellsUnique = (m : Mesh) (K L : Sections) → IsClosure top (nodeLists (m .e
 -- "16, the sheet's slice is too short or a count would exceed its limit": where neither 14 nor 15 applies
 abbrev pub ImportTooLong : Type 0
 ImportTooLong =
-    (limit : ℕ) (text sheet : List ℕ) (m : Mesh) → MeshText m text → isRight m ≡ true → (K : Sections) → IsClosure top (nodeLists (m .elements)) K →
+    (limit : ℕ) (text sheet : List ℕ) (m : Mesh) → MeshText m text → elementsRight m ≡ true → (K : Sections) → IsClosure top (nodeLists (m .elements)) K →
     (importNumber (importCall limit text sheet .answer) ≡ 16) ↔ (tooLong limit (length sheet) K ≡ true)
 
 -- demand 3, "A call answers done whenever no numbered refusal applies to it"; "A call that writes a sheet answers done with its length in bytes"; 01,
 -- "untouched past what the call writes"
 abbrev pub ImportDone : Type 0
 ImportDone =
-    (limit : ℕ) (text sheet : List ℕ) (m : Mesh) → MeshText m text → isRight m ≡ true → (K : Sections) → IsClosure top (nodeLists (m .elements)) K →
+    (limit : ℕ) (text sheet : List ℕ) (m : Mesh) → MeshText m text → elementsRight m ≡ true → (K : Sections) → IsClosure top (nodeLists (m .elements)) K →
     tooLong limit (length sheet) K ≡ false →
     importCall limit text sheet ≡ record { answer = imports.done (length (layout K)); output = layout K ++ drop (length (layout K)) sheet }
 
@@ -359,11 +362,17 @@ ImportLeft =
     (limit : ℕ) (text sheet : List ℕ) → importNumber (importCall limit text sheet .answer) ≢ 0 → importCall limit text sheet .output ≡ sheet
 
 -- "The sheet written is always accepted, and its cells are exactly the elements' vertex sets and their nonempty subsets": so the claims above hold of it
--- as of any sheet. Its header gives its length to a C caller
+-- as of any sheet
 abbrev pub ImportSheet : Type 0
 ImportSheet =
     (limit : ℕ) → limit ≤ libraryLimit → (text sheet : List ℕ) (n : ℕ) → importCall limit text sheet .answer ≡ imports.done n →
     ImportedSheet limit text sheet (importCall limit text sheet .output) n
+
+-- the same for the host call, which answers 0: the header of the sheet gives its length
+abbrev pub HostImportSheet : Type 0
+HostImportSheet =
+    (text sheet : List ℕ) → importNumber (importCall hostLimit text sheet .answer) ≡ 0 →
+    ImportedSheet hostLimit text sheet (importCall hostLimit text sheet .output) (headerGives (importCall hostLimit text sheet .output))
 
 -- ==== The program
 

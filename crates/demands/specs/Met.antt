@@ -6,7 +6,7 @@
 --     triangle-no-cycle, triangle-first,
 --     triangle-host-first                  a chain that is no cycle, on the hollow triangle; and the first faulty of two chains
 --     edges-precede                        two cells of one length, whose words are ordered as they are
---     hollow-imported, hollow-short        the mesh text of the hollow triangle, imported, and refused with 16 where the slice is too short
+--     hollow-imported, hollow-host-imported, hollow-short     the mesh text of the hollow triangle, imported, and refused with 16 where the slice is too short
 --     plane-goes-wide                      the two reductions go too wide, at the entry limit 1; at 1,048,575 no sheet that computes here does
 use mathlib.Core.Path.{_≡_, refl, sym, _∙_, ap, subst}
 use mathlib.Core.Bool.{true}
@@ -34,8 +34,9 @@ use Rattle.closures.specs.Insert.{insert, insertAll}
 use Rattle.closures.specs.Closure.{ofDimension, facesOf, closedSection, closure}
 use Rattle.closures.specs.Form.{IsClosure}
 use Rattle.imports.specs.Import.{nodeLists, complexOf, tooLong, importCall, importNumber}
-use Rattle.imports.specs.Sheet.{ImportedSheet}
-use Rattle.imports.specs.Examples.{hollow, lent, hollowMesh, hollow-text, hollow-right, hollow-done}
+use Rattle.imports.specs.ImportLaws.{mesh-cells}
+use Rattle.imports.specs.Sheet.{headerGives, ImportedSheet}
+use Rattle.imports.specs.Examples.{hollow, lent, hollowMesh, hollow-text, hollow-right, hollow-done, hollow-host-done}
 use Rattle.reduction_steps.specs.Pivot.{release1}
 use Rattle.reduction_steps.specs.PivotLaws.{release1-is-rule}
 use Rattle.limits.specs.Limits.{libraryLimit, hostLimit, coefficientLimit}
@@ -52,7 +53,7 @@ use Rattle.projective_plane.specs.Plane.{cells, sheet, loop, twice, backwards}
 use Rattle.projective_plane.specs.Examples.{nines, counts, plane-calls, plane-too-wide}
 use Rattle.demands.specs.Claims.{TooWide, CoordinatesOf, ReportOf}
 use Rattle.demands.specs.Claims as claims
-use Rattle.demands.specs.Proofs.{reportNumbers, listNumbers, firstFaultyChain, hostFirstFaultyChain, listsLeave, notACycle, coordinateCounts, coordinatesDecide, hostReportNumbers, hostCoordinateNumbers, hostListNumbers, wordsOrdered, meshCells, importTooLong, importSheet}
+use Rattle.demands.specs.Proofs.{reportNumbers, listNumbers, firstFaultyChain, hostFirstFaultyChain, listsLeave, notACycle, coordinateCounts, coordinatesDecide, hostReportNumbers, hostCoordinateNumbers, hostListNumbers, wordsOrdered, importTooLong, importSheet, hostImportSheet}
 
 -- ---- a sheet of bytes
 
@@ -264,9 +265,13 @@ triangle-host-first =
 pub hollow-imported : ImportedSheet libraryLimit hollow (lent 40) (importCall libraryLimit hollow (lent 40) .output) 34
 hollow-imported = importSheet libraryLimit (omega arith) hollow (lent 40) 34 hollow-done
 
+-- .. through the host call
+pub hollow-host-imported : ImportedSheet hostLimit hollow (lent 40) (importCall hostLimit hollow (lent 40) .output) (headerGives (importCall hostLimit hollow (lent 40) .output))
+hollow-host-imported = hostImportSheet hollow (lent 40) hollow-host-done
+
 -- the cells of its elements, and 16 where the slice is one byte too short for their sheet
 pub hollow-cells : IsClosure top (nodeLists (hollowMesh .elements)) (complexOf (hollowMesh .elements))
-hollow-cells = meshCells hollowMesh hollow-right
+hollow-cells = mesh-cells hollowMesh hollow-right
 
 pub hollow-short : importNumber (importCall libraryLimit hollow (lent 33) .answer) ≡ 16
 unfolding tooLong some insert insertAll ofDimension facesOf closedSection closure tabulate without precedes layout headerBytes start sectionsBytes sectionBytes cellBytes

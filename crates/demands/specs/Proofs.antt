@@ -16,8 +16,9 @@ use Rattle.sheet_format.specs.Sheet.{Bytes}
 use Rattle.sheet_format.specs.Accept.{accepted-iff, sections-layout}
 use Rattle.closures.specs.ClosureLaws.{closure-unique}
 use Rattle.mesh_format.specs.Accept.{mesh-unique}
+use Rattle.imports.specs.Import.{complexOf}
 use Rattle.imports.specs.ImportLaws.{import-malformed, import-faulty, mesh-cells, import-too-long, import-done, import-left}
-use Rattle.imports.specs.SheetLaws.{import-sheet}
+use Rattle.imports.specs.SheetLaws.{import-sheet, import-number}
 use Rattle.homology_groups.specs.Chain.{Chain, combination}
 use Rattle.homology_groups.specs.ChainLaws.{boundary-same}
 use Rattle.reduction_steps.specs.State.{State}
@@ -50,7 +51,7 @@ use Rattle.demands.specs.Claims.{CoordinatesOf, ReportOf, CoordinatesDec
 use Rattle.demands.specs.Claims.{HostReportNumbers, HostCoordinateNumbers, HostReportLeft, HostCoordinatesLeft, HostReports, HostCoordinateCounts}
 use Rattle.demands.specs.Claims.{ListNumbers, FirstFaultyChain, HostFirstFaultyChain, ListsLeave, ListCounts, ListsSingle, HostListsSingle, HostListNumbers, HostListsLeft, HostListCounts}
 use Rattle.demands.specs.Claims.{WordFits, WordsOrdered, WordsShared, ProgramRefuses, ProgramPrints, ProgramInput}
-use Rattle.demands.specs.Claims.{ImportMalformed, MeshesUnique, ImportFaulty, MeshCells, MeshCellsUnique, ImportTooLong, ImportDone, ImportLeft, ImportSheet}
+use Rattle.demands.specs.Claims.{ImportMalformed, MeshesUnique, ImportFaulty, MeshCells, MeshCellsUnique, ImportTooLong, ImportDone, ImportLeft, ImportSheet, HostImportSheet}
 use Rattle.demands.specs.Claims as claims
 
 -- ==== Demand 1
@@ -441,7 +442,7 @@ pub importFaulty : ImportFaulty
 importFaulty = import-faulty
 
 pub meshCells : MeshCells
-meshCells = mesh-cells
+meshCells m r = record { cells = complexOf (m .elements); are = mesh-cells m r }
 
 pub meshCellsUnique : MeshCellsUnique
 meshCellsUnique m K L = closure-unique
@@ -457,6 +458,9 @@ importLeft = import-left
 
 pub importSheet : ImportSheet
 importSheet limit small text sheet = import-sheet limit small text sheet
+
+pub hostImportSheet : HostImportSheet
+hostImportSheet text sheet = import-number hostLimit (omega arith) text sheet
 
 -- ==== The program
 

@@ -19,7 +19,7 @@ use Rattle.closures.specs.Rising as rising
 use Rattle.mesh_format.specs.Mesh.{Element, Mesh}
 use Rattle.mesh_format.specs.Parse.{Parsed, malformed, parsed, then, headOf, nodesOf, elementsOf, meshOf}
 use Rattle.mesh_format.specs.Accept.{mesh-iff}
-use Rattle.imports.specs.Import.{nodesOfKind, faulty, noneFaulty, isRight, nodeLists, complexOf, tooLong, answerWith, importCall}
+use Rattle.imports.specs.Import.{nodesOfKind, faulty, noneFaulty, elementsRight, nodeLists, complexOf, tooLong, answerWith, importCall}
 use Rattle.imports.specs.Elements.{mesh-numbered}
 use Rattle.imports.specs.ImportLaws.{import-is, import-not}
 use Rattle.mesh_elements.specs.Map.{marked}
@@ -90,7 +90,7 @@ noneFaulty-ext f g (e ∷ es) n h =
     (noneFaulty-ext f g es (λ i l. n (suc i) (omega arith)) h)
 
 pub right-map : (marks : List ℕ) (m : Mesh) (text : List ℕ) → meshOf text ≡ parsed m (length text) → Maps marks (m .nodes)
-    → noneFaulty (marked marks) (m .elements) ≡ isRight m
+    → noneFaulty (marked marks) (m .elements) ≡ elementsRight m
 right-map marks m text e maps =
     noneFaulty-ext (marked marks) (λ v. member v (m .nodes)) (m .elements) (mesh-numbered m text (mesh-iff m text .1 e)) (λ v l. maps .marks v l)
 

@@ -7,6 +7,6 @@ use Rattle.imports.specs.Import.{importNumber}
 use Rattle.importer.specs.Answer.{answered, ImportAnswers, ImportTold}
 use Rattle.importer.specs.declared.answer.Imported.{Imported}
 
-pub answers-told : {called : spec.Imported} {r : Imported} {output : List ℕ} {n : ℕ} → ImportAnswers called r output → n ≡ importNumber (answered r)
+pub answers-told : {called : spec.ImportCalled} {r : Imported} {output : List ℕ} {n : ℕ} → ImportAnswers called r output → n ≡ importNumber (answered r)
     → ImportTold called n output
 answers-told a e = record { number-is = e ∙ ap importNumber (a .answer); output-is = a .output-is }

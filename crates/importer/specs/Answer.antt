@@ -20,12 +20,12 @@ answered (Done n) = spec.done n
 answered (Refused x) = spec.refused (numberOf x)
 
 -- the answer and the slice for the sheet are those of the definition
-pub record ImportAnswers (called : spec.Imported) (r : Imported) (output : List ℕ) : Type 0 where
+pub record ImportAnswers (called : spec.ImportCalled) (r : Imported) (output : List ℕ) : Type 0 where
   pub answer : answered r ≡ called .answer
   pub output-is : output ≡ called .output
 
 -- .. the answer told by its number
-pub record ImportTold (called : spec.Imported) (r : ℕ) (output : List ℕ) : Type 0 where
+pub record ImportTold (called : spec.ImportCalled) (r : ℕ) (output : List ℕ) : Type 0 where
   pub number-is : r ≡ spec.importNumber (called .answer)
   pub output-is : output ≡ called .output
 

@@ -1,6 +1,6 @@
-// The import of a mesh text: document 02, Note 3.
+// The import of a mesh text: document 02, Note 3. `import` is the call; the other modules are its parts.
 pub mod answer;
-pub mod elements;
-pub mod gather;
+mod elements;
+mod gather;
 pub mod import;
-pub mod nodes;
+mod nodes;

@@ -1,6 +1,5 @@
 -- What it means that no element is faulty, and that a text tells the elements.
---     right-at            each element has as many nodes as its kind, listed, none twice
---     right-few           .. and so at most `suc top` of them
+--     right-few                             each element has at most `suc top` nodes
 --     element-numbered, mesh-numbered       the nodes of an element that is read, and of a mesh, are vertex numbers
 use mathlib.Core.Path.{_≡_, refl, sym, ap, _∙_}
 use mathlib.Core.Bool.{Bool, true, false, not, cond, _||_, _&&_, true≢false, false≢true}
@@ -32,25 +31,14 @@ and-both : (a b : Bool) → a && b ≡ true → (a ≡ true) × (b ≡ true)
 and-both true b e = (refl, e)
 and-both false b e = absurd (false≢true e)
 
--- an element that is right
-pub record Right (isListed : ℕ → Bool) (e : Element) : Type 0 where
-  pub known : nodesOfKind (e .kind) ≡ 0 → ⊥
-  pub many : length (e .nodes) ≡ nodesOfKind (e .kind)
-  pub all-listed : every isListed (e .nodes) ≡ true
-  pub different : repeats (e .nodes) ≡ false
-
-pub faulty-false : (isListed : ℕ → Bool) (e : Element) → faulty isListed e ≡ false → Right isListed e
+-- a right element has as many nodes as its kind
+faulty-number : (isListed : ℕ → Bool) (e : Element) → faulty isListed e ≡ false → length (e .nodes) ≡ nodesOfKind (e .kind)
 unfolding faulty
-faulty-false isListed e h =
+faulty-number isListed e h =
     let parts =
-    none-of-four (eqb (nodesOfKind (e .kind)) 0) (not (eqb (length (e .nodes)) (nodesOfKind (e .kind))))
-    (not (every isListed (e .nodes))) (repeats (e .nodes)) h in
-    record {
-      known = eqb-false (nodesOfKind (e .kind)) 0 (parts .0);
-      many = eqb-true (length (e .nodes)) (nodesOfKind (e .kind)) (not-false (eqb (length (e .nodes)) (nodesOfKind (e .kind))) (parts .1 .0));
-      all-listed = not-false (every isListed (e .nodes)) (parts .1 .1 .0);
-      different = parts .1 .1 .1;
-    }
+    none-of-four (eqb (nodesOfKind (e .kind)) 0) (not (eqb (length (e .nodes)) (nodesOfKind (e .kind)))) (not (every isListed (e .nodes)))
+    (repeats (e .nodes)) h in
+    eqb-true (length (e .nodes)) (nodesOfKind (e .kind)) (not-false (eqb (length (e .nodes)) (nodesOfKind (e .kind))) (parts .1 .0))
 
 nodesOfKind-le : (k : ℕ) → nodesOfKind k ≤ suc top
 unfolding nodesOfKind
@@ -63,11 +51,14 @@ nodesOfKind-le k = pick (eqb k 15) (eqb k 1) (eqb k 2) (eqb k 4)
     pick false false false true = omega arith
     pick false false false false = omega arith
 
-pub right-at : (isListed : ℕ → Bool) (es : List Element) → noneFaulty isListed es ≡ true → (e₀ : Element) (i : ℕ) → i < length es → Right isListed (getD es i e₀)
+right-number : (isListed : ℕ → Bool) (es : List Element) → noneFaulty isListed es ≡ true → (e₀ : Element) (i : ℕ) → i < length es
+    → length (getD es i e₀ .nodes) ≡ nodesOfKind (getD es i e₀ .kind)
 unfolding noneFaulty every
-right-at isListed [] h e₀ i l = absurd (omega arith)
-right-at isListed (e ∷ es) h e₀ zero l = faulty-false isListed e (not-true (faulty isListed e) (and-both (not (faulty isListed e)) (every (λ e. not (faulty isListed e)) es) h .0))
-right-at isListed (e ∷ es) h e₀ (suc i) l = right-at isListed es (and-both (not (faulty isListed e)) (every (λ e. not (faulty isListed e)) es) h .1) e₀ i (omega arith)
+right-number isListed [] h e₀ i l = absurd (omega arith)
+right-number isListed (e ∷ es) h e₀ zero l =
+    faulty-number isListed e (not-true (faulty isListed e) (and-both (not (faulty isListed e)) (every (λ e. not (faulty isListed e)) es) h .0))
+right-number isListed (e ∷ es) h e₀ (suc i) l =
+    right-number isListed es (and-both (not (faulty isListed e)) (every (λ e. not (faulty isListed e)) es) h .1) e₀ i (omega arith)
 
 -- the node lists, at a place
 getD-nodeLists : (es : List Element) (i : ℕ) (e₀ : Element) → i < length es → getD (nodeLists es) i [] ≡ getD es i e₀ .nodes
@@ -85,7 +76,7 @@ noElement = record { kind = 0; nodes = [] }
 pub right-few : (isListed : ℕ → Bool) (es : List Element) → noneFaulty isListed es ≡ true → rising.All (λ vs. length vs ≤ suc top) [] (nodeLists es)
 right-few isListed es h i l =
     let below : i < length es = rw (length-nodeLists es) at l in
-    rw (getD-nodeLists es i noElement below, right-at isListed es h noElement i below .many) (nodesOfKind-le (getD es i noElement .kind))
+    rw (getD-nodeLists es i noElement below, right-number isListed es h noElement i below) (nodesOfKind-le (getD es i noElement .kind))
 
 -- ---- the nodes of a mesh are vertex numbers
 

@@ -1,6 +1,6 @@
 -- Imports that compute: texts with the answer and the sheet that document 02, Note 3, gives them. One joint theorem over a table.
 --     import-examples                          every line of the table is right
---     hollow-text, hollow-right, hollow-done   a text, its mesh and an import that is done
+--     hollow-text, hollow-right, hollow-done, hollow-host-done   a text, its mesh and imports that are done
 use mathlib.Core.Path.{_≡_, refl}
 use mathlib.Core.Bool.{Bool, true, false, _&&_}
 use mathlib.Core.List.{List, [], _∷_, _++_}
@@ -20,7 +20,7 @@ use Rattle.mesh_format.specs.Words.{valueFrom}
 use Rattle.mesh_format.specs.Form.{MeshText}
 use Rattle.mesh_format.specs.Parse.{then, run, someBytes, word, gap, lineEnd, digitsAt, number, node, theWord, words, wordLine, titleLine, formatLine, countLine, nodeLine, nodesWithin, nodeNumbers, elementLine, nodeLines, elementLines, closingWithin, closingLine, sectionsWithin, sections, headOf, nodesOf, elementsOf, meshOf}
 use Rattle.mesh_format.specs.Accept.{mesh-iff}
-use Rattle.imports.specs.Import.{nodesOfKind, faulty, noneFaulty, isRight, meshIn, isMalformed, tooLong, meshChecks, Answer, done, refused, Imported, answerWith, importCall}
+use Rattle.imports.specs.Import.{nodesOfKind, faulty, noneFaulty, elementsRight, meshIn, isMalformed, tooLong, meshChecks, Answer, done, refused, ImportCalled, answerWith, importCall, importNumber}
 
 -- ---- texts
 
@@ -159,6 +159,50 @@ none =
     48 ∷ 10 ∷
     36 ∷ 69 ∷ 110 ∷ 100 ∷ 69 ∷ 108 ∷ 101 ∷ 109 ∷ 101 ∷ 110 ∷ 116 ∷ 115 ∷ 10 ∷ []
 
+-- the tetrahedron 1, 2, 5, 7, with a node listed twice and one that no element uses
+abbrev pub tetrahedron : List ℕ
+tetrahedron =
+    36 ∷ 77 ∷ 101 ∷ 115 ∷ 104 ∷ 70 ∷ 111 ∷ 114 ∷ 109 ∷ 97 ∷ 116 ∷ 10 ∷
+    50 ∷ 46 ∷ 50 ∷ 32 ∷ 48 ∷ 32 ∷ 56 ∷ 10 ∷
+    36 ∷ 69 ∷ 110 ∷ 100 ∷ 77 ∷ 101 ∷ 115 ∷ 104 ∷ 70 ∷ 111 ∷ 114 ∷ 109 ∷ 97 ∷ 116 ∷ 10 ∷
+    36 ∷ 78 ∷ 111 ∷ 100 ∷ 101 ∷ 115 ∷ 10 ∷
+    54 ∷ 10 ∷
+    55 ∷ 32 ∷ 48 ∷ 32 ∷ 48 ∷ 32 ∷ 48 ∷ 10 ∷
+    49 ∷ 32 ∷ 48 ∷ 32 ∷ 48 ∷ 32 ∷ 48 ∷ 10 ∷
+    57 ∷ 32 ∷ 48 ∷ 32 ∷ 48 ∷ 32 ∷ 48 ∷ 10 ∷
+    53 ∷ 32 ∷ 48 ∷ 32 ∷ 48 ∷ 32 ∷ 48 ∷ 10 ∷
+    50 ∷ 32 ∷ 48 ∷ 32 ∷ 48 ∷ 32 ∷ 48 ∷ 10 ∷
+    53 ∷ 32 ∷ 48 ∷ 32 ∷ 48 ∷ 32 ∷ 48 ∷ 10 ∷
+    36 ∷ 69 ∷ 110 ∷ 100 ∷ 78 ∷ 111 ∷ 100 ∷ 101 ∷ 115 ∷ 10 ∷
+    36 ∷ 69 ∷ 108 ∷ 101 ∷ 109 ∷ 101 ∷ 110 ∷ 116 ∷ 115 ∷ 10 ∷
+    49 ∷ 10 ∷
+    49 ∷ 32 ∷ 52 ∷ 32 ∷ 49 ∷ 32 ∷ 57 ∷ 32 ∷ 53 ∷ 32 ∷ 49 ∷ 32 ∷ 55 ∷ 32 ∷ 50 ∷ 10 ∷
+    36 ∷ 69 ∷ 110 ∷ 100 ∷ 69 ∷ 108 ∷ 101 ∷ 109 ∷ 101 ∷ 110 ∷ 116 ∷ 115 ∷ 10 ∷ []
+
+abbrev pub tetrahedronSheet : List ℕ
+tetrahedronSheet =
+    4 ∷ 0 ∷ 16 ∷ 0 ∷ 6 ∷ 0 ∷ 24 ∷ 0 ∷ 4 ∷ 0 ∷ 48 ∷ 0 ∷ 1 ∷ 0 ∷ 72 ∷ 0 ∷ 1 ∷ 0 ∷ 2 ∷ 0 ∷ 5 ∷ 0 ∷ 7 ∷ 0 ∷ 1 ∷ 0 ∷ 2 ∷ 0 ∷ 1 ∷ 0 ∷ 5 ∷ 0 ∷ 1 ∷ 0 ∷ 7 ∷ 0 ∷ 2 ∷ 0 ∷ 5 ∷ 0 ∷ 2 ∷ 0 ∷ 7 ∷ 0 ∷ 5 ∷ 0 ∷ 7 ∷ 0 ∷ 1 ∷ 0 ∷ 2 ∷ 0 ∷ 5 ∷ 0 ∷ 1 ∷ 0 ∷ 2 ∷ 0 ∷ 7 ∷ 0 ∷ 1 ∷ 0 ∷ 5 ∷ 0 ∷ 7 ∷ 0 ∷ 2 ∷ 0 ∷ 5 ∷ 0 ∷ 7 ∷ 0 ∷ 1 ∷ 0 ∷ 2 ∷ 0 ∷ 5 ∷ 0 ∷ 7 ∷ 0 ∷ []
+
+-- three points, and a line of one node twice
+abbrev pub manyThenFaulty : List ℕ
+manyThenFaulty =
+    36 ∷ 77 ∷ 101 ∷ 115 ∷ 104 ∷ 70 ∷ 111 ∷ 114 ∷ 109 ∷ 97 ∷ 116 ∷ 10 ∷
+    50 ∷ 46 ∷ 50 ∷ 32 ∷ 48 ∷ 32 ∷ 56 ∷ 10 ∷
+    36 ∷ 69 ∷ 110 ∷ 100 ∷ 77 ∷ 101 ∷ 115 ∷ 104 ∷ 70 ∷ 111 ∷ 114 ∷ 109 ∷ 97 ∷ 116 ∷ 10 ∷
+    36 ∷ 78 ∷ 111 ∷ 100 ∷ 101 ∷ 115 ∷ 10 ∷
+    51 ∷ 10 ∷
+    49 ∷ 32 ∷ 48 ∷ 32 ∷ 48 ∷ 32 ∷ 48 ∷ 10 ∷
+    50 ∷ 32 ∷ 48 ∷ 32 ∷ 48 ∷ 32 ∷ 48 ∷ 10 ∷
+    51 ∷ 32 ∷ 48 ∷ 32 ∷ 48 ∷ 32 ∷ 48 ∷ 10 ∷
+    36 ∷ 69 ∷ 110 ∷ 100 ∷ 78 ∷ 111 ∷ 100 ∷ 101 ∷ 115 ∷ 10 ∷
+    36 ∷ 69 ∷ 108 ∷ 101 ∷ 109 ∷ 101 ∷ 110 ∷ 116 ∷ 115 ∷ 10 ∷
+    52 ∷ 10 ∷
+    49 ∷ 32 ∷ 49 ∷ 53 ∷ 32 ∷ 48 ∷ 32 ∷ 49 ∷ 10 ∷
+    50 ∷ 32 ∷ 49 ∷ 53 ∷ 32 ∷ 48 ∷ 32 ∷ 50 ∷ 10 ∷
+    51 ∷ 32 ∷ 49 ∷ 53 ∷ 32 ∷ 48 ∷ 32 ∷ 51 ∷ 10 ∷
+    52 ∷ 32 ∷ 49 ∷ 32 ∷ 48 ∷ 32 ∷ 50 ∷ 32 ∷ 50 ∷ 10 ∷
+    36 ∷ 69 ∷ 110 ∷ 100 ∷ 69 ∷ 108 ∷ 101 ∷ 109 ∷ 101 ∷ 110 ∷ 116 ∷ 115 ∷ 10 ∷ []
+
 -- ---- the table
 
 -- the slice lent for the sheet: so many bytes, all 9
@@ -170,7 +214,7 @@ pub record Line : Type 0 where
   pub text : List ℕ
   pub limit : ℕ
   pub room : ℕ
-  pub called : Imported
+  pub called : ImportCalled
 
 -- done with the sheet, of so many bytes
 abbrev written : List ℕ → ℕ → ℕ → ℕ → List ℕ → Line
@@ -188,10 +232,13 @@ table =
     ∷ told hollow 2 40 16
     ∷ written filled 48 40 40 filledTriangle
     ∷ told filled 48 39 16
+    ∷ written tetrahedron 6 82 80 tetrahedronSheet
+    ∷ told tetrahedron 5 82 16
     ∷ told otherKind 48 40 15
     ∷ told otherNumber 48 40 15
     ∷ told unlisted 48 40 15
     ∷ told twice 48 0 15
+    ∷ told manyThenFaulty 2 40 15
     ∷ told faultyThenMalformed 48 40 14
     ∷ told [] 48 40 14
     ∷ written none 48 16 16 noCells
@@ -237,7 +284,7 @@ unfolding sameList
     nodeLines elementLines closingWithin closingLine sectionsWithin sections headOf nodesOf elementsOf meshOf valueFrom
 hollow-text = mesh-iff hollowMesh hollow .1 refl
 
-pub hollow-right : isRight hollowMesh ≡ true
+pub hollow-right : elementsRight hollowMesh ≡ true
 unfolding every member repeats nodesOfKind faulty noneFaulty
 hollow-right = refl
 
@@ -249,3 +296,12 @@ unfolding every sameList some tabulate without precedes
     nodesOfKind faulty noneFaulty meshIn isMalformed tooLong meshChecks answerWith importCall
     layout headerBytes start sectionsBytes sectionBytes cellBytes
 hollow-done = refl
+
+pub hollow-host-done : importNumber (importCall 48 hollow (lent 40) .answer) ≡ 0
+unfolding every sameList some tabulate without precedes
+    then run someBytes word gap lineEnd digitsAt number node theWord words wordLine titleLine formatLine countLine nodeLine nodesWithin nodeNumbers elementLine
+    nodeLines elementLines closingWithin closingLine sectionsWithin sections headOf nodesOf elementsOf meshOf valueFrom
+    insert insertAll member repeats ofDimension facesOf closedSection closure
+    nodesOfKind faulty noneFaulty meshIn isMalformed tooLong meshChecks answerWith importCall importNumber
+    layout headerBytes start sectionsBytes sectionBytes cellBytes
+hollow-host-done = refl

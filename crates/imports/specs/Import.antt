@@ -30,8 +30,8 @@ unfoldable pub noneFaulty : (ℕ → Bool) → List Element → Bool
 noneFaulty isListed es = every (λ e. not (faulty isListed e)) es
 
 -- every element of the mesh is right
-abbrev pub isRight : Mesh → Bool
-isRight m = noneFaulty (λ v. member v (m .nodes)) (m .elements)
+abbrev pub elementsRight : Mesh → Bool
+elementsRight m = noneFaulty (λ v. member v (m .nodes)) (m .elements)
 
 -- the node numbers of each element
 abbrev pub nodeLists : List Element → List (List ℕ)
@@ -43,7 +43,7 @@ complexOf es = closure top (map cellWith (nodeLists es))
 
 -- ---- the checks
 
--- the mesh that was read; none of a text that is not of the form
+-- the mesh that was read, the empty mesh where the text is not of the form
 unfoldable pub meshIn : Parsed Mesh → Mesh
 meshIn malformed = record { nodes = []; elements = [] }
 meshIn (parsed m at) = m
@@ -60,7 +60,7 @@ tooLong limit room K = ltb room (length (layout K)) || some (suc top) (λ p. ltb
 unfoldable pub meshChecks : ℕ → ℕ → Parsed Mesh → List (ℕ × Bool)
 meshChecks limit room m =
     (14, isMalformed m)
-    ∷ (15, not (isRight (meshIn m)))
+    ∷ (15, not (elementsRight (meshIn m)))
     ∷ (16, tooLong limit room (complexOf (meshIn m .elements))) ∷ []
 
 -- ---- what the call answers and leaves
@@ -71,20 +71,19 @@ pub data Answer : Type 0 where
   refused : ℕ → Answer
 
 -- the answer, and the slice lent for the sheet as the call leaves it
-pub record Imported : Type 0 where
+pub record ImportCalled : Type 0 where
   pub answer : Answer
   pub output : List ℕ
 
 -- refused with the number, unless it is 0: the slice is left alone. Else the bytes are written from its start on, and it is untouched past them.
-unfoldable pub answerWith : ℕ → List ℕ → List ℕ → Imported
+unfoldable pub answerWith : ℕ → List ℕ → List ℕ → ImportCalled
 answerWith zero bytes sheet = record { answer = done (length bytes); output = bytes ++ drop (length bytes) sheet }
 answerWith (suc n) bytes sheet = record { answer = refused (suc n); output = sheet }
 
 -- the import call at a count limit, on a text and a slice for the sheet
-unfoldable pub importCall : ℕ → List ℕ → List ℕ → Imported
+unfoldable pub importCall : ℕ → List ℕ → List ℕ → ImportCalled
 importCall limit text sheet =
-    let m : Parsed Mesh = meshOf text in
-    answerWith (first (meshChecks limit (length sheet) m)) (layout (complexOf (meshIn m .elements))) sheet
+    answerWith (first (meshChecks limit (length sheet) (meshOf text))) (layout (complexOf (meshIn (meshOf text) .elements))) sheet
 
 -- 0 for done, or the number of the refusal
 unfoldable pub importNumber : Answer → ℕ

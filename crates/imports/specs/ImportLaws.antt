@@ -3,7 +3,6 @@
 --     import-malformed, import-faulty, import-too-long    when each number is told
 --     import-done                                         done whenever none applies, and what is then answered and written
 --     import-left                                         a refusal leaves the slice alone
---     import-sheet                                        what is written is an accepted sheet of exactly the elements' cells and their faces
 use mathlib.Core.Path.{_≡_, refl, sym, ap, _∙_, subst}
 use mathlib.Core.Logic.{_↔_, _≢_}
 use mathlib.Core.Bool.{Bool, true, false, not, cond, _||_, true≢false, false≢true}
@@ -28,7 +27,7 @@ use Rattle.closures.specs.Form.{IsClosure}
 use Rattle.mesh_format.specs.Mesh.{Element, Mesh}
 use Rattle.mesh_format.specs.Form.{MeshText}
 use Rattle.mesh_format.specs.Parse.{Parsed, malformed, parsed, meshOf}
-use Rattle.imports.specs.Import.{isRight, nodeLists, complexOf, meshIn, isMalformed, tooLong, meshChecks, Answer, done, refused, Imported, answerWith, importCall, importNumber}
+use Rattle.imports.specs.Import.{elementsRight, nodeLists, complexOf, meshIn, isMalformed, tooLong, meshChecks, Answer, done, refused, ImportCalled, answerWith, importCall, importNumber}
 use Rattle.mesh_format.specs.Accept.{mesh-iff, malformed-iff, meshOf-ends}
 use Rattle.closures.specs.ClosureLaws.{closure-is, closure-unique}
 use Rattle.imports.specs.Elements.{right-few}
@@ -64,7 +63,7 @@ told-0 true true e = absurd (omega (arith, e))
 told-0 true false e = (refl, refl)
 told-0 false long e = absurd (omega (arith, e))
 
-pub mesh-cells : (m : Mesh) → isRight m ≡ true → IsClosure top (nodeLists (m .elements)) (complexOf (m .elements))
+pub mesh-cells : (m : Mesh) → elementsRight m ≡ true → IsClosure top (nodeLists (m .elements)) (complexOf (m .elements))
 mesh-cells m r = closure-is top (nodeLists (m .elements)) (right-few (λ v. member v (m .nodes)) (m .elements) r)
 
 module _ (limit : ℕ) (text sheet : List ℕ) where
@@ -82,13 +81,13 @@ module _ (limit : ℕ) (text sheet : List ℕ) where
   unfolding meshChecks isMalformed
   number-malformed e = rw e refl
 
-  number-mesh : (m : Mesh) (at : ℕ) → meshOf text ≡ parsed m at → number ≡ told (isRight m) (long m)
+  number-mesh : (m : Mesh) (at : ℕ) → meshOf text ≡ parsed m at → number ≡ told (elementsRight m) (long m)
   unfolding meshChecks isMalformed meshIn
   number-mesh m at e = rw e refl
 
   -- what the call does on a text that tells a mesh, and on one that is not of the form
   pub import-is : (m : Mesh) (at : ℕ) → meshOf text ≡ parsed m at
-      → importCall limit text sheet ≡ answerWith (told (isRight m) (long m)) (layout (complexOf (m .elements))) sheet
+      → importCall limit text sheet ≡ answerWith (told (elementsRight m) (long m)) (layout (complexOf (m .elements))) sheet
   unfolding importCall meshChecks isMalformed meshIn
   import-is m at e = rw e refl
 
@@ -96,7 +95,7 @@ module _ (limit : ℕ) (text sheet : List ℕ) where
   unfolding importCall meshChecks isMalformed answerWith
   import-not e = rw e refl
 
-  import-parsed : (m : Mesh) → MeshText m text → importNumber (importCall limit text sheet .answer) ≡ told (isRight m) (long m)
+  import-parsed : (m : Mesh) → MeshText m text → importNumber (importCall limit text sheet .answer) ≡ told (elementsRight m) (long m)
   import-parsed m t = number-is ∙ number-mesh m (length text) (mesh-iff m text .0 t)
 
   pub import-malformed : (importNumber (importCall limit text sheet .answer) ≡ 14) ↔ ((m : Mesh) → MeshText m text → ⊥)
@@ -107,13 +106,13 @@ module _ (limit : ℕ) (text sheet : List ℕ) where
     where
       only : number ≡ 14 → (r : Parsed Mesh) → meshOf text ≡ r → meshOf text ≡ malformed
       only n malformed e = e
-      only n (parsed m at) e = absurd (told-14 (isRight m) (long m) (sym (number-mesh m at e) ∙ n))
+      only n (parsed m at) e = absurd (told-14 (elementsRight m) (long m) (sym (number-mesh m at e) ∙ n))
 
-  pub import-faulty : (m : Mesh) → MeshText m text → (importNumber (importCall limit text sheet .answer) ≡ 15) ↔ (isRight m ≡ false)
-  import-faulty m t = rw (import-parsed m t) (told-15 (isRight m) (long m))
+  pub import-faulty : (m : Mesh) → MeshText m text → (importNumber (importCall limit text sheet .answer) ≡ 15) ↔ (elementsRight m ≡ false)
+  import-faulty m t = rw (import-parsed m t) (told-15 (elementsRight m) (long m))
 
   -- ---- a text whose elements are right
-  module _ (m : Mesh) (t : MeshText m text) (r : isRight m ≡ true) where
+  module _ (m : Mesh) (t : MeshText m text) (r : elementsRight m ≡ true) where
     module _ (K : Sections) (is : IsClosure top (nodeLists (m .elements)) K) where
       same : complexOf (m .elements) ≡ K
       same = closure-unique (mesh-cells m r) is
@@ -121,7 +120,7 @@ module _ (limit : ℕ) (text sheet : List ℕ) where
       pub import-too-long : (importNumber (importCall limit text sheet .answer) ≡ 16) ↔ (tooLong limit (length sheet) K ≡ true)
       import-too-long =
           subst (λ (L : Sections). (importNumber (importCall limit text sheet .answer) ≡ 16) ↔ (tooLong limit (length sheet) L ≡ true)) same
-          (rw (import-parsed m t) (told-16 (isRight m) (long m) r))
+          (rw (import-parsed m t) (told-16 (elementsRight m) (long m) r))
 
       pub import-done : tooLong limit (length sheet) K ≡ false
           → importCall limit text sheet ≡ record { answer = done (length (layout K)); output = layout K ++ drop (length (layout K)) sheet }
@@ -146,7 +145,7 @@ module _ (limit : ℕ) (text sheet : List ℕ) where
   pub record Done : Type 0 where
     pub mesh : Mesh
     pub is-text : MeshText mesh text
-    pub is-right : isRight mesh ≡ true
+    pub is-right : elementsRight mesh ≡ true
     pub fits : tooLong limit (length sheet) (complexOf (mesh .elements)) ≡ false
 
   pub import-told : importNumber (importCall limit text sheet .answer) ≡ 0 → Done
@@ -155,7 +154,7 @@ module _ (limit : ℕ) (text sheet : List ℕ) where
       pick : (r : Parsed Mesh) → meshOf text ≡ r → Done
       pick malformed e = absurd (omega (arith, number-is, z, number-malformed e))
       pick (parsed m at) e =
-          let passed : (isRight m ≡ true) × (long m ≡ false) = told-0 (isRight m) (long m) (sym (number-mesh m at e) ∙ (sym number-is ∙ z)) in
+          let passed : (elementsRight m ≡ true) × (long m ≡ false) = told-0 (elementsRight m) (long m) (sym (number-mesh m at e) ∙ (sym number-is ∙ z)) in
           record {
             mesh = m;
             is-text = mesh-iff m text .1 (e ∙ ap (parsed m) (meshOf-ends text m at e));

@@ -1,4 +1,4 @@
--- What an import writes is an accepted sheet of exactly the elements' cells and their faces: import-sheet.
+-- What an import writes is an accepted sheet of exactly the elements' cells and their faces: import-sheet, import-number.
 use mathlib.Core.Path.{_≡_, refl, sym, ap, ap₂, _∙_, subst}
 use mathlib.Core.Bool.{Bool, true, false, _||_, true≢false}
 use mathlib.Core.List.{List, [], _++_}
@@ -14,7 +14,8 @@ use Rattle.sheet_format.specs.Layout.{top, headerLength, start, layout}
 use Rattle.sheet_format.specs.Check.{fieldAt, countField, offsetField, some, refusal, sectionsOf}
 use Rattle.sheet_format.specs.CheckLaws.{some-false}
 use Rattle.sheet_format.specs.SheetLaws.{countField-in, start-mono, count-beyond}
-use Rattle.sheet_format.specs.LayoutLaws.{Reads, length-layout}
+use Rattle.sheet_format.specs.LayoutLaws.{Reads, length-layout, bytes-layout}
+use Rattle.sheet_format.specs.Sheet.{Bytes}
 use Rattle.sheet_format.specs.Accept.{reads-layout, accepted-layout, sections-layout}
 use Rattle.closures.specs.Closure.{member}
 use Rattle.closures.specs.Form.{IsClosure}
@@ -22,7 +23,7 @@ use Rattle.mesh_format.specs.Mesh.{Mesh}
 use Rattle.mesh_format.specs.Form.{MeshText}
 use Rattle.mesh_format.specs.Parse.{Parsed, malformed, parsed, meshOf}
 use Rattle.imports.specs.Import.{nodeLists, complexOf, tooLong, Answer, done, refused, importCall, importNumber}
-use Rattle.imports.specs.Sheet.{ImportedSheet}
+use Rattle.imports.specs.Sheet.{headerGives, ImportedSheet}
 use native.Mathlib.Decide.{decLe}
 use Rattle.closures.specs.ClosureLaws.{closure-complex}
 use Rattle.imports.specs.Elements.{right-few, mesh-numbered}
@@ -108,8 +109,19 @@ module _ (limit : ℕ) (small : limit ≤ libraryLimit) (text sheet : List ℕ) 
         mesh = told .mesh;
         is-text = told .is-text;
         within = omega (arith, length-append (layout K) rest);
+        bytes = subst Bytes (sym front) (bytes-layout K);
         accepted = ap (refusal limit) front ∙ accepted-layout complex small;
         cells = subst (IsClosure top (nodeLists (told .mesh .elements))) (sym (ap sectionsOf front ∙ sections-layout complex small)) is;
         in-header = front-length small complex rest;
         past = drop-append-seam (layout K) rest;
       }
+
+  -- .. told by the number alone, with the length that the header gives
+  pub import-number : importNumber (importCall limit text sheet .answer) ≡ 0
+      → ImportedSheet limit text sheet (importCall limit text sheet .output) (headerGives (importCall limit text sheet .output))
+  import-number z =
+      let d : Done limit text sheet = import-told limit text sheet z in
+      let K : Sections = complexOf (d .mesh .elements) in
+      let called = import-done limit text sheet (d .mesh) (d .is-text) (d .is-right) K (mesh-cells (d .mesh) (d .is-right)) (d .fits) in
+      let s : ImportedSheet limit text sheet (importCall limit text sheet .output) (length (layout K)) = import-sheet (length (layout K)) (ap (λ c. c .answer) called) in
+      subst (ImportedSheet limit text sheet (importCall limit text sheet .output)) (sym (s .in-header)) s

@@ -6,9 +6,10 @@ use mathlib.Core.List.{List}
 use Prim.Native.Nat.{ℕ, _/_, _%_, _^_, _<_}
 use lib.Dec.{eqb}
 use lib.ListN.{length, getD}
+use Rattle.complexes.specs.Complex.{vertexBound}
 
 abbrev pub mapLength : ℕ
-mapLength = 8192
+mapLength = vertexBound / 8
 
 -- bit k of a byte is set
 unfoldable pub bitOf : ℕ → ℕ → Bool

@@ -5,8 +5,8 @@ ghost use lib.ListN.{length};
 ghost use Rattle.complexes.specs.Packed.{wordVertices};
 ghost use Rattle.mesh_elements.specs.Map.{mapLength};
 ghost use Rattle.mesh_elements.specs.Listed.{AllMarked};
-use crate::map::NODE_BOUND;
 use crate::map::is_marked;
+use mesh_lines::number::NODE_BOUND;
 
 // Whether all n nodes of the word are marked.
 pub fn all_marked(map: &[u8], word: u64, n: usize) -> bool

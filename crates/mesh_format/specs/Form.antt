@@ -1,4 +1,4 @@
--- The form of a mesh text: document 02, Note 3, sentence by sentence. A text is of the form exactly when it is the text of some sequence of lines.
+-- The form of a mesh text: document 02, Note 3, sentence by sentence. A text is of the form when it is the text of such a sequence of lines for some mesh.
 --     MeshText m t    t is of the form, and tells the mesh m
 use mathlib.Core.Path.{_≡_}
 use mathlib.Core.Bool.{true, not}

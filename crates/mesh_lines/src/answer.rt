@@ -15,7 +15,7 @@ pub enum Number {
     Read(usize, Cursor),
 }
 
-// A word from the position that was given up to this one, and the position behind its line.
+// The end of a word that starts where reading began, and the position behind its line.
 pub enum Title {
     Malformed,
     Read(usize, Cursor),
