@@ -18,7 +18,7 @@ IMPORT = {"importCall"}
 RIGHT = ["Reports", "CoordinateCounts", "ListCounts", "SameCounts", "CoordinatesOf", "ReportOf", "CoordinatesDecide", "CoordinatesCombine",
          "CoordinatesReduced", "HostReports", "HostCoordinateCounts", "HostListCounts"]
 MESHES = ["ImportMalformed", "MeshesUnique", "ImportFaulty", "MeshCells", "MeshCellsUnique", "ImportTooLong", "ImportDone", "ImportLeft",
-          "ImportSheet"]
+          "ImportSheet", "HostImportSheet"]
 PARTS = [
     ("the sheet", ["Acceptance", "SheetCells"], CALLS | IMPORT),
     ("the answers are right", RIGHT, CALLS | IMPORT),

@@ -50,6 +50,21 @@ static int check_lists(void) {
     return memcmp(lists, LISTS, sizeof LISTS) == 0 ? 0 : 8;
 }
 
+/* The mesh text of the hollow triangle, whose sheet is SHEET. 0 where it is imported and refused as it must be, else a number above 9. */
+static int check_import(void) {
+    static const char text[] = "$MeshFormat\n2.2 0 8\n$EndMeshFormat\n$Nodes\n3\n0 0 0 0\n1 1 0 0\n2 0 1 0\n$EndNodes\n"
+                               "$Elements\n3\n1 1 0 0 1\n2 1 0 2 0\n3 1 0 1 2\n$EndElements\n";
+    static uint8_t sheet[FILDWUK_SHEET_BYTES];
+    const uint8_t *bytes = (const uint8_t *)text;
+    if (fildwuk_import(bytes, sizeof text - 2, sheet, sizeof sheet) != FILDWUK_MESH_MALFORMED || sheet[0] != 0)
+        return 10;
+    if (fildwuk_import(bytes, sizeof text - 1, sheet, sizeof SHEET - 1) != FILDWUK_SHEET_TOO_LONG || sheet[0] != 0)
+        return 11;
+    if (fildwuk_import(bytes, sizeof text - 1, sheet, sizeof sheet) != FILDWUK_DONE || fildwuk_sheet_length(sheet) != sizeof SHEET)
+        return 12;
+    return memcmp(sheet, SHEET, sizeof SHEET) == 0 ? 0 : 13;
+}
+
 int main(void) {
     static uint8_t report[FILDWUK_REPORT_BYTES(3)], coordinates[FILDWUK_COORDINATE_BYTES(3)];
     if (fildwuk_report(SHEET, sizeof SHEET, 1, report, sizeof report) != FILDWUK_DONE)
@@ -58,5 +73,8 @@ int main(void) {
         return 2;
     if (memcmp(report, REPORT, sizeof REPORT) != 0)
         return 3;
-    return memcmp(coordinates, COORDINATES, sizeof COORDINATES) == 0 ? check_lists() : 4;
+    if (memcmp(coordinates, COORDINATES, sizeof COORDINATES) != 0)
+        return 4;
+    const int lists = check_lists();
+    return lists != 0 ? lists : check_import();
 }
