@@ -6,7 +6,8 @@ from pathlib import Path
 
 from model import meshes
 from model.calls import program_output
-from model.sheet import from_facets
+from model.mesh import import_mesh
+from model.sheet import PROGRAM_COUNT_LIMIT, from_facets
 
 ROOT = Path(__file__).resolve().parent.parent
 sys.dont_write_bytecode = True
@@ -26,7 +27,10 @@ def facts():
         yield f"examples/{name}.sheet holds the facets of {name}.txt", (ROOT / f"examples/{name}.sheet").read_bytes() == from_facets(facets)
     homology = ROOT / "crates/homology"
     yield "crates/homology/stdout", (homology / "stdout").read_text(encoding="ascii") == program_output((homology / "stdin").read_bytes())
-    yield "README.md, the air round a ring", shown("README.md", program_output((ROOT / "examples/air_ring.sheet").read_bytes()))
+    number, sheet = import_mesh((ROOT / "examples/copper_ring.msh").read_bytes(), PROGRAM_COUNT_LIMIT, 976)
+    yield "README.md, the copper ring", number == 0 and shown("README.md", program_output(sheet))
+    air = program_output((ROOT / "examples/air_ring.sheet").read_bytes())
+    yield "README.md, the air round a ring", "\nH 1 1 0\n" in air and "\nH 2 1 0\n" in air
     yield "README.md, the twisted sector", "\nH 1 1 1 2\n" in program_output((ROOT / "examples/twisted_sector.sheet").read_bytes())
     yield "docs/GMSH.md, the projective plane", shown("docs/GMSH.md", program_output(from_facets(meshes.projective_plane())))
 
