@@ -2,11 +2,11 @@
 --     import-examples                          every line of the table is right
 --     hollow-text, hollow-right, hollow-done, hollow-host-done   a text, its mesh and imports that are done
 use mathlib.Core.Path.{_≡_, refl}
-use mathlib.Core.Bool.{Bool, true, false, _&&_}
-use mathlib.Core.List.{List, [], _∷_, _++_}
-use Prim.Native.Nat.{ℕ}
-use lib.Dec.{T, eqb}
-use lib.ListN.{drop, replicate}
+use mathlib.Core.Bool.{Bool, true, false, cond, _&&_}
+use mathlib.Core.List.{List, [], _∷_, _++_, map}
+use Prim.Native.Nat.{ℕ, _+_, _/_, _%_}
+use lib.Dec.{T, eqb, ltb}
+use lib.ListN.{length, drop, replicate}
 use Rattle.lists.specs.Tabulate.{tabulate}
 use Rattle.lists.specs.Same.{every, sameList}
 use Rattle.complexes.specs.Cell.{without, precedes}
@@ -17,191 +17,74 @@ use Rattle.closures.specs.Insert.{insert, insertAll}
 use Rattle.closures.specs.Closure.{member, repeats, ofDimension, facesOf, closedSection, closure}
 use Rattle.mesh_format.specs.Mesh.{Mesh}
 use Rattle.mesh_format.specs.Words.{valueFrom}
-use Rattle.mesh_format.specs.Form.{MeshText}
+use Rattle.mesh_format.specs.Form.{joined, MeshText}
+use Rattle.mesh_format.specs.Examples.{openFormat, format, endFormat, openNodes, endNodes, openElements, endElements}
 use Rattle.mesh_format.specs.Parse.{then, run, someBytes, word, gap, lineEnd, digitsAt, number, node, theWord, words, wordLine, titleLine, formatLine, countLine, nodeLine, nodesWithin, nodeNumbers, elementLine, nodeLines, elementLines, closingWithin, closingLine, sectionsWithin, sections, headOf, nodesOf, elementsOf, meshOf}
 use Rattle.mesh_format.specs.Accept.{mesh-iff}
 use Rattle.imports.specs.Import.{nodesOfKind, faulty, noneFaulty, elementsRight, meshIn, isMalformed, tooLong, meshChecks, Answer, done, refused, ImportCalled, answerWith, importCall, importNumber}
 
 -- ---- texts
 
+-- a number below 100 in decimal
+unfoldable pub shown : ℕ → List ℕ
+shown n = cond (ltb n 10) ((48 + n) ∷ []) ((48 + n / 10) ∷ (48 + n % 10) ∷ [])
+
+-- a line of these numbers
+unfoldable pub line : List ℕ → List ℕ
+line [] = 10 ∷ []
+line (n ∷ []) = shown n ++ (10 ∷ [])
+line (n ∷ m ∷ l) = shown n ++ (32 ∷ line (m ∷ l))
+
+-- the text with these nodes, all at the origin, and these lines of elements
+unfoldable pub textOf : List ℕ → List (List ℕ) → List ℕ
+textOf nodes elements =
+    joined (openFormat ∷ format ∷ endFormat ∷ openNodes ∷ line (length nodes ∷ []) ∷ (map (λ v. line (v ∷ 0 ∷ 0 ∷ 0 ∷ [])) nodes
+    ++ (endNodes ∷ openElements ∷ line (length elements ∷ []) ∷ (map line elements ++ (endElements ∷ [])))))
+
 -- the hollow triangle, an edge twice
 abbrev pub hollow : List ℕ
-hollow =
-    36 ∷ 77 ∷ 101 ∷ 115 ∷ 104 ∷ 70 ∷ 111 ∷ 114 ∷ 109 ∷ 97 ∷ 116 ∷ 10 ∷
-    50 ∷ 46 ∷ 50 ∷ 32 ∷ 48 ∷ 32 ∷ 56 ∷ 10 ∷
-    36 ∷ 69 ∷ 110 ∷ 100 ∷ 77 ∷ 101 ∷ 115 ∷ 104 ∷ 70 ∷ 111 ∷ 114 ∷ 109 ∷ 97 ∷ 116 ∷ 10 ∷
-    36 ∷ 78 ∷ 111 ∷ 100 ∷ 101 ∷ 115 ∷ 10 ∷
-    51 ∷ 10 ∷
-    48 ∷ 32 ∷ 48 ∷ 32 ∷ 48 ∷ 32 ∷ 48 ∷ 10 ∷
-    49 ∷ 32 ∷ 48 ∷ 32 ∷ 48 ∷ 32 ∷ 48 ∷ 10 ∷
-    50 ∷ 32 ∷ 48 ∷ 32 ∷ 48 ∷ 32 ∷ 48 ∷ 10 ∷
-    36 ∷ 69 ∷ 110 ∷ 100 ∷ 78 ∷ 111 ∷ 100 ∷ 101 ∷ 115 ∷ 10 ∷
-    36 ∷ 69 ∷ 108 ∷ 101 ∷ 109 ∷ 101 ∷ 110 ∷ 116 ∷ 115 ∷ 10 ∷
-    52 ∷ 10 ∷
-    49 ∷ 32 ∷ 49 ∷ 32 ∷ 48 ∷ 32 ∷ 49 ∷ 32 ∷ 48 ∷ 10 ∷
-    50 ∷ 32 ∷ 49 ∷ 32 ∷ 48 ∷ 32 ∷ 48 ∷ 32 ∷ 50 ∷ 10 ∷
-    51 ∷ 32 ∷ 49 ∷ 32 ∷ 50 ∷ 32 ∷ 55 ∷ 32 ∷ 55 ∷ 32 ∷ 50 ∷ 32 ∷ 49 ∷ 10 ∷
-    52 ∷ 32 ∷ 49 ∷ 32 ∷ 48 ∷ 32 ∷ 48 ∷ 32 ∷ 49 ∷ 10 ∷
-    36 ∷ 69 ∷ 110 ∷ 100 ∷ 69 ∷ 108 ∷ 101 ∷ 109 ∷ 101 ∷ 110 ∷ 116 ∷ 115 ∷ 10 ∷ []
+hollow = textOf (0 ∷ 1 ∷ 2 ∷ []) ((1 ∷ 1 ∷ 0 ∷ 1 ∷ 0 ∷ []) ∷ (2 ∷ 1 ∷ 0 ∷ 0 ∷ 2 ∷ []) ∷ (3 ∷ 1 ∷ 2 ∷ 7 ∷ 7 ∷ 2 ∷ 1 ∷ []) ∷ (4 ∷ 1 ∷ 0 ∷ 0 ∷ 1 ∷ []) ∷ [])
 
 -- the triangle 0, 1, 2, with its corner 1
 abbrev pub filled : List ℕ
-filled =
-    36 ∷ 77 ∷ 101 ∷ 115 ∷ 104 ∷ 70 ∷ 111 ∷ 114 ∷ 109 ∷ 97 ∷ 116 ∷ 10 ∷
-    50 ∷ 46 ∷ 50 ∷ 32 ∷ 48 ∷ 32 ∷ 56 ∷ 10 ∷
-    36 ∷ 69 ∷ 110 ∷ 100 ∷ 77 ∷ 101 ∷ 115 ∷ 104 ∷ 70 ∷ 111 ∷ 114 ∷ 109 ∷ 97 ∷ 116 ∷ 10 ∷
-    36 ∷ 78 ∷ 111 ∷ 100 ∷ 101 ∷ 115 ∷ 10 ∷
-    51 ∷ 10 ∷
-    50 ∷ 32 ∷ 48 ∷ 32 ∷ 48 ∷ 32 ∷ 48 ∷ 10 ∷
-    49 ∷ 32 ∷ 48 ∷ 32 ∷ 48 ∷ 32 ∷ 48 ∷ 10 ∷
-    48 ∷ 32 ∷ 48 ∷ 32 ∷ 48 ∷ 32 ∷ 48 ∷ 10 ∷
-    36 ∷ 69 ∷ 110 ∷ 100 ∷ 78 ∷ 111 ∷ 100 ∷ 101 ∷ 115 ∷ 10 ∷
-    36 ∷ 69 ∷ 108 ∷ 101 ∷ 109 ∷ 101 ∷ 110 ∷ 116 ∷ 115 ∷ 10 ∷
-    50 ∷ 10 ∷
-    49 ∷ 32 ∷ 50 ∷ 32 ∷ 48 ∷ 32 ∷ 50 ∷ 32 ∷ 48 ∷ 32 ∷ 49 ∷ 10 ∷
-    50 ∷ 32 ∷ 49 ∷ 53 ∷ 32 ∷ 48 ∷ 32 ∷ 49 ∷ 10 ∷
-    36 ∷ 69 ∷ 110 ∷ 100 ∷ 69 ∷ 108 ∷ 101 ∷ 109 ∷ 101 ∷ 110 ∷ 116 ∷ 115 ∷ 10 ∷ []
-
--- a quadrangle
-abbrev pub otherKind : List ℕ
-otherKind =
-    36 ∷ 77 ∷ 101 ∷ 115 ∷ 104 ∷ 70 ∷ 111 ∷ 114 ∷ 109 ∷ 97 ∷ 116 ∷ 10 ∷
-    50 ∷ 46 ∷ 50 ∷ 32 ∷ 48 ∷ 32 ∷ 56 ∷ 10 ∷
-    36 ∷ 69 ∷ 110 ∷ 100 ∷ 77 ∷ 101 ∷ 115 ∷ 104 ∷ 70 ∷ 111 ∷ 114 ∷ 109 ∷ 97 ∷ 116 ∷ 10 ∷
-    36 ∷ 78 ∷ 111 ∷ 100 ∷ 101 ∷ 115 ∷ 10 ∷
-    52 ∷ 10 ∷
-    48 ∷ 32 ∷ 48 ∷ 32 ∷ 48 ∷ 32 ∷ 48 ∷ 10 ∷
-    49 ∷ 32 ∷ 48 ∷ 32 ∷ 48 ∷ 32 ∷ 48 ∷ 10 ∷
-    50 ∷ 32 ∷ 48 ∷ 32 ∷ 48 ∷ 32 ∷ 48 ∷ 10 ∷
-    51 ∷ 32 ∷ 48 ∷ 32 ∷ 48 ∷ 32 ∷ 48 ∷ 10 ∷
-    36 ∷ 69 ∷ 110 ∷ 100 ∷ 78 ∷ 111 ∷ 100 ∷ 101 ∷ 115 ∷ 10 ∷
-    36 ∷ 69 ∷ 108 ∷ 101 ∷ 109 ∷ 101 ∷ 110 ∷ 116 ∷ 115 ∷ 10 ∷
-    49 ∷ 10 ∷
-    49 ∷ 32 ∷ 51 ∷ 32 ∷ 48 ∷ 32 ∷ 48 ∷ 32 ∷ 49 ∷ 32 ∷ 50 ∷ 32 ∷ 51 ∷ 10 ∷
-    36 ∷ 69 ∷ 110 ∷ 100 ∷ 69 ∷ 108 ∷ 101 ∷ 109 ∷ 101 ∷ 110 ∷ 116 ∷ 115 ∷ 10 ∷ []
-
--- a triangle of two nodes
-abbrev pub otherNumber : List ℕ
-otherNumber =
-    36 ∷ 77 ∷ 101 ∷ 115 ∷ 104 ∷ 70 ∷ 111 ∷ 114 ∷ 109 ∷ 97 ∷ 116 ∷ 10 ∷
-    50 ∷ 46 ∷ 50 ∷ 32 ∷ 48 ∷ 32 ∷ 56 ∷ 10 ∷
-    36 ∷ 69 ∷ 110 ∷ 100 ∷ 77 ∷ 101 ∷ 115 ∷ 104 ∷ 70 ∷ 111 ∷ 114 ∷ 109 ∷ 97 ∷ 116 ∷ 10 ∷
-    36 ∷ 78 ∷ 111 ∷ 100 ∷ 101 ∷ 115 ∷ 10 ∷
-    51 ∷ 10 ∷
-    48 ∷ 32 ∷ 48 ∷ 32 ∷ 48 ∷ 32 ∷ 48 ∷ 10 ∷
-    49 ∷ 32 ∷ 48 ∷ 32 ∷ 48 ∷ 32 ∷ 48 ∷ 10 ∷
-    50 ∷ 32 ∷ 48 ∷ 32 ∷ 48 ∷ 32 ∷ 48 ∷ 10 ∷
-    36 ∷ 69 ∷ 110 ∷ 100 ∷ 78 ∷ 111 ∷ 100 ∷ 101 ∷ 115 ∷ 10 ∷
-    36 ∷ 69 ∷ 108 ∷ 101 ∷ 109 ∷ 101 ∷ 110 ∷ 116 ∷ 115 ∷ 10 ∷
-    49 ∷ 10 ∷
-    49 ∷ 32 ∷ 50 ∷ 32 ∷ 48 ∷ 32 ∷ 48 ∷ 32 ∷ 49 ∷ 10 ∷
-    36 ∷ 69 ∷ 110 ∷ 100 ∷ 69 ∷ 108 ∷ 101 ∷ 109 ∷ 101 ∷ 110 ∷ 116 ∷ 115 ∷ 10 ∷ []
-
--- a node that is not listed
-abbrev pub unlisted : List ℕ
-unlisted =
-    36 ∷ 77 ∷ 101 ∷ 115 ∷ 104 ∷ 70 ∷ 111 ∷ 114 ∷ 109 ∷ 97 ∷ 116 ∷ 10 ∷
-    50 ∷ 46 ∷ 50 ∷ 32 ∷ 48 ∷ 32 ∷ 56 ∷ 10 ∷
-    36 ∷ 69 ∷ 110 ∷ 100 ∷ 77 ∷ 101 ∷ 115 ∷ 104 ∷ 70 ∷ 111 ∷ 114 ∷ 109 ∷ 97 ∷ 116 ∷ 10 ∷
-    36 ∷ 78 ∷ 111 ∷ 100 ∷ 101 ∷ 115 ∷ 10 ∷
-    50 ∷ 10 ∷
-    48 ∷ 32 ∷ 48 ∷ 32 ∷ 48 ∷ 32 ∷ 48 ∷ 10 ∷
-    49 ∷ 32 ∷ 48 ∷ 32 ∷ 48 ∷ 32 ∷ 48 ∷ 10 ∷
-    36 ∷ 69 ∷ 110 ∷ 100 ∷ 78 ∷ 111 ∷ 100 ∷ 101 ∷ 115 ∷ 10 ∷
-    36 ∷ 69 ∷ 108 ∷ 101 ∷ 109 ∷ 101 ∷ 110 ∷ 116 ∷ 115 ∷ 10 ∷
-    49 ∷ 10 ∷
-    49 ∷ 32 ∷ 49 ∷ 32 ∷ 48 ∷ 32 ∷ 48 ∷ 32 ∷ 50 ∷ 10 ∷
-    36 ∷ 69 ∷ 110 ∷ 100 ∷ 69 ∷ 108 ∷ 101 ∷ 109 ∷ 101 ∷ 110 ∷ 116 ∷ 115 ∷ 10 ∷ []
-
--- a node twice
-abbrev pub twice : List ℕ
-twice =
-    36 ∷ 77 ∷ 101 ∷ 115 ∷ 104 ∷ 70 ∷ 111 ∷ 114 ∷ 109 ∷ 97 ∷ 116 ∷ 10 ∷
-    50 ∷ 46 ∷ 50 ∷ 32 ∷ 48 ∷ 32 ∷ 56 ∷ 10 ∷
-    36 ∷ 69 ∷ 110 ∷ 100 ∷ 77 ∷ 101 ∷ 115 ∷ 104 ∷ 70 ∷ 111 ∷ 114 ∷ 109 ∷ 97 ∷ 116 ∷ 10 ∷
-    36 ∷ 78 ∷ 111 ∷ 100 ∷ 101 ∷ 115 ∷ 10 ∷
-    50 ∷ 10 ∷
-    48 ∷ 32 ∷ 48 ∷ 32 ∷ 48 ∷ 32 ∷ 48 ∷ 10 ∷
-    49 ∷ 32 ∷ 48 ∷ 32 ∷ 48 ∷ 32 ∷ 48 ∷ 10 ∷
-    36 ∷ 69 ∷ 110 ∷ 100 ∷ 78 ∷ 111 ∷ 100 ∷ 101 ∷ 115 ∷ 10 ∷
-    36 ∷ 69 ∷ 108 ∷ 101 ∷ 109 ∷ 101 ∷ 110 ∷ 116 ∷ 115 ∷ 10 ∷
-    49 ∷ 10 ∷
-    49 ∷ 32 ∷ 49 ∷ 32 ∷ 48 ∷ 32 ∷ 49 ∷ 32 ∷ 49 ∷ 10 ∷
-    36 ∷ 69 ∷ 110 ∷ 100 ∷ 69 ∷ 108 ∷ 101 ∷ 109 ∷ 101 ∷ 110 ∷ 116 ∷ 115 ∷ 10 ∷ []
-
--- a quadrangle, and behind it a line that is not of the form
-abbrev pub faultyThenMalformed : List ℕ
-faultyThenMalformed =
-    36 ∷ 77 ∷ 101 ∷ 115 ∷ 104 ∷ 70 ∷ 111 ∷ 114 ∷ 109 ∷ 97 ∷ 116 ∷ 10 ∷
-    50 ∷ 46 ∷ 50 ∷ 32 ∷ 48 ∷ 32 ∷ 56 ∷ 10 ∷
-    36 ∷ 69 ∷ 110 ∷ 100 ∷ 77 ∷ 101 ∷ 115 ∷ 104 ∷ 70 ∷ 111 ∷ 114 ∷ 109 ∷ 97 ∷ 116 ∷ 10 ∷
-    36 ∷ 78 ∷ 111 ∷ 100 ∷ 101 ∷ 115 ∷ 10 ∷
-    50 ∷ 10 ∷
-    48 ∷ 32 ∷ 48 ∷ 32 ∷ 48 ∷ 32 ∷ 48 ∷ 10 ∷
-    49 ∷ 32 ∷ 48 ∷ 32 ∷ 48 ∷ 32 ∷ 48 ∷ 10 ∷
-    36 ∷ 69 ∷ 110 ∷ 100 ∷ 78 ∷ 111 ∷ 100 ∷ 101 ∷ 115 ∷ 10 ∷
-    36 ∷ 69 ∷ 108 ∷ 101 ∷ 109 ∷ 101 ∷ 110 ∷ 116 ∷ 115 ∷ 10 ∷
-    50 ∷ 10 ∷
-    49 ∷ 32 ∷ 51 ∷ 32 ∷ 48 ∷ 32 ∷ 48 ∷ 32 ∷ 49 ∷ 10 ∷
-    50 ∷ 32 ∷ 49 ∷ 32 ∷ 48 ∷ 32 ∷ 48 ∷ 32 ∷ 120 ∷ 10 ∷
-    36 ∷ 69 ∷ 110 ∷ 100 ∷ 69 ∷ 108 ∷ 101 ∷ 109 ∷ 101 ∷ 110 ∷ 116 ∷ 115 ∷ 10 ∷ []
-
--- no nodes and no elements
-abbrev pub none : List ℕ
-none =
-    36 ∷ 77 ∷ 101 ∷ 115 ∷ 104 ∷ 70 ∷ 111 ∷ 114 ∷ 109 ∷ 97 ∷ 116 ∷ 10 ∷
-    50 ∷ 46 ∷ 50 ∷ 32 ∷ 48 ∷ 32 ∷ 56 ∷ 10 ∷
-    36 ∷ 69 ∷ 110 ∷ 100 ∷ 77 ∷ 101 ∷ 115 ∷ 104 ∷ 70 ∷ 111 ∷ 114 ∷ 109 ∷ 97 ∷ 116 ∷ 10 ∷
-    36 ∷ 78 ∷ 111 ∷ 100 ∷ 101 ∷ 115 ∷ 10 ∷
-    48 ∷ 10 ∷
-    36 ∷ 69 ∷ 110 ∷ 100 ∷ 78 ∷ 111 ∷ 100 ∷ 101 ∷ 115 ∷ 10 ∷
-    36 ∷ 69 ∷ 108 ∷ 101 ∷ 109 ∷ 101 ∷ 110 ∷ 116 ∷ 115 ∷ 10 ∷
-    48 ∷ 10 ∷
-    36 ∷ 69 ∷ 110 ∷ 100 ∷ 69 ∷ 108 ∷ 101 ∷ 109 ∷ 101 ∷ 110 ∷ 116 ∷ 115 ∷ 10 ∷ []
+filled = textOf (2 ∷ 1 ∷ 0 ∷ []) ((1 ∷ 2 ∷ 0 ∷ 2 ∷ 0 ∷ 1 ∷ []) ∷ (2 ∷ 15 ∷ 0 ∷ 1 ∷ []) ∷ [])
 
 -- the tetrahedron 1, 2, 5, 7, with a node listed twice and one that no element uses
 abbrev pub tetrahedron : List ℕ
-tetrahedron =
-    36 ∷ 77 ∷ 101 ∷ 115 ∷ 104 ∷ 70 ∷ 111 ∷ 114 ∷ 109 ∷ 97 ∷ 116 ∷ 10 ∷
-    50 ∷ 46 ∷ 50 ∷ 32 ∷ 48 ∷ 32 ∷ 56 ∷ 10 ∷
-    36 ∷ 69 ∷ 110 ∷ 100 ∷ 77 ∷ 101 ∷ 115 ∷ 104 ∷ 70 ∷ 111 ∷ 114 ∷ 109 ∷ 97 ∷ 116 ∷ 10 ∷
-    36 ∷ 78 ∷ 111 ∷ 100 ∷ 101 ∷ 115 ∷ 10 ∷
-    54 ∷ 10 ∷
-    55 ∷ 32 ∷ 48 ∷ 32 ∷ 48 ∷ 32 ∷ 48 ∷ 10 ∷
-    49 ∷ 32 ∷ 48 ∷ 32 ∷ 48 ∷ 32 ∷ 48 ∷ 10 ∷
-    57 ∷ 32 ∷ 48 ∷ 32 ∷ 48 ∷ 32 ∷ 48 ∷ 10 ∷
-    53 ∷ 32 ∷ 48 ∷ 32 ∷ 48 ∷ 32 ∷ 48 ∷ 10 ∷
-    50 ∷ 32 ∷ 48 ∷ 32 ∷ 48 ∷ 32 ∷ 48 ∷ 10 ∷
-    53 ∷ 32 ∷ 48 ∷ 32 ∷ 48 ∷ 32 ∷ 48 ∷ 10 ∷
-    36 ∷ 69 ∷ 110 ∷ 100 ∷ 78 ∷ 111 ∷ 100 ∷ 101 ∷ 115 ∷ 10 ∷
-    36 ∷ 69 ∷ 108 ∷ 101 ∷ 109 ∷ 101 ∷ 110 ∷ 116 ∷ 115 ∷ 10 ∷
-    49 ∷ 10 ∷
-    49 ∷ 32 ∷ 52 ∷ 32 ∷ 49 ∷ 32 ∷ 57 ∷ 32 ∷ 53 ∷ 32 ∷ 49 ∷ 32 ∷ 55 ∷ 32 ∷ 50 ∷ 10 ∷
-    36 ∷ 69 ∷ 110 ∷ 100 ∷ 69 ∷ 108 ∷ 101 ∷ 109 ∷ 101 ∷ 110 ∷ 116 ∷ 115 ∷ 10 ∷ []
+tetrahedron = textOf (7 ∷ 1 ∷ 9 ∷ 5 ∷ 2 ∷ 5 ∷ []) ((1 ∷ 4 ∷ 1 ∷ 9 ∷ 5 ∷ 1 ∷ 7 ∷ 2 ∷ []) ∷ [])
 
 abbrev pub tetrahedronSheet : List ℕ
 tetrahedronSheet =
     4 ∷ 0 ∷ 16 ∷ 0 ∷ 6 ∷ 0 ∷ 24 ∷ 0 ∷ 4 ∷ 0 ∷ 48 ∷ 0 ∷ 1 ∷ 0 ∷ 72 ∷ 0 ∷ 1 ∷ 0 ∷ 2 ∷ 0 ∷ 5 ∷ 0 ∷ 7 ∷ 0 ∷ 1 ∷ 0 ∷ 2 ∷ 0 ∷ 1 ∷ 0 ∷ 5 ∷ 0 ∷ 1 ∷ 0 ∷ 7 ∷ 0 ∷ 2 ∷ 0 ∷ 5 ∷ 0 ∷ 2 ∷ 0 ∷ 7 ∷ 0 ∷ 5 ∷ 0 ∷ 7 ∷ 0 ∷ 1 ∷ 0 ∷ 2 ∷ 0 ∷ 5 ∷ 0 ∷ 1 ∷ 0 ∷ 2 ∷ 0 ∷ 7 ∷ 0 ∷ 1 ∷ 0 ∷ 5 ∷ 0 ∷ 7 ∷ 0 ∷ 2 ∷ 0 ∷ 5 ∷ 0 ∷ 7 ∷ 0 ∷ 1 ∷ 0 ∷ 2 ∷ 0 ∷ 5 ∷ 0 ∷ 7 ∷ 0 ∷ []
 
+-- a quadrangle
+abbrev pub otherKind : List ℕ
+otherKind = textOf (0 ∷ 1 ∷ 2 ∷ 3 ∷ []) ((1 ∷ 3 ∷ 0 ∷ 0 ∷ 1 ∷ 2 ∷ 3 ∷ []) ∷ [])
+
+-- a triangle of two nodes
+abbrev pub otherNumber : List ℕ
+otherNumber = textOf (0 ∷ 1 ∷ 2 ∷ []) ((1 ∷ 2 ∷ 0 ∷ 0 ∷ 1 ∷ []) ∷ [])
+
+-- a node that is not listed
+abbrev pub unlisted : List ℕ
+unlisted = textOf (0 ∷ 1 ∷ []) ((1 ∷ 1 ∷ 0 ∷ 0 ∷ 2 ∷ []) ∷ [])
+
+-- a node twice
+abbrev pub twice : List ℕ
+twice = textOf (0 ∷ 1 ∷ []) ((1 ∷ 1 ∷ 0 ∷ 1 ∷ 1 ∷ []) ∷ [])
+
 -- three points, and a line of one node twice
 abbrev pub manyThenFaulty : List ℕ
 manyThenFaulty =
-    36 ∷ 77 ∷ 101 ∷ 115 ∷ 104 ∷ 70 ∷ 111 ∷ 114 ∷ 109 ∷ 97 ∷ 116 ∷ 10 ∷
-    50 ∷ 46 ∷ 50 ∷ 32 ∷ 48 ∷ 32 ∷ 56 ∷ 10 ∷
-    36 ∷ 69 ∷ 110 ∷ 100 ∷ 77 ∷ 101 ∷ 115 ∷ 104 ∷ 70 ∷ 111 ∷ 114 ∷ 109 ∷ 97 ∷ 116 ∷ 10 ∷
-    36 ∷ 78 ∷ 111 ∷ 100 ∷ 101 ∷ 115 ∷ 10 ∷
-    51 ∷ 10 ∷
-    49 ∷ 32 ∷ 48 ∷ 32 ∷ 48 ∷ 32 ∷ 48 ∷ 10 ∷
-    50 ∷ 32 ∷ 48 ∷ 32 ∷ 48 ∷ 32 ∷ 48 ∷ 10 ∷
-    51 ∷ 32 ∷ 48 ∷ 32 ∷ 48 ∷ 32 ∷ 48 ∷ 10 ∷
-    36 ∷ 69 ∷ 110 ∷ 100 ∷ 78 ∷ 111 ∷ 100 ∷ 101 ∷ 115 ∷ 10 ∷
-    36 ∷ 69 ∷ 108 ∷ 101 ∷ 109 ∷ 101 ∷ 110 ∷ 116 ∷ 115 ∷ 10 ∷
-    52 ∷ 10 ∷
-    49 ∷ 32 ∷ 49 ∷ 53 ∷ 32 ∷ 48 ∷ 32 ∷ 49 ∷ 10 ∷
-    50 ∷ 32 ∷ 49 ∷ 53 ∷ 32 ∷ 48 ∷ 32 ∷ 50 ∷ 10 ∷
-    51 ∷ 32 ∷ 49 ∷ 53 ∷ 32 ∷ 48 ∷ 32 ∷ 51 ∷ 10 ∷
-    52 ∷ 32 ∷ 49 ∷ 32 ∷ 48 ∷ 32 ∷ 50 ∷ 32 ∷ 50 ∷ 10 ∷
-    36 ∷ 69 ∷ 110 ∷ 100 ∷ 69 ∷ 108 ∷ 101 ∷ 109 ∷ 101 ∷ 110 ∷ 116 ∷ 115 ∷ 10 ∷ []
+    textOf (1 ∷ 2 ∷ 3 ∷ []) ((1 ∷ 15 ∷ 0 ∷ 1 ∷ []) ∷ (2 ∷ 15 ∷ 0 ∷ 2 ∷ []) ∷ (3 ∷ 15 ∷ 0 ∷ 3 ∷ []) ∷ (4 ∷ 1 ∷ 0 ∷ 2 ∷ 2 ∷ []) ∷ [])
+
+-- a quadrangle, and behind it a line without a tag count
+abbrev pub faultyThenMalformed : List ℕ
+faultyThenMalformed = textOf (0 ∷ 1 ∷ []) ((1 ∷ 3 ∷ 0 ∷ 0 ∷ 1 ∷ []) ∷ (2 ∷ 1 ∷ []) ∷ [])
+
+-- no nodes and no elements
+abbrev pub none : List ℕ
+none = textOf [] []
 
 -- ---- the table
 
@@ -210,21 +93,21 @@ abbrev pub lent : ℕ → List ℕ
 lent room = replicate room 9
 
 -- a text, the count limit, the bytes lent, and what is answered and left
-pub record Line : Type 0 where
+pub record Case : Type 0 where
   pub text : List ℕ
   pub limit : ℕ
   pub room : ℕ
   pub called : ImportCalled
 
 -- done with the sheet, of so many bytes
-abbrev written : List ℕ → ℕ → ℕ → ℕ → List ℕ → Line
+abbrev written : List ℕ → ℕ → ℕ → ℕ → List ℕ → Case
 written text limit room n sheet =
     record { text = text; limit = limit; room = room; called = record { answer = done n; output = sheet ++ drop n (lent room) } }
 
-abbrev told : List ℕ → ℕ → ℕ → ℕ → Line
+abbrev told : List ℕ → ℕ → ℕ → ℕ → Case
 told text limit room n = record { text = text; limit = limit; room = room; called = record { answer = refused n; output = lent room } }
 
-unfoldable pub table : List Line
+unfoldable pub table : List Case
 table =
     written hollow 256 40 34 hollowTriangle
     ∷ written hollow 3 34 34 hollowTriangle
@@ -251,13 +134,13 @@ sameAnswer (done m) (refused n) = false
 sameAnswer (refused m) (done n) = false
 sameAnswer (refused m) (refused n) = eqb m n
 
-unfoldable pub good : Line → Bool
-good line =
-    sameAnswer (importCall (line .limit) (line .text) (lent (line .room)) .answer) (line .called .answer)
-    && sameList eqb (importCall (line .limit) (line .text) (lent (line .room)) .output) (line .called .output)
+unfoldable pub good : Case → Bool
+good case =
+    sameAnswer (importCall (case .limit) (case .text) (lent (case .room)) .answer) (case .called .answer)
+    && sameList eqb (importCall (case .limit) (case .text) (lent (case .room)) .output) (case .called .output)
 
 pub import-examples : T (every good table)
-unfolding every table good sameAnswer sameList some tabulate without precedes
+unfolding joined shown line textOf every table good sameAnswer sameList some tabulate without precedes
     then run someBytes word gap lineEnd digitsAt number node theWord words wordLine titleLine formatLine countLine nodeLine nodesWithin nodeNumbers elementLine
     nodeLines elementLines closingWithin closingLine sectionsWithin sections headOf nodesOf elementsOf meshOf valueFrom
     insert insertAll member repeats ofDimension facesOf closedSection closure
@@ -279,7 +162,7 @@ hollowMesh = record {
 }
 
 pub hollow-text : MeshText hollowMesh hollow
-unfolding sameList
+unfolding joined shown line textOf sameList
     then run someBytes word gap lineEnd digitsAt number node theWord words wordLine titleLine formatLine countLine nodeLine nodesWithin nodeNumbers elementLine
     nodeLines elementLines closingWithin closingLine sectionsWithin sections headOf nodesOf elementsOf meshOf valueFrom
 hollow-text = mesh-iff hollowMesh hollow .1 refl
@@ -289,7 +172,7 @@ unfolding every member repeats nodesOfKind faulty noneFaulty
 hollow-right = refl
 
 pub hollow-done : importCall 256 hollow (lent 40) .answer ≡ done 34
-unfolding every sameList some tabulate without precedes
+unfolding joined shown line textOf every sameList some tabulate without precedes
     then run someBytes word gap lineEnd digitsAt number node theWord words wordLine titleLine formatLine countLine nodeLine nodesWithin nodeNumbers elementLine
     nodeLines elementLines closingWithin closingLine sectionsWithin sections headOf nodesOf elementsOf meshOf valueFrom
     insert insertAll member repeats ofDimension facesOf closedSection closure
@@ -298,7 +181,7 @@ unfolding every sameList some tabulate without precedes
 hollow-done = refl
 
 pub hollow-host-done : importNumber (importCall 48 hollow (lent 40) .answer) ≡ 0
-unfolding every sameList some tabulate without precedes
+unfolding joined shown line textOf every sameList some tabulate without precedes
     then run someBytes word gap lineEnd digitsAt number node theWord words wordLine titleLine formatLine countLine nodeLine nodesWithin nodeNumbers elementLine
     nodeLines elementLines closingWithin closingLine sectionsWithin sections headOf nodesOf elementsOf meshOf valueFrom
     insert insertAll member repeats ofDimension facesOf closedSection closure

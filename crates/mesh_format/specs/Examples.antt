@@ -45,19 +45,19 @@ fullMesh = record {
 -- ---- the lines of a small text
 
 -- `$MeshFormat`
-abbrev openFormat : List ℕ
+abbrev pub openFormat : List ℕ
 openFormat = 36 ∷ 77 ∷ 101 ∷ 115 ∷ 104 ∷ 70 ∷ 111 ∷ 114 ∷ 109 ∷ 97 ∷ 116 ∷ 10 ∷ []
 
 -- `2.2 0 8`
-abbrev format : List ℕ
+abbrev pub format : List ℕ
 format = 50 ∷ 46 ∷ 50 ∷ 32 ∷ 48 ∷ 32 ∷ 56 ∷ 10 ∷ []
 
 -- `$EndMeshFormat`
-abbrev endFormat : List ℕ
+abbrev pub endFormat : List ℕ
 endFormat = 36 ∷ 69 ∷ 110 ∷ 100 ∷ 77 ∷ 101 ∷ 115 ∷ 104 ∷ 70 ∷ 111 ∷ 114 ∷ 109 ∷ 97 ∷ 116 ∷ 10 ∷ []
 
 -- `$Nodes`
-abbrev openNodes : List ℕ
+abbrev pub openNodes : List ℕ
 openNodes = 36 ∷ 78 ∷ 111 ∷ 100 ∷ 101 ∷ 115 ∷ 10 ∷ []
 
 -- `1`
@@ -69,11 +69,11 @@ abbrev node7 : List ℕ
 node7 = 55 ∷ 32 ∷ 48 ∷ 32 ∷ 48 ∷ 32 ∷ 48 ∷ 10 ∷ []
 
 -- `$EndNodes`
-abbrev endNodes : List ℕ
+abbrev pub endNodes : List ℕ
 endNodes = 36 ∷ 69 ∷ 110 ∷ 100 ∷ 78 ∷ 111 ∷ 100 ∷ 101 ∷ 115 ∷ 10 ∷ []
 
 -- `$Elements`
-abbrev openElements : List ℕ
+abbrev pub openElements : List ℕ
 openElements = 36 ∷ 69 ∷ 108 ∷ 101 ∷ 109 ∷ 101 ∷ 110 ∷ 116 ∷ 115 ∷ 10 ∷ []
 
 -- `0`
@@ -81,7 +81,7 @@ abbrev none : List ℕ
 none = 48 ∷ 10 ∷ []
 
 -- `$EndElements`
-abbrev endElements : List ℕ
+abbrev pub endElements : List ℕ
 endElements = 36 ∷ 69 ∷ 110 ∷ 100 ∷ 69 ∷ 108 ∷ 101 ∷ 109 ∷ 101 ∷ 110 ∷ 116 ∷ 115 ∷ 10 ∷ []
 
 -- ---- lines put in their place, or before `$Nodes`
