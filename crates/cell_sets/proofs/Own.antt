@@ -1,7 +1,6 @@
 -- A list of cells collected one after another.
---     holds-none           a slice with counts of 0 holds the cells of the empty list
---     adding-own           the cells of a list with one cell more
---     overfull-exceeds     a cell that does not fit makes the closure of every longer list exceed the limit
+--     holds-none     a slice with counts of 0 holds the cells of the empty list
+--     adding-own     the cells of a list with one cell more
 use mathlib.Core.Path.{_≡_, refl, sym, ap, _∙_}
 use mathlib.Core.List.{List, [], _∷_, _++_}
 use Prim.Native.Nat.{ℕ, suc, _*_, _≤_}
@@ -15,11 +14,10 @@ use Rattle.complexes.specs.Cell.{Cell, precedes}
 use Rattle.complexes.specs.Complex.{section}
 use Rattle.sheet_format.specs.Layout.{top}
 use Rattle.closures.specs.Insert.{insert, insertAll}
-use Rattle.closures.specs.Closure.{ofDimension, ownSection, ownSections, closure}
-use Rattle.closures.specs.SectionLaws.{ownSection-snoc, ownSection-skip, ownSection-grows}
-use Rattle.closures.specs.ClosureLaws.{ownSections-section, ownSections-count}
-use Rattle.cell_sets.specs.Set.{HoldsSection, Holds, adding, Overfull}
-use Rattle.cell_sets.specs.Close.{Exceeds}
+use Rattle.closures.specs.Closure.{ofDimension, ownSection, ownSections}
+use Rattle.closures.specs.SectionLaws.{ownSection-snoc, ownSection-skip}
+use Rattle.closures.specs.ClosureLaws.{ownSections-section}
+use Rattle.cell_sets.specs.Set.{HoldsSection, Holds, adding}
 use Rattle.cell_sets.proofs.Adding.{length-adding, section-adding-same, section-adding-other}
 
 length-own : (cs : List Cell) → length (ownSections top cs) ≡ suc top
@@ -66,20 +64,3 @@ module _ (cs : List Cell) (c : Cell) (p : ℕ) (small : p ≤ top) (sized : leng
           ∙ ownSections-section top cs q l
           ∙ sym (ownSection-skip q cs c (λ e. d (omega arith)))
           ∙ sym (ownSections-section top (cs ++ (c ∷ [])) q l)
-
-  pub overfull-exceeds : {limit : ℕ} {cells counts cells′ counts′ : List ℕ} → Overfull limit (ownSections top cs) p c cells counts cells′ counts′
-      → (more : List Cell) → Exceeds limit (closure top ((cs ++ (c ∷ [])) ++ more))
-  overfull-exceeds h more = record {
-    dimension = p;
-    listed = small;
-    over =
-        omega (
-          arith,
-          h .longer,
-          ap (λ (l : List Cell). length (insert precedes c l)) (ownSections-section top cs p small),
-          ap length (ownSection-snoc p cs c sized),
-          ownSection-grows p (cs ++ (c ∷ [])) more,
-          ap length (ownSections-section top ((cs ++ (c ∷ [])) ++ more) p small),
-          ownSections-count top ((cs ++ (c ∷ [])) ++ more) p,
-        );
-  }

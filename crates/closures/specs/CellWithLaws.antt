@@ -1,28 +1,25 @@
 -- The cell with given vertices.
 --     cellWith-rises, cellWith-vertex          it rises, and its vertices are the given ones
---     cellWith-unique, cellWith-cell           no other cell is so, and a cell that rises is the cell with its vertices
---     cellWith-length, cellWith-nonempty       it has no more vertices than were given, and one if one was given
---     cellWith-numbered                        vertex numbers stay such
+--     cellWith-unique                          no other cell is so
+--     cellWith-length                          it has no more vertices than were given
 --     member-vertex, member-false              `member` is `Vertex`
 --     repeats-length, cellWith-whole           a vertex stands twice exactly where the cell has fewer vertices than were given
 use mathlib.Core.Path.{_≡_, refl, sym, ap, _∙_}
 use mathlib.Core.Logic.{_↔_, _⊎_, inl, inr, ⊎-map}
 use mathlib.Core.Bool.{Bool, true, false, not, _||_, or-true, true≢false}
 use mathlib.Core.List.{List, [], _∷_}
-use Prim.Native.Nat.{ℕ, suc, _≤_, _<_}
+use Prim.Native.Nat.{ℕ, suc, _≤_}
 use native.Mathlib.Omega.{arith}
 use borrow.Author.Tests.{ltb-true, lt-ltb, eqb-true, eq-eqb, ne-eqb, not-false}
 use lib.Dec.{eqb, ltb, eqb·suc-suc}
 use lib.ListN.{length, getD}
 use Rattle.complexes.specs.Cell.{Cell, rises, Vertex}
 use Rattle.complexes.specs.CellLaws.{rises-at, rises-of}
-use Rattle.complexes.specs.Complex.{vertexBound}
-use Rattle.complexes.specs.Packed.{Numbered}
 use Rattle.closures.specs.Insert.{insert, insertAll}
 use Rattle.closures.specs.Closure.{cellWith, member, repeats}
 use Rattle.closures.specs.Rising.{numbers-order, Stands, stands-cons, stands-cases, vertex-stands, Rising, rising-unique}
 use Rattle.closures.specs.InsertLaws.{insert-rising, insert-vertex, insert-present, insert-absent}
-use Rattle.closures.specs.InsertLaws.{insertAll-all, insertAll-rising, insertAll-vertex, insertAll-adds}
+use Rattle.closures.specs.InsertLaws.{insertAll-rising, insertAll-vertex, insertAll-adds}
 
 -- ---- rising cells
 
@@ -65,19 +62,8 @@ pub cellWith-unique : (c : Cell) (vs : List ℕ) → rises c ≡ true → ((v : 
 cellWith-unique c vs r h =
     rises-unique c (cellWith vs) r (cellWith-rises vs) (λ v. (λ k. cellWith-vertex v vs .1 (h v .0 k), λ k. h v .1 (cellWith-vertex v vs .0 k)))
 
-pub cellWith-cell : (c : Cell) → rises c ≡ true → cellWith c ≡ c
-cellWith-cell c r = sym (cellWith-unique c c r (λ v. (λ k. k, λ k. k)))
-
 pub cellWith-length : (vs : List ℕ) → length (cellWith vs) ≤ length vs
 cellWith-length vs = omega (arith, insertAll-adds ltb [] vs)
-
-pub cellWith-nonempty : (vs : List ℕ) → 0 < length vs → 0 < length (cellWith vs)
-cellWith-nonempty vs h =
-    let first : Vertex (getD vs 0 0) (cellWith vs) = cellWith-vertex (getD vs 0 0) vs .1 (record { place = 0; below = h; is = refl }) in
-    omega (arith, first .below)
-
-pub cellWith-numbered : (vs : List ℕ) → Numbered vs → Numbered (cellWith vs)
-cellWith-numbered vs h = record { at = insertAll-all ltb numbers-order 0 (λ v. v < vertexBound) [] vs (λ i b. absurd (omega arith)) (h .at) }
 
 -- ---- a vertex that stands twice
 

@@ -4,20 +4,18 @@
 --     closure-section, ownSections-section   the sections, one by one
 --     closure-top, closure-step              .. and from the highest downwards
 --     closure-parts, closure-rising          section p lists the sublists of the cells with p + 1 vertices, and rises
---     closure-vertices                       its cells have p + 1 vertices, which are vertex numbers
 --     ownSections-count                      a section's own cells are no more than all
---     map-cellWith, map-cellWith-cells, map-cellWith-all    the cells with the vertices of each list
-use mathlib.Core.Path.{_≡_, refl, sym, ap, ap₂, _∙_}
+--     map-cellWith-all                       what every list has, the cells with their vertices have
+use mathlib.Core.Path.{_≡_, refl, sym, _∙_}
 use mathlib.Core.Logic.{_↔_}
-use mathlib.Core.Bool.{true}
-use mathlib.Core.List.{List, [], _∷_, map}
+use mathlib.Core.List.{List, [], map}
 use Prim.Native.Nat.{ℕ, suc, _-_, _≤_, _<_}
 use native.Mathlib.Omega.{arith}
 use native.Mathlib.Decide.{decLt}
 use lib.ListN.{length, getD, length-map, List·getD-map}
 use lib.Seq.{ext-getD}
 use Rattle.lists.specs.TabulateLaws.{length-tabulate, getD-tabulate, getD-tabulate-beyond}
-use Rattle.complexes.specs.Cell.{Cell, without, precedes, rises, Listed}
+use Rattle.complexes.specs.Cell.{Cell, without, precedes, Listed}
 use Rattle.complexes.specs.FaceLaws.{length-without, rises-without}
 use Rattle.complexes.specs.Complex.{Sections, section, count, cell, vertexBound, Complex}
 use Rattle.complexes.specs.Faces.{Sublist-length, without-Sublist}
@@ -27,11 +25,10 @@ use Rattle.closures.specs.Insert.{insertAll}
 use Rattle.closures.specs.Closure.{cellWith, ownSection, facesOf, closedSection, ownSections, closure}
 use Rattle.closures.specs.Form.{IsPart, IsClosure}
 use Rattle.closures.specs.Rising.{cells-order, Stands, stands-nil, listed-stands, All, all-stands, Rising, rising-unique}
-use Rattle.closures.specs.PackedInsertLaws.{HasVertices}
-use Rattle.closures.specs.CellWithLaws.{cellWith-rises, cellWith-vertex, cellWith-length, cellWith-cell}
+use Rattle.closures.specs.CellWithLaws.{cellWith-rises, cellWith-vertex, cellWith-length}
 use Rattle.closures.specs.SublistLaws.{Sublist-rises}
 use Rattle.closures.specs.SectionLaws.{ownSection-closedSection, closedSection-zero, closedSection-suc, closedSection-rising}
-use Rattle.closures.specs.SectionLaws.{Part, closedSection-part, part-closedSection, closedSection-vertices}
+use Rattle.closures.specs.SectionLaws.{Part, closedSection-part, part-closedSection}
 
 -- ---- the sections
 
@@ -76,13 +73,6 @@ module _ (top : ℕ) (cells : List Cell) where
       go (yes h) = rw (ownSections-beyond p h) (omega arith)
       go (no h) = rw (ownSections-section p (omega arith), closure-section p (omega arith)) (ownSection-closedSection cells (top - p) p)
 
-  pub closure-vertices : All Numbered [] cells → (p : ℕ) → All (HasVertices (suc p)) [] (section (closure top cells) p)
-  closure-vertices numbered p = go (decLt top p)
-    where
-      go : Dec (top < p) → All (HasVertices (suc p)) [] (section (closure top cells) p)
-      go (yes h) = rw (closure-beyond p h) (λ i b. absurd (omega arith))
-      go (no h) = rw (closure-section p (omega arith)) (closedSection-vertices cells numbered (top - p) p)
-
   pub closure-rising : (p : ℕ) → Rising precedes [] (section (closure top cells) p)
   closure-rising p = go (decLt top p)
     where
@@ -114,16 +104,6 @@ module _ (top : ℕ) (cells : List Cell) where
 map-cellWith-at : (lists : List (List ℕ)) (i : ℕ) → getD (map cellWith lists) i [] ≡ cellWith (getD lists i [])
 unfolding insertAll
 map-cellWith-at lists i = List·getD-map cellWith lists i []
-
--- lists that belong to other things, as the nodes to an element
-pub map-cellWith : {A : Type 0} (f : A → List ℕ) (l : List A) → map (λ x. cellWith (f x)) l ≡ map cellWith (map f l)
-map-cellWith f [] = refl
-map-cellWith f (x ∷ l) = ap (λ (r : List Cell). cellWith (f x) ∷ r) (map-cellWith f l)
-
--- cells that rise are lists of their vertices
-pub map-cellWith-cells : (cells : List Cell) → All (λ c. rises c ≡ true) [] cells → map cellWith cells ≡ cells
-map-cellWith-cells [] a = refl
-map-cellWith-cells (c ∷ cells) a = ap₂ _∷_ (cellWith-cell c (a 0 (omega arith))) (map-cellWith-cells cells (λ i h. a (suc i) (omega arith)))
 
 -- what every list has, every cell has, where it goes over
 pub map-cellWith-all : (P Q : Cell → Type 0) → ((vs : List ℕ) → P vs → Q (cellWith vs))

@@ -1,7 +1,7 @@
 -- Words in place of cells: where all cells have as many vertices, to insert a cell is to insert its word among the words.
---     HasVertices                       a cell of n vertices, which are vertex numbers
---     precedes-words                    such cells stand as their words do
---     insert-words, insertAll-words     the words of the result
+--     HasVertices        a cell of n vertices, which are vertex numbers
+--     precedes-words     such cells stand as their words do
+--     insert-words       the words of the result
 use mathlib.Core.Path.{_≡_, refl, sym, ap, _∙_}
 use mathlib.Core.Logic.{_↔_}
 use mathlib.Core.Bool.{Bool, true, false, cond}
@@ -14,9 +14,8 @@ use lib.ListN.{length, getD}
 use Rattle.complexes.specs.Cell.{Cell, precedes}
 use Rattle.complexes.specs.Packed.{packed, Numbered}
 use Rattle.complexes.specs.PackedLaws.{packed-precedes}
-use Rattle.closures.specs.Insert.{insert, insertAll}
-use Rattle.closures.specs.Rising.{IsOrder, cells-order, All}
-use Rattle.closures.specs.InsertLaws.{insert-all}
+use Rattle.closures.specs.Insert.{insert}
+use Rattle.closures.specs.Rising.{All}
 
 -- ---- a map that keeps the order
 
@@ -37,17 +36,6 @@ module _ {A B : Type 0} (before : A → A → Bool) (before′ : B → B → Boo
       go true b r = refl
       go false true r = ap (λ (m : List B). f y ∷ m) r
       go false false r = refl
-
-  map-insertAll : (P : A → Type 0) (d : A) → IsOrder before → ((x y : A) → P x → P y → before x y ≡ before′ (f x) (f y))
-      → (l xs : List A) → All P d l → All P d xs → map f (insertAll before l xs) ≡ insertAll before′ (map f l) (map f xs)
-  unfolding insertAll Kept
-  map-insertAll P d order keeps l [] a b = refl
-  map-insertAll P d order keeps l (x ∷ xs) a b =
-      let p : P x = b 0 (omega arith) in
-      map-insertAll P d order keeps (insert before x l) xs (insert-all before order d P x l p a) (λ i h. b (suc i) (omega arith))
-      ∙ ap
-      (λ (m : List B). insertAll before′ m (map f xs))
-      (map-insert x d l (λ i h. (keeps x (getD l i d) p (a i h), keeps (getD l i d) x (a i h) p)))
 
 -- ---- words
 
@@ -74,7 +62,3 @@ module _ (n : ℕ) where
   unfolding Kept
   insert-words c l h a =
       map-insert precedes ltb packed c [] l (λ i b. (precedes-words c (getD l i []) h (a i b), precedes-words (getD l i []) c (a i b) h))
-
-  pub insertAll-words : (l cs : List Cell) → All (HasVertices n) [] l → All (HasVertices n) [] cs
-      → map packed (insertAll precedes l cs) ≡ insertAll ltb (map packed l) (map packed cs)
-  insertAll-words l cs a b = map-insertAll precedes ltb packed (HasVertices n) [] cells-order precedes-words l cs a b

@@ -3,11 +3,9 @@
 --     ownSection-snoc, ownSection-skip         one more cell, of this dimension or of another
 --     ownSection-append, ownSection-grows      more cells, with which the section is no shorter
 --     IsFace, facesOf-listed                   what stands among the faces of cells
---     facesOf-snoc, faces-snoc                 one more cell, and one more face of a cell
+--     facesOf-snoc                             one more cell
 --     closedSection-part, part-closedSection   a closed section lists the sublists of the cells that have its number of vertices (`Part`)
 --     closedSection-rising                     it rises
---     closedSection-vertices                   its cells have that number of vertices, which are vertex numbers
---     ownSection-vertices, facesOf-vertices    so have its own cells, and the faces of the section above
 --     ownSection-closedSection                 its own cells are no more than all
 use mathlib.Core.Path.{_≡_, refl, sym, ap, _∙_}
 use mathlib.Core.Logic.{_↔_, _⊎_, inl, inr}
@@ -16,22 +14,19 @@ use Prim.Native.Nat.{ℕ, zero, suc, _+_, _≤_, _<_}
 use native.Mathlib.Omega.{arith}
 use native.Mathlib.Decide.{ℕ-discrete, decLt}
 use borrow.Author.Tests.{eq-eqb, ne-eqb}
-use lib.ListN.{length, getD}
+use lib.ListN.{length}
 use Rattle.lists.specs.Tabulate.{tabulate}
 use Rattle.lists.specs.TabulateLaws.{length-tabulate, getD-tabulate}
 use Rattle.complexes.specs.Cell.{Cell, without, precedes, Listed, Sublist}
 use Rattle.complexes.specs.CellLaws.{Listed-next}
 use Rattle.complexes.specs.FaceLaws.{length-without}
 use Rattle.complexes.specs.Faces.{Sublist-refl, without-Sublist}
-use Rattle.complexes.specs.Packed.{Numbered}
-use Rattle.complexes.specs.PackedLaws.{numbered-without}
 use Rattle.closures.specs.Insert.{insert, insertAll}
 use Rattle.closures.specs.Closure.{ofDimension, ownSection, facesOf, closedSection}
-use Rattle.closures.specs.Rising.{Stands, stands-cons, stands-cases, stands-here, stands-there, stands-nil, stands-append, stands-at, listed-stands}
-use Rattle.closures.specs.Rising.{cells-order, All, all-stands, Rising}
+use Rattle.closures.specs.Rising.{Stands, stands-cons, stands-cases, stands-here, stands-there, stands-nil, stands-append, listed-stands}
+use Rattle.closures.specs.Rising.{cells-order, Rising}
 use Rattle.closures.specs.InsertLaws.{insertAll-listed, insertAll-rising, insertAll-grows, insertAll-append}
-use Rattle.closures.specs.PackedInsertLaws.{HasVertices}
-use Rattle.closures.specs.SublistLaws.{Sublist-trans, Sublist-whole, Sublist-numbered, Widened, widen}
+use Rattle.closures.specs.SublistLaws.{Sublist-trans, Sublist-whole, Widened, widen}
 
 -- ---- the cells of a dimension
 
@@ -140,15 +135,6 @@ faces-stands n c e cells l h =
 stands-faces : (n : ℕ) (c : Cell) (j : ℕ) → j < n → Stands [] (without j c) (tabulate n (λ j. without j c))
 stands-faces n c j b =
     record { place = j; below = omega (arith, length-tabulate n (λ j. without j c)); is = getD-tabulate n (λ j. without j c) j [] b }
-
--- one face more
-tabulate-snoc : (n : ℕ) (f : ℕ → Cell) → tabulate (suc n) f ≡ tabulate n f ++ (f n ∷ [])
-unfolding tabulate
-tabulate-snoc zero f = refl
-tabulate-snoc (suc n) f = ap (λ (l : List Cell). f 0 ∷ l) (tabulate-snoc n (λ i. f (suc i)))
-
-pub faces-snoc : (n : ℕ) (c : Cell) → tabulate (suc n) (λ j. without j c) ≡ tabulate n (λ j. without j c) ++ (without n c ∷ [])
-faces-snoc n c = tabulate-snoc n (λ j. without j c)
 
 module _ (n : ℕ) where
   pub facesOf-append : (cells more : List Cell) → facesOf n (cells ++ more) ≡ facesOf n cells ++ facesOf n more
@@ -285,28 +271,3 @@ module _ (cells : List Cell) where
           → Listed e (ownSection cells p) ⊎ Listed e (facesOf (suc (suc p)) (closedSection cells more (suc p)))
       go r (no l) = inl (part-own p e h (omega arith))
       go r (yes l) = inr (up-part p e h l (closedSection cells more (suc p)) r)
-
-  -- ---- the number of vertices
-
-  module _ (numbered : All Numbered [] cells) where
-    pub part-vertices : (p : ℕ) (e : Cell) → Part cells p e → HasVertices (suc p) e
-    part-vertices p e h =
-        record { sized = h .sized; numbered = Sublist-numbered (h .sublist) (all-stands Numbered numbered (listed-stands .0 (h .listed))) }
-
-    pub closedSection-vertices : (more p : ℕ) → All (HasVertices (suc p)) [] (closedSection cells more p)
-    closedSection-vertices more p i h =
-        let c = getD (closedSection cells more p) i [] in
-        part-vertices p c (closedSection-part more p c (listed-stands .1 (stands-at (closedSection cells more p) i h)))
-
-    pub ownSection-vertices : (p : ℕ) → All (HasVertices (suc p)) [] (ownSection cells p)
-    ownSection-vertices p = rw (closedSection-zero p) at (closedSection-vertices 0 p)
-
-pub face-vertices : (n : ℕ) (c : Cell) (j : ℕ) → j < suc n → HasVertices (suc n) c → HasVertices n (without j c)
-face-vertices n c j b h =
-    record { sized = omega (arith, length-without j c (omega (arith, h .sized)), h .sized); numbered = numbered-without j c (h .numbered) }
-
-pub facesOf-vertices : (n : ℕ) (cells : List Cell) → All (HasVertices (suc n)) [] cells → All (HasVertices n) [] (facesOf (suc n) cells)
-facesOf-vertices n cells a i h =
-    let l = facesOf (suc n) cells in
-    let f = facesOf-listed (suc n) cells (getD l i []) .0 (listed-stands .1 (stands-at l i h)) in
-    rw (f .is) at (face-vertices n (f .cell) (f .place) (f .below) (all-stands (HasVertices (suc n)) a (listed-stands .0 (f .listed))))

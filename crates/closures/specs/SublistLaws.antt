@@ -1,20 +1,18 @@
 -- Sublists of cells.
---     Sublist-trans                      a sublist of a sublist
---     Sublist-whole                      one that is no shorter is the whole cell
---     Sublist-rises, Sublist-numbered    those of a cell that rises rise, and vertex numbers stay such
---     Widened, widen                     a shorter one is a face of a sublist with one more vertex
+--     Sublist-trans      a sublist of a sublist
+--     Sublist-whole      one that is no shorter is the whole cell
+--     Sublist-rises      those of a cell that rises rise
+--     Widened, widen     a shorter one is a face of a sublist with one more vertex
 use mathlib.Core.Path.{_≡_, refl, ap}
 use mathlib.Core.Bool.{true}
 use mathlib.Core.List.{_∷_}
 use Prim.Native.Nat.{ℕ, suc, _<_, _≤_}
 use native.Mathlib.Omega.{arith}
 use lib.Dec.{ltb}
-use lib.ListN.{length, getD}
-use Rattle.complexes.specs.Cell.{Cell, without, rises, Vertex, Sublist, none, skip, keep}
-use Rattle.complexes.specs.Complex.{vertexBound}
+use lib.ListN.{length}
+use Rattle.complexes.specs.Cell.{Cell, without, rises, Sublist, none, skip, keep}
 use Rattle.complexes.specs.Faces.{Sublist-length}
 use Rattle.complexes.specs.Subsets.{sublist-subset}
-use Rattle.complexes.specs.Packed.{Numbered}
 use Rattle.closures.specs.Rising.{numbers-order, vertex-stands, Rising, rising-tail, rising-head, rising-cons}
 use Rattle.closures.specs.CellWithLaws.{rises-rising, rising-rises}
 
@@ -39,12 +37,6 @@ Sublist-rising (keep {d = d} {c = c} v s) r =
 
 pub Sublist-rises : {d c : Cell} → Sublist d c → rises c ≡ true → rises d ≡ true
 Sublist-rises {d} {c} s r = rising-rises d (Sublist-rising s (rises-rising c r))
-
-pub Sublist-numbered : {d c : Cell} → Sublist d c → Numbered c → Numbered d
-Sublist-numbered {d} {c} s h = record { at = λ j l. at (sublist-subset s (getD d j 0) (record { place = j; below = l; is = refl })) }
-  where
-    at : {v : ℕ} → Vertex v c → v < vertexBound
-    at k = rw (k .is) at (h .at (k .place) (k .below))
 
 -- d is a face of a sublist of c
 pub record Widened (d c : Cell) : Type 0 where

@@ -1,7 +1,7 @@
 -- Where a reading ended, from what was answered.
 --     end-malformed, end-to     the reading that `tellEnd` tells
 --     end-then                  what is read behind it without a value of its own
-use mathlib.Core.Path.{_≡_, refl, sym, ap, _∙_}
+use mathlib.Core.Path.{_≡_, refl, ap}
 use Prim.Native.Nat.{ℕ}
 use native.Mathlib.Omega.{arith}
 use Rattle.mesh_format.specs.Parse.{Parsed, malformed, parsed, then}

@@ -3,15 +3,15 @@
 --     adds-cell, adds-none                    it is right, and its cell fits or is one too many
 --     adds-after-faulty, adds-after-full      it is right, but an earlier one was faulty, or there were too many cells already
 --     Gathering, ready                        what a loop over the lines of the elements keeps
-use mathlib.Core.Path.{_≡_, refl, sym, ap, ap₂, _∙_, subst}
-use mathlib.Core.Bool.{Bool, true, false, not, _&&_}
+use mathlib.Core.Path.{_≡_, refl, sym, ap, _∙_, subst}
+use mathlib.Core.Bool.{Bool, true, false, not, _&&_, and-true, and-false, and-assoc}
 use mathlib.Core.List.{List, [], _∷_, _++_, map}
 use Prim.Native.Nat.{ℕ, suc, _≤_}
 use native.Mathlib.Omega.{arith}
 use lib.ListN.{length}
 use Rattle.lists.specs.Same.{every}
 use Rattle.complexes.specs.Cell as cell
-use Rattle.complexes.specs.Complex.{Sections, section, count}
+use Rattle.complexes.specs.Complex.{section}
 use Rattle.sheet_format.specs.Layout.{top}
 use Rattle.closures.specs.Insert.{insert}
 use Rattle.closures.specs.Closure.{cellWith, ownSection, ownSections}
@@ -37,21 +37,13 @@ use Rattle.importer.specs.declared.gather.Outcome.the-variants.{Gathered
 
 -- ---- the elements with one more
 
-and-true : (a : Bool) → a && true ≡ a
-and-true true = refl
-and-true false = refl
-
-and-assoc : (a b c : Bool) → a && (b && c) ≡ (a && b) && c
-and-assoc true b c = refl
-and-assoc false b c = refl
-
 noneFaulty-snoc : (isListed : ℕ → Bool) (es : List Element) (e : Element)
     → noneFaulty isListed (es ++ (e ∷ [])) ≡ noneFaulty isListed es && not (faulty isListed e)
 unfolding noneFaulty every
 noneFaulty-snoc isListed [] e = and-true (not (faulty isListed e))
 noneFaulty-snoc isListed (x ∷ es) e =
     ap (λ (b : Bool). not (faulty isListed x) && b) (noneFaulty-snoc isListed es e)
-    ∙ and-assoc (not (faulty isListed x)) (every (λ y. not (faulty isListed y)) es) (not (faulty isListed e))
+    ∙ sym (and-assoc (not (faulty isListed x)) (every (λ y. not (faulty isListed y)) es) (not (faulty isListed e)))
 
 cells-snoc : (es : List Element) (e : Element)
     → map cellWith (nodeLists (es ++ (e ∷ []))) ≡ map cellWith (nodeLists es) ++ (cellWith (e .nodes) ∷ [])
@@ -96,11 +88,7 @@ module _ (es : List Element) (e : Element) where
 module _ (limit : ℕ) (isListed : ℕ → Bool) (x : answer.Element) (cells counts cells′ counts′ : List ℕ) where
   pub adds-faulty : (r : Refusal) (before : Outcome) → Checks isListed x (Refused r)
       → AddsElement limit isListed x before cells counts Faulty cells′ counts′
-  adds-faulty r before h es e g t n = noneFaulty-snoc isListed es e ∙ rw (h .checks e t n .0) (none (noneFaulty isListed es))
-    where
-      none : (b : Bool) → b && false ≡ false
-      none true = refl
-      none false = refl
+  adds-faulty r before h es e g t n = noneFaulty-snoc isListed es e ∙ rw (h .checks e t n .0) (and-false (noneFaulty isListed es))
 
   -- the element is right
   module _ (p w : ℕ) (h : Checks isListed x (Cell p w)) where

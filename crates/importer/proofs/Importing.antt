@@ -6,7 +6,7 @@ use mathlib.Core.Path.{_≡_, refl, sym, ap, ap₂, _∙_}
 use mathlib.Core.Logic.{_≢_}
 use mathlib.Core.Bool.{Bool, true, false, not, cond, _||_, _&&_}
 use mathlib.Core.List.{List, [], _∷_, map}
-use Prim.Native.Nat.{ℕ, zero, suc, _<_}
+use Prim.Native.Nat.{ℕ, suc, _<_}
 use native.Mathlib.Omega.{arith}
 use lib.Dec.{eqb}
 use lib.ListN.{length, getD}
@@ -17,7 +17,7 @@ use Rattle.complexes.specs.Packed.{Numbered}
 use Rattle.closures.specs.Closure.{cellWith, member, repeats}
 use Rattle.closures.specs.Rising as rising
 use Rattle.mesh_format.specs.Mesh.{Element, Mesh}
-use Rattle.mesh_format.specs.Parse.{Parsed, malformed, parsed, then, headOf, nodesOf, elementsOf, meshOf}
+use Rattle.mesh_format.specs.Parse.{malformed, parsed, then, headOf, nodesOf, elementsOf, meshOf}
 use Rattle.mesh_format.specs.Accept.{mesh-iff}
 use Rattle.imports.specs.Import.{nodesOfKind, faulty, noneFaulty, elementsRight, nodeLists, complexOf, tooLong, answerWith, importCall}
 use Rattle.imports.specs.Elements.{mesh-numbered}

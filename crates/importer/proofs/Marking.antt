@@ -3,9 +3,9 @@
 --     marks-none                                            nothing is marked of lines that are malformed
 --     node-below                                            a node that is read is a vertex number
 use mathlib.Core.Path.{_≡_, refl, sym, ap, _∙_, subst}
-use mathlib.Core.Bool.{Bool, true, false, cond, _||_}
+use mathlib.Core.Bool.{true, _||_, or-true, or-false, or-assoc}
 use mathlib.Core.List.{List, [], _∷_, _++_, append-nil, append-assoc}
-use Prim.Native.Nat.{ℕ, zero, suc, _+_, _≤_, _<_}
+use Prim.Native.Nat.{ℕ, _+_, _≤_, _<_}
 use native.Mathlib.Decide.{ℕ-discrete}
 use native.Mathlib.Omega.{arith}
 use lib.Dec.{eqb, ltb}
@@ -13,7 +13,7 @@ use lib.ListN.{length}
 use borrow.Author.Tests.{ltb-true, eq-eqb, ne-eqb}
 use Rattle.complexes.specs.Complex.{vertexBound}
 use Rattle.closures.specs.Closure.{member}
-use Rattle.mesh_format.specs.Parse.{Parsed, malformed, parsed, then, number, node, words, lineEnd, nodeLine, nodeLines}
+use Rattle.mesh_format.specs.Parse.{Parsed, malformed, parsed, number, node, words, lineEnd, nodeLine, nodeLines}
 use Rattle.mesh_format.specs.ReadLaws.{malformed-fails, parsed-inj, then-case, cond-split, nodeLines-repeats}
 use Rattle.mesh_format.specs.WalkLaws.{Walk, walk-start, walk-more, walk-end}
 use Rattle.mesh_lines.specs.declared.answer.Cursor.{Cursor}
@@ -24,22 +24,10 @@ use Rattle.importer.specs.Nodes.{tellEnd, MarksNodes}
 
 -- ---- one node more
 
-or-true : (a : Bool) → a || true ≡ true
-or-true true = refl
-or-true false = refl
-
-or-false : (a : Bool) → a || false ≡ a
-or-false true = refl
-or-false false = refl
-
-or-assoc : (a b c : Bool) → a || (b || c) ≡ (a || b) || c
-or-assoc true b c = refl
-or-assoc false b c = refl
-
 member-append : (u : ℕ) (l : List ℕ) (v : ℕ) → member u (l ++ (v ∷ [])) ≡ member u l || eqb u v
 unfolding member
 member-append u [] v = or-false (eqb u v)
-member-append u (w ∷ l) v = rw (member-append u l v) (or-assoc (eqb u w) (member u l) (eqb u v))
+member-append u (w ∷ l) v = rw (member-append u l v) (sym (or-assoc (eqb u w) (member u l) (eqb u v)))
 
 pub maps-more : {map map′ listed : List ℕ} {v : ℕ} → Maps map listed → Marks v map map′ → Maps map′ (listed ++ (v ∷ []))
 maps-more {map} {map′} {listed} {v} m h = record {

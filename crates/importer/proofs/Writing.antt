@@ -1,7 +1,7 @@
 -- What is answered where the faces are added: too-many-faces, slice-too-short, sheet-written.
-use mathlib.Core.Path.{_≡_, refl, sym, ap, _∙_}
-use mathlib.Core.Bool.{Bool, true, false, cond, _||_}
-use mathlib.Core.List.{List, [], _++_}
+use mathlib.Core.Path.{_≡_, refl, ap}
+use mathlib.Core.Bool.{true, false, cond, or-true}
+use mathlib.Core.List.{List, _++_}
 use Prim.Native.Nat.{ℕ, suc, _≤_, _<_}
 use native.Mathlib.Omega.{arith}
 use lib.Dec.{ltb}
@@ -9,7 +9,6 @@ use lib.ListN.{length, drop}
 use borrow.Author.Tests.{lt-ltb, le-ltb}
 use Rattle.complexes.specs.Complex.{Sections, count}
 use Rattle.sheet_format.specs.Layout.{top, layout}
-use Rattle.sheet_format.specs.Check.{some}
 use Rattle.sheet_format.specs.CheckLaws.{some-at, some-false}
 use Rattle.cell_sets.specs.Set.{Holds}
 use Rattle.cell_sets.specs.Close.{Exceeds}
@@ -17,10 +16,6 @@ use Rattle.imports.specs.Import.{tooLong, done, answerWith}
 use Rattle.refusal.specs.declared.Refusal.the-variants.{SheetTooLong}
 use Rattle.importer.specs.Answer.{ImportAnswers}
 use Rattle.importer.specs.declared.answer.Imported.the-variants.{Done, Refused}
-
-or-true : (a : Bool) → a || true ≡ true
-or-true true = refl
-or-true false = refl
 
 module _ (limit : ℕ) (K : Sections) (sheet : List ℕ) where
   pub exceeds-too-long : Exceeds limit K → tooLong limit (length sheet) K ≡ true

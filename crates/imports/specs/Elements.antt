@@ -1,14 +1,14 @@
 -- What it means that no element is faulty, and that a text tells the elements.
 --     right-few                             each element has at most `suc top` nodes
 --     element-numbered, mesh-numbered       the nodes of an element that is read, and of a mesh, are vertex numbers
-use mathlib.Core.Path.{_≡_, refl, sym, ap, _∙_}
-use mathlib.Core.Bool.{Bool, true, false, not, cond, _||_, _&&_, true≢false, false≢true}
-use mathlib.Core.List.{List, [], _∷_, map}
+use mathlib.Core.Path.{_≡_, refl, ap}
+use mathlib.Core.Bool.{Bool, true, false, not, cond, _||_, true≢false, and-eq-true-iff}
+use mathlib.Core.List.{List, [], _∷_}
 use Prim.Native.Nat.{ℕ, zero, suc, _≤_, _<_}
 use native.Mathlib.Omega.{arith}
 use lib.Dec.{eqb}
 use lib.ListN.{length, getD}
-use borrow.Author.Tests.{eqb-true, eqb-false, not-true, not-false}
+use borrow.Author.Tests.{eqb-true, not-true, not-false}
 use Rattle.lists.specs.Same.{every}
 use Rattle.sheet_format.specs.Layout.{top}
 use Rattle.closures.specs.Closure.{repeats}
@@ -26,10 +26,6 @@ none-of-four true b c d e = absurd (true≢false e)
 none-of-four false true c d e = absurd (true≢false e)
 none-of-four false false true d e = absurd (true≢false e)
 none-of-four false false false d e = (refl, (refl, (refl, e)))
-
-and-both : (a b : Bool) → a && b ≡ true → (a ≡ true) × (b ≡ true)
-and-both true b e = (refl, e)
-and-both false b e = absurd (false≢true e)
 
 -- a right element has as many nodes as its kind
 faulty-number : (isListed : ℕ → Bool) (e : Element) → faulty isListed e ≡ false → length (e .nodes) ≡ nodesOfKind (e .kind)
@@ -56,9 +52,9 @@ right-number : (isListed : ℕ → Bool) (es : List Element) → noneFaulty isLi
 unfolding noneFaulty every
 right-number isListed [] h e₀ i l = absurd (omega arith)
 right-number isListed (e ∷ es) h e₀ zero l =
-    faulty-number isListed e (not-true (faulty isListed e) (and-both (not (faulty isListed e)) (every (λ e. not (faulty isListed e)) es) h .0))
+    faulty-number isListed e (not-true (faulty isListed e) (and-eq-true-iff (not (faulty isListed e)) (every (λ e. not (faulty isListed e)) es) .0 h .0))
 right-number isListed (e ∷ es) h e₀ (suc i) l =
-    right-number isListed es (and-both (not (faulty isListed e)) (every (λ e. not (faulty isListed e)) es) h .1) e₀ i (omega arith)
+    right-number isListed es (and-eq-true-iff (not (faulty isListed e)) (every (λ e. not (faulty isListed e)) es) .0 h .1) e₀ i (omega arith)
 
 -- the node lists, at a place
 getD-nodeLists : (es : List Element) (i : ℕ) (e₀ : Element) → i < length es → getD (nodeLists es) i [] ≡ getD es i e₀ .nodes

@@ -5,29 +5,20 @@
 --     import-left                                         a refusal leaves the slice alone
 use mathlib.Core.Path.{_≡_, refl, sym, ap, _∙_, subst}
 use mathlib.Core.Logic.{_↔_, _≢_}
-use mathlib.Core.Bool.{Bool, true, false, not, cond, _||_, true≢false, false≢true}
-use mathlib.Core.List.{List, [], _∷_, _++_, map}
-use Prim.Native.Nat.{ℕ, zero, suc, _+_, _*_, _≤_, _<_}
+use mathlib.Core.Bool.{Bool, true, false, not, cond, true≢false, false≢true}
+use mathlib.Core.List.{List, _++_}
+use Prim.Native.Nat.{ℕ, zero, suc, _+_}
 use native.Mathlib.Omega.{arith}
-use native.Mathlib.Nat.{suc-ne-zero}
-use lib.Dec.{eqb, ltb}
-use lib.ListN.{length, getD, take, drop, length-append}
-use lib.Seq.{take-append-seam, drop-append-seam}
-use borrow.Author.Tests.{ltb-false, eqb-true, not-true, not-false}
-use Rattle.limits.specs.Limits.{libraryLimit}
-use Rattle.lists.specs.Same.{every}
-use Rattle.complexes.specs.Complex.{Sections, count, Complex, vertexBound}
-use Rattle.complexes.specs.Packed.{Numbered}
+use lib.ListN.{length, drop}
+use Rattle.complexes.specs.Complex.{Sections}
 use Rattle.sheet_format.specs.Layout.{top, layout}
-use Rattle.sheet_format.specs.Check.{some, first, refusal, sectionsOf}
-use Rattle.sheet_format.specs.CheckLaws.{some-false}
-use Rattle.sheet_format.specs.Accept.{accepted-layout, sections-layout}
-use Rattle.closures.specs.Closure.{cellWith, closure, member, repeats}
+use Rattle.sheet_format.specs.Check.{first}
+use Rattle.closures.specs.Closure.{member}
 use Rattle.closures.specs.Form.{IsClosure}
-use Rattle.mesh_format.specs.Mesh.{Element, Mesh}
+use Rattle.mesh_format.specs.Mesh.{Mesh}
 use Rattle.mesh_format.specs.Form.{MeshText}
 use Rattle.mesh_format.specs.Parse.{Parsed, malformed, parsed, meshOf}
-use Rattle.imports.specs.Import.{elementsRight, nodeLists, complexOf, meshIn, isMalformed, tooLong, meshChecks, Answer, done, refused, ImportCalled, answerWith, importCall, importNumber}
+use Rattle.imports.specs.Import.{elementsRight, nodeLists, complexOf, meshIn, isMalformed, tooLong, meshChecks, done, refused, answerWith, importCall, importNumber}
 use Rattle.mesh_format.specs.Accept.{mesh-iff, malformed-iff, meshOf-ends}
 use Rattle.closures.specs.ClosureLaws.{closure-is, closure-unique}
 use Rattle.imports.specs.Elements.{right-few}

@@ -1,11 +1,12 @@
 -- What an import writes is an accepted sheet of exactly the elements' cells and their faces: import-sheet, import-number.
-use mathlib.Core.Path.{_≡_, refl, sym, ap, ap₂, _∙_, subst}
-use mathlib.Core.Bool.{Bool, true, false, _||_, true≢false}
-use mathlib.Core.List.{List, [], _++_}
+use mathlib.Core.Path.{_≡_, sym, ap, ap₂, _∙_, subst}
+use mathlib.Core.Bool.{false}
+use mathlib.Mathlib.Data.Bool.Basic.{or-eq-false-eq-eq-false-and-eq-false}
+use mathlib.Core.List.{List, _++_}
 use Prim.Native.Nat.{ℕ, suc, _+_, _*_, _≤_, _<_}
 use native.Mathlib.Omega.{arith}
 use lib.Dec.{ltb}
-use lib.ListN.{length, getD, take, drop, length-append, List·getD-append}
+use lib.ListN.{length, take, drop, length-append, List·getD-append}
 use lib.Seq.{take-append-seam, drop-append-seam}
 use borrow.Author.Tests.{ltb-false}
 use Rattle.limits.specs.Limits.{libraryLimit}
@@ -19,19 +20,12 @@ use Rattle.sheet_format.specs.Sheet.{Bytes}
 use Rattle.sheet_format.specs.Accept.{reads-layout, accepted-layout, sections-layout}
 use Rattle.closures.specs.Closure.{member}
 use Rattle.closures.specs.Form.{IsClosure}
-use Rattle.mesh_format.specs.Mesh.{Mesh}
-use Rattle.mesh_format.specs.Form.{MeshText}
-use Rattle.mesh_format.specs.Parse.{Parsed, malformed, parsed, meshOf}
 use Rattle.imports.specs.Import.{nodeLists, complexOf, tooLong, Answer, done, refused, importCall, importNumber}
 use Rattle.imports.specs.Sheet.{headerGives, ImportedSheet}
 use native.Mathlib.Decide.{decLe}
 use Rattle.closures.specs.ClosureLaws.{closure-complex}
 use Rattle.imports.specs.Elements.{right-few, mesh-numbered}
 use Rattle.imports.specs.ImportLaws.{mesh-cells, Done, import-told, import-done}
-
-or-neither : (a b : Bool) → a || b ≡ false → (a ≡ false) × (b ≡ false)
-or-neither true b e = absurd (true≢false e)
-or-neither false b e = (refl, e)
 
 -- the length that is answered
 answerLength : Answer → ℕ
@@ -88,7 +82,9 @@ module _ (limit : ℕ) (small : limit ≤ libraryLimit) (text sheet : List ℕ) 
       size = ap answerLength (sym e ∙ ap (λ c. c .answer) called)
 
       fits : (ltb (length sheet) (length (layout K)) ≡ false) × (some (suc top) (λ p. ltb limit (count K p)) ≡ false)
-      fits = or-neither (ltb (length sheet) (length (layout K))) (some (suc top) (λ p. ltb limit (count K p))) (told .fits)
+      fits =
+          or-eq-false-eq-eq-false-and-eq-false (ltb (length sheet) (length (layout K))) (some (suc top) (λ p. ltb limit (count K p)))
+          .0 (told .fits)
 
       within : (p : ℕ) → Dec (p ≤ top) → count K p ≤ limit
       within p (yes l) = ltb-false limit (count K p) (some-false (suc top) (λ p. ltb limit (count K p)) .0 (fits .1) p (omega arith))

@@ -1,9 +1,9 @@
 -- Setting a bit of a byte by adding its value, by a computed test over all bytes and bits: add-fits, add-sets.
-use mathlib.Core.Path.{_≡_, refl, sym, ap, _∙_, subst}
-use mathlib.Core.Logic.{_≢_}
-use mathlib.Core.Bool.{Bool, true, false, not, _||_, true≢false}
+use mathlib.Core.Path.{_≡_, refl, sym}
+use mathlib.Core.Bool.{Bool, true, false, not, _||_}
+use mathlib.Mathlib.Data.Bool.Basic.{or-eq-false-eq-eq-false-and-eq-false}
 use Prim.Native.Nat.{ℕ, _+_, _^_, _<_}
-use lib.Dec.{T, eqb, ltb}
+use lib.Dec.{eqb, ltb}
 use borrow.Author.Tests.{ltb-true, ne-eqb, not-true, not-false}
 use Rattle.sheet_format.specs.Check.{some}
 use Rattle.sheet_format.specs.CheckLaws.{some-false}
@@ -28,10 +28,6 @@ none-misses : some 256 (λ x. some 8 (λ k. not (bitOf x k || not (misses x k)))
 unfolding some bitOf
 none-misses = refl
 
-or-false : (s t : Bool) → s || t ≡ false → (s ≡ false) × (t ≡ false)
-or-false true t e = (e, absurd (true≢false e))
-or-false false t e = (refl, e)
-
 module _ (x k : ℕ) (byte : x < 256) (low : k < 8) (clear : bitOf x k ≡ false) where
   hits : misses x k ≡ false
   hits = not-true (misses x k) (rw clear at passes)
@@ -42,14 +38,15 @@ module _ (x k : ℕ) (byte : x < 256) (low : k < 8) (clear : bitOf x k ≡ false
       passes : (bitOf x k || not (misses x k)) ≡ true
       passes = not-false (bitOf x k || not (misses x k)) (some-false 8 (λ k. not (bitOf x k || not (misses x k))) .0 row k low)
 
-  parts : (not (bitOf (x + 2 ^ k) k) || some 8 (λ j. not (eqb j k || same (bitOf (x + 2 ^ k) j) (bitOf x j)))) ≡ false
+  parts : (not (ltb (x + 2 ^ k) 256) ≡ false)
+      × ((not (bitOf (x + 2 ^ k) k) || some 8 (λ j. not (eqb j k || same (bitOf (x + 2 ^ k) j) (bitOf x j)))) ≡ false)
   parts =
-      or-false (not (ltb (x + 2 ^ k) 256)) (not (bitOf (x + 2 ^ k) k) || some 8 (λ j. not (eqb j k || same (bitOf (x + 2 ^ k) j) (bitOf x j)))) hits .1
+      or-eq-false-eq-eq-false-and-eq-false (not (ltb (x + 2 ^ k) 256))
+      (not (bitOf (x + 2 ^ k) k) || some 8 (λ j. not (eqb j k || same (bitOf (x + 2 ^ k) j) (bitOf x j))))
+      .0 hits
 
   pub add-fits : x + 2 ^ k < 256
-  add-fits =
-      ltb-true (x + 2 ^ k) 256 (not-false (ltb (x + 2 ^ k) 256)
-      (or-false (not (ltb (x + 2 ^ k) 256)) (not (bitOf (x + 2 ^ k) k) || some 8 (λ j. not (eqb j k || same (bitOf (x + 2 ^ k) j) (bitOf x j)))) hits .0))
+  add-fits = ltb-true (x + 2 ^ k) 256 (not-false (ltb (x + 2 ^ k) 256) (parts .0))
 
   pub add-sets : SetsBit k x (x + 2 ^ k)
   add-sets = record {
@@ -61,4 +58,7 @@ module _ (x k : ℕ) (byte : x < 256) (low : k < 8) (clear : bitOf x k ≡ false
   }
     where
       both : (not (bitOf (x + 2 ^ k) k) ≡ false) × (some 8 (λ j. not (eqb j k || same (bitOf (x + 2 ^ k) j) (bitOf x j))) ≡ false)
-      both = or-false (not (bitOf (x + 2 ^ k) k)) (some 8 (λ j. not (eqb j k || same (bitOf (x + 2 ^ k) j) (bitOf x j)))) parts
+      both =
+          or-eq-false-eq-eq-false-and-eq-false (not (bitOf (x + 2 ^ k) k))
+          (some 8 (λ j. not (eqb j k || same (bitOf (x + 2 ^ k) j) (bitOf x j))))
+          .0 (parts .1)

@@ -4,14 +4,12 @@ use mathlib.Core.Path.{_≡_, refl, sym, ap, _∙_}
 use mathlib.Core.Logic.{_≢_}
 use mathlib.Core.Bool.{Bool, true, false, not}
 use mathlib.Core.List.{List}
-use Prim.Native.Nat.{ℕ, suc, _≤_}
+use Prim.Native.Nat.{ℕ, _≤_}
 use native.Mathlib.Omega.{arith}
-use lib.Dec.{eqb}
 use lib.ListN.{length}
 use lib.Seq.{take-all}
 use borrow.Author.Tests.{ne-eqb}
 use Rattle.complexes.specs.Packed.{wordVertices, packed, Numbered}
-use Rattle.sheet_format.specs.Layout.{top}
 use Rattle.closures.specs.Closure.{cellWith}
 use Rattle.closures.specs.CellWithLaws.{repeats-length, cellWith-whole}
 use Rattle.cells.specs.Word.{Packs}
@@ -27,7 +25,6 @@ use Rattle.mesh_elements.specs.Kind.{IsSimplex, IsKind}
 use Rattle.mesh_elements.specs.Listed.{AllMarked}
 use Rattle.mesh_elements.specs.Element.{Checks}
 use Rattle.mesh_elements.specs.declared.kind.Simplex.{Simplex}
-use Rattle.mesh_elements.specs.declared.kind.Kind.{Kind}
 use Rattle.mesh_elements.specs.declared.kind.Kind.the-variants as kind
 use Rattle.mesh_elements.specs.declared.element.Checked.the-variants.{Cell, Refused}
 use Rattle.mesh_elements.proofs.Faults.{fault-kind, fault-number, fault-unlisted, fault-twice, no-fault}

@@ -3,7 +3,8 @@
 --     closingLine-iff     lines that do not close the section, and the one that does
 use mathlib.Core.Path.{_≡_, refl, sym, ap, _∙_, subst}
 use mathlib.Core.Logic.{_↔_}
-use mathlib.Core.Bool.{Bool, true, false, not, cond, _||_, true≢false, false≢true}
+use mathlib.Core.Bool.{Bool, true, false, not, cond, _||_, or-true, true≢false, false≢true}
+use mathlib.Mathlib.Data.Bool.Basic.{eq-false-of-not-eq-true}
 use mathlib.Core.List.{List, [], _∷_, _++_, append-assoc, append-cancel-right}
 use Prim.Native.Nat.{ℕ, zero, suc, _+_, _<_}
 use native.Mathlib.Omega.{arith}
@@ -35,10 +36,6 @@ one-word {w} {t} h = from (text-line h (spans-whole t))
   where
     from : LineAt t (w ∷ []) 0 (length t) → OneWord w t
     from (line-at k (line-ends e)) = record { end = e .text; ends = e .is; text = whole-spans (spans-append (k .run .spans) (e .spans)) }
-
-or-true : (b : Bool) → b || true ≡ true
-or-true true = refl
-or-true false = refl
 
 pub isLineOf-iff : (w : List ℕ) → IsWord w → (l : List ℕ) → isLineOf w l ≡ true ↔ LineText (w ∷ []) (l ++ (lineFeed ∷ []))
 isLineOf-iff w h l = (pick (sameWord l w) refl, λ t. from (one-word t .ends) (one-word t .text))
@@ -168,11 +165,7 @@ module _ (name : List ℕ) (h : IsWord name) (s : List ℕ) where
       }
 
   between-differs : {l : List ℕ} → IsBetween name l → isLineOf (ending name) l ≡ false
-  between-differs {l} b = pick (isLineOf (ending name) l) refl
-    where
-      pick : (t : Bool) → isLineOf (ending name) l ≡ t → t ≡ false
-      pick true e = absurd (b .not-closing (isLineOf-iff (ending name) (ending-word h) l .0 e))
-      pick false e = refl
+  between-differs {l} b = eq-false-of-not-eq-true (λ e. b .not-closing (isLineOf-iff (ending name) (ending-word h) l .0 e))
 
   closing-complete : {between : List (List ℕ)} {last : List ℕ} {at next : ℕ} → All (IsBetween name) between → LineText (ending name ∷ []) last
       → Spans s at (fed between ++ last) next → closingLine (ending name) s at ≡ parsed tt next

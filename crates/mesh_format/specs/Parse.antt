@@ -8,7 +8,7 @@ use lib.ListN.{length, getD, take, drop}
 use Rattle.lists.specs.Same.{sameList}
 use Rattle.complexes.specs.Complex.{vertexBound}
 use Rattle.mesh_format.specs.Mesh.{Element, Mesh}
-use Rattle.mesh_format.specs.Words.{lineFeed, carriageReturn, isSpace, isLineFeed, inWord, isDigit, valueFrom, mostDigits, versionWord, zeroWord, meshFormatName, nodesName, elementsName, opening, ending}
+use Rattle.mesh_format.specs.Words.{carriageReturn, isSpace, isLineFeed, inWord, isDigit, valueFrom, mostDigits, versionWord, zeroWord, meshFormatName, nodesName, elementsName, opening, ending}
 
 -- ---- what reading tells
 

@@ -4,6 +4,7 @@
 use mathlib.Core.Path.{_≡_, refl, sym, ap, _∙_, ap₂, subst}
 use mathlib.Core.Logic.{_↔_, _≢_}
 use mathlib.Core.Bool.{Bool, true, false, not, cond, _&&_, _||_, and-eq-true-iff, true≢false, false≢true}
+use mathlib.Mathlib.Data.Bool.Basic.{eq-false-of-not-eq-true}
 use mathlib.Core.List.{List, [], _∷_, _++_}
 use Prim.Native.Nat.{ℕ, zero, suc, _+_}
 use native.Mathlib.Omega.{arith}
@@ -24,11 +25,7 @@ use Rattle.mesh_format.specs.LineLaws.{LineAt, line-at, line-text, text-
 -- ---- the words that open a section
 
 sameWord-differs : (v w : List ℕ) → sameWord v w ≡ false ↔ v ≢ w
-sameWord-differs v w = (λ e k. true≢false (sym (sameWord-iff v w .1 k) ∙ e), λ h. pick (sameWord v w) refl h)
-  where
-    pick : (t : Bool) → sameWord v w ≡ t → v ≢ w → t ≡ false
-    pick true e h = absurd (h (sameWord-iff v w .0 e))
-    pick false e h = refl
+sameWord-differs v w = (λ e k. true≢false (sym (sameWord-iff v w .1 k) ∙ e), λ h. eq-false-of-not-eq-true (λ e. h (sameWord-iff v w .0 e)))
 
 -- the name may open a section that is passed over
 pub record Opens (name : List ℕ) : Type 0 where

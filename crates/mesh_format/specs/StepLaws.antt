@@ -1,6 +1,6 @@
 -- Every reader ends within the text and past where it began; so the readers that go round need no bound on their rounds.
 --     nodeNumbers-step, closingLine-step, sections-step      one round and then the reader again
---     word-within, gap-within, lineEnd-within, number-within, nodeLine-within, elementLine-within, ..     where a success ends
+--     word-within, gap-within, lineEnd-within, node-within, wordLine-within, closingLine-within      where a success ends
 use mathlib.Core.Path.{_≡_, refl, sym, ap, _∙_}
 use mathlib.Core.Bool.{Bool, not, cond}
 use mathlib.Core.List.{List, [], _∷_}
@@ -9,13 +9,13 @@ use native.Mathlib.Omega.{arith}
 use lib.Dec.{ltb}
 use lib.ListN.{length, getD, drop, length-append, length-drop}
 use borrow.Author.Tests.{ltb-true}
-use Rattle.mesh_format.specs.Words.{isSpace, isLineFeed, versionWord, zeroWord, nodesName, opening, ending}
+use Rattle.mesh_format.specs.Words.{isSpace, isLineFeed, nodesName, opening, ending}
 use Rattle.mesh_format.specs.Form.{IsLineEnd, feed, return-feed}
-use Rattle.mesh_format.specs.Parse.{Parsed, malformed, parsed, then, run, part, sameWord, word, gap, lineEnd, number, node, theWord, words, wordLine, titleLine, formatLine, countLine, nodeLine, nodesWithin, nodeNumbers, elementLine, nodeLines, elementLines, isLineOf, closingWithin, closingLine, opensSection, sectionsWithin, sections}
-use Rattle.mesh_format.specs.ReadLaws.{Within, EndsWithin, malformed-within, parsed-within, past-within, from-within, later-within, cond-within, then-within, cond-ext, then-ext, Repeats, nodeLines-repeats, elementLines-repeats}
+use Rattle.mesh_format.specs.Parse.{Parsed, malformed, parsed, then, run, part, sameWord, word, gap, lineEnd, node, wordLine, nodesWithin, nodeNumbers, isLineOf, closingWithin, closingLine, opensSection, sectionsWithin, sections}
+use Rattle.mesh_format.specs.ReadLaws.{Within, EndsWithin, malformed-within, parsed-within, past-within, from-within, later-within, cond-within, then-within, cond-ext, then-ext}
 use Rattle.mesh_format.specs.Spans.{Spans}
 use Rattle.mesh_format.specs.RunLaws.{SomeAt}
-use Rattle.mesh_format.specs.WordLaws.{word-iff, gap-iff, lineEnd-iff, number-iff, node-iff, theWord-iff}
+use Rattle.mesh_format.specs.WordLaws.{word-iff, gap-iff, lineEnd-iff, node-iff}
 
 -- ---- parts of a line
 
@@ -46,20 +46,8 @@ module _ (s : List ℕ) (at : ℕ) where
   pub lineEnd-within : EndsWithin (suc at) s (lineEnd s at)
   lineEnd-within = record { ends = λ _ next e. let h = lineEnd-iff s at .0 e in spans-within (h .spans) (lineEnd-some (h .is)) }
 
-  pub number-within : EndsWithin (suc at) s (number s at)
-  number-within = record { ends = λ v next e. some-within (number-iff s at .0 e .stands) }
-
   pub node-within : EndsWithin (suc at) s (node s at)
   node-within = record { ends = λ v next e. some-within (node-iff s at .0 e .stands) }
-
-  pub theWord-within : (w : List ℕ) → EndsWithin (suc at) s (theWord w s at)
-  theWord-within w = record { ends = λ _ next e. some-within (theWord-iff w s at .0 e) }
-
-pub words-within : (n : ℕ) (s : List ℕ) (at : ℕ) → at ≤ length s → EndsWithin at s (words n s at)
-unfolding words
-words-within zero s at h = parsed-within (here h)
-words-within (suc n) s at h =
-    then-within (later-within (gap-within s at)) (λ _ a _. then-within (later-within (word-within s a)) (λ _ b k. words-within n s b k))
 
 -- ---- lines
 
@@ -67,30 +55,6 @@ module _ (s : List ℕ) (at : ℕ) where
   pub wordLine-within : EndsWithin (suc at) s (wordLine s at)
   unfolding wordLine
   wordLine-within = then-within (word-within s at) (λ w a _. then-within (later-within (lineEnd-within s a)) (λ _ b h. parsed-within (here h)))
-
-  pub titleLine-within : (w : List ℕ) → EndsWithin (suc at) s (titleLine w s at)
-  unfolding titleLine
-  titleLine-within w = then-within wordLine-within (λ v a h. cond-within (sameWord v w) (λ _. parsed-within (here h)) (λ _. malformed-within))
-
-  pub formatLine-within : EndsWithin (suc at) s (formatLine s at)
-  unfolding formatLine
-  formatLine-within =
-      then-within (theWord-within s at versionWord) (λ _ a _.
-      then-within (later-within (gap-within s a)) (λ _ b _.
-      then-within (later-within (theWord-within s b zeroWord)) (λ _ c _.
-      then-within (later-within (gap-within s c)) (λ _ d _.
-      then-within (later-within (number-within s d)) (λ _ e _. later-within (lineEnd-within s e))))))
-
-  pub countLine-within : EndsWithin (suc at) s (countLine s at)
-  unfolding countLine
-  countLine-within = then-within (number-within s at) (λ n a _. then-within (later-within (lineEnd-within s a)) (λ _ b h. parsed-within (here h)))
-
-  pub nodeLine-within : EndsWithin (suc at) s (nodeLine s at)
-  unfolding nodeLine
-  nodeLine-within =
-      then-within (node-within s at) (λ v a h.
-      then-within (words-within 3 s a h) (λ _ b _.
-      then-within (later-within (lineEnd-within s b)) (λ _ c k. parsed-within (here k))))
 
 nodesWithin-within : (rounds : ℕ) (s : List ℕ) (at : ℕ) → EndsWithin (suc at) s (nodesWithin rounds s at)
 unfolding nodesWithin
@@ -100,35 +64,6 @@ nodesWithin-within (suc rounds) s at =
     (λ _. then-within (gap-within s at) (λ _ a _. then-within (later-within (node-within s a)) (λ v b _.
     then-within (later-within (nodesWithin-within rounds s b)) (λ vs c h. parsed-within (here h)))))
     (λ _. then-within (lineEnd-within s at) (λ _ a h. parsed-within (here h)))
-
-pub nodeNumbers-within : (s : List ℕ) (at : ℕ) → EndsWithin (suc at) s (nodeNumbers s at)
-unfolding nodeNumbers
-nodeNumbers-within s at = nodesWithin-within (length s) s at
-
-pub elementLine-within : (s : List ℕ) (at : ℕ) → EndsWithin (suc at) s (elementLine s at)
-unfolding elementLine
-elementLine-within s at =
-    then-within (number-within s at) (λ _ a _.
-    then-within (later-within (gap-within s a)) (λ _ b _.
-    then-within (later-within (number-within s b)) (λ kind c _.
-    then-within (later-within (gap-within s c)) (λ _ d _.
-    then-within (later-within (number-within s d)) (λ tags e h.
-    then-within (words-within tags s e h) (λ _ f _.
-    then-within (later-within (nodeNumbers-within s f)) (λ nodes g k. parsed-within (here k))))))))
-
-module _ {A : Type 0} {line : List ℕ → ℕ → Parsed A} {lines : ℕ → List ℕ → ℕ → Parsed (List A)} (repeats : Repeats line lines)
-    (line-within : (s : List ℕ) (at : ℕ) → EndsWithin (suc at) s (line s at)) where
-  repeats-within : (n : ℕ) (s : List ℕ) (at : ℕ) → at ≤ length s → EndsWithin at s (lines n s at)
-  repeats-within zero s at h = rw (repeats .none s at) (parsed-within (here h))
-  repeats-within (suc n) s at h =
-      rw (repeats .more n s at)
-      (then-within (later-within (line-within s at)) (λ x a k. then-within (repeats-within n s a k) (λ xs b l. parsed-within (here l))))
-
-pub nodeLines-within : (n : ℕ) (s : List ℕ) (at : ℕ) → at ≤ length s → EndsWithin at s (nodeLines n s at)
-nodeLines-within = repeats-within nodeLines-repeats nodeLine-within
-
-pub elementLines-within : (n : ℕ) (s : List ℕ) (at : ℕ) → at ≤ length s → EndsWithin at s (elementLines n s at)
-elementLines-within = repeats-within elementLines-repeats elementLine-within
 
 -- ---- sections
 
@@ -156,10 +91,6 @@ sectionsWithin-within (suc rounds) s at =
     (λ _. cond-within (opensSection w)
     (λ _. then-within (later-within (closingLine-within (ending (drop 1 w)) s a)) (λ _ b _. later-within (sectionsWithin-within rounds s b)))
     (λ _. malformed-within)))
-
-pub sections-within : (s : List ℕ) (at : ℕ) → EndsWithin (suc at) s (sections s at)
-unfolding sections
-sections-within s at = sectionsWithin-within (length s) s at
 
 -- ---- rounds
 

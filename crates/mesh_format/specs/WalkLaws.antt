@@ -3,7 +3,7 @@
 --     walk-start, walk-stop, walk-more, walk-end       before the first line, at one that is malformed, after one more, after the last
 use mathlib.Core.Path.{_≡_, refl, sym, ap, _∙_}
 use mathlib.Core.List.{List, [], _∷_, _++_, append-nil, append-assoc}
-use Prim.Native.Nat.{ℕ, zero, suc, _+_, _-_, _≤_, _<_}
+use Prim.Native.Nat.{ℕ, suc, _+_, _-_, _≤_, _<_}
 use native.Mathlib.Omega.{arith}
 use Rattle.mesh_format.specs.Parse.{Parsed, malformed, parsed, then}
 use Rattle.mesh_format.specs.ReadLaws.{Repeats}

@@ -1,6 +1,6 @@
 -- `gather_elements` meets its contract. The loop's invariant: i lines are read, and their cells gathered. The measure is the number of lines left.
 use borrow.Author.Needs.{needs}
-use mathlib.Core.Path.{_≡_, refl, sym, _∙_}
+use mathlib.Core.Path.{refl, _∙_}
 use mathlib.Core.List.{[], _∷_, _++_}
 use Prim.Native.Nat.{_-_}
 use native.Mathlib.Omega.{arith}

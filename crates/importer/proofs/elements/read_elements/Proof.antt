@@ -1,14 +1,13 @@
 -- `read_elements` meets its contract: the titles, the count and the lines are read one after another.
 use borrow.Author.Needs.{needs}
-use mathlib.Core.Path.{_≡_, refl, sym, ap, _∙_, subst}
-use mathlib.Core.Bool.{Bool}
+use mathlib.Core.Path.{_≡_, refl, subst}
 use mathlib.Core.List.{List}
 use Prim.Native.Nat.{ℕ}
 use native.Mathlib.Omega.{arith}
 use denote.Ref.{now}
 use Rattle.mesh_format.specs.Mesh.{Element}
 use Rattle.mesh_format.specs.Words.{elementsName, opening, ending}
-use Rattle.mesh_format.specs.Parse.{Parsed, malformed, parsed, then, titleLine, countLine, elementLines, elementsOf}
+use Rattle.mesh_format.specs.Parse.{malformed, parsed, then, titleLine, countLine, elementLines, elementsOf}
 use Rattle.mesh_lines.proofs.Told.{skipped-malformed, skipped-to, number-malformed, number-read}
 use Rattle.mesh_elements.specs.Map.{marked}
 use Rattle.importer.specs.Elements.{TellsElements}

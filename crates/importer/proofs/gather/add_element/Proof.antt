@@ -1,13 +1,11 @@
 -- `add_element` meets its contract, by the check of the element and the outcome so far.
 use borrow.Author.Needs.{needs}
-use mathlib.Core.Path.{_≡_, refl, sym, ap, _∙_, subst}
-use mathlib.Core.Bool.{Bool, true, false}
+use mathlib.Core.Path.{_≡_, sym, subst}
+use mathlib.Core.Bool.{Bool}
 use mathlib.Core.List.{List}
 use Prim.Native.Nat.{ℕ}
 use native.Mathlib.Omega.{arith}
 use denote.Ref.{now}
-use Rattle.sheet_format.specs.Layout.{top}
-use Rattle.cell_sets.specs.Set.{AddsCell}
 use Rattle.mesh_elements.specs.Map.{marked}
 use Rattle.mesh_elements.specs.Element.{Checks}
 use Rattle.mesh_elements.specs.declared.element.Checked.the-variants.{Cell}

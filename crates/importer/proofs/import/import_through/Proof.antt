@@ -1,7 +1,6 @@
 -- `import_through` meets its contract: the parts of the text are read one after another, and the outcome decides.
 use borrow.Author.Needs.{needs}
-use mathlib.Core.Path.{_≡_, refl, sym, ap, _∙_, subst}
-use mathlib.Core.Bool.{Bool}
+use mathlib.Core.Path.{_≡_, _∙_, subst}
 use mathlib.Core.List.{List, [], map}
 use Prim.Native.Nat.{ℕ}
 use native.Mathlib.Omega.{arith}
@@ -10,7 +9,7 @@ use denote.Ref.{now}
 use Rattle.closures.specs.Closure.{cellWith}
 use Rattle.imports.specs.Import.{nodeLists}
 use Rattle.mesh_format.specs.Mesh.{Mesh}
-use Rattle.mesh_format.specs.Parse.{Parsed, malformed, parsed, headOf, nodesOf, elementsOf, meshOf}
+use Rattle.mesh_format.specs.Parse.{parsed, headOf, nodesOf, elementsOf, meshOf}
 use Rattle.mesh_lines.proofs.Told.{skipped-malformed, skipped-to}
 use Rattle.mesh_elements.specs.Map.{marked}
 use Rattle.mesh_elements.specs.Listed.{Maps}

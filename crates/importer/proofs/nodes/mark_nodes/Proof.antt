@@ -1,6 +1,6 @@
 -- `mark_nodes` meets its contract. The loop's invariant: i lines are read, and their nodes marked. The measure is the number of lines left.
 use borrow.Author.Needs.{needs}
-use mathlib.Core.Path.{_≡_, refl, sym, _∙_}
+use mathlib.Core.Path.{refl, _∙_}
 use Prim.Native.Nat.{_-_}
 use native.Mathlib.Omega.{arith}
 use denote.Ref.{now}

@@ -4,17 +4,16 @@ use mathlib.Core.Path.{_≡_, refl, sym, ap, _∙_, subst}
 use mathlib.Core.List.{List, _++_}
 use Prim.Native.Nat.{ℕ}
 use native.Mathlib.Omega.{arith}
-use lib.ListN.{length}
 use denote.Ref.{now}
 use Rattle.mesh_format.specs.Words.{nodesName, ending}
-use Rattle.mesh_format.specs.Parse.{Parsed, malformed, parsed, then, countLine, nodeLines, titleLine, nodesOf}
-use Rattle.mesh_format.specs.ReadLaws.{malformed-fails, parsed-inj, then-case}
+use Rattle.mesh_format.specs.Parse.{malformed, parsed, then, countLine, nodeLines, titleLine, nodesOf}
+use Rattle.mesh_format.specs.ReadLaws.{parsed-inj, then-case}
 use Rattle.mesh_lines.specs.Answer.{tellSkipped}
 use Rattle.mesh_lines.proofs.Told.{number-malformed, number-read}
 use Rattle.mesh_lines.specs.declared.answer.Skipped.{Skipped}
 use Rattle.mesh_elements.specs.Listed.{Maps}
 use Rattle.importer.specs.Nodes.{tellEnd, MarksNodes}
-use Rattle.importer.proofs.Ends.{end-malformed, ReadTo, end-to, end-then}
+use Rattle.importer.proofs.Ends.{end-malformed, end-to, end-then}
 use Rattle.importer.proofs.Marking.{marks-none}
 use Rattle.importer.proofs.nodes.read_nodes.Statement.{statement}
 use Rattle.importer.proofs.nodes.read_nodes.Tie as tie

@@ -1,13 +1,9 @@
 -- `kind_of` meets its contract, by the definition at each number.
 use mathlib.Core.Path.{_≡_, refl, ap, _∙_}
-use mathlib.Core.Bool.{Bool, cond}
 use Prim.Native.Nat.{ℕ}
 use native.Mathlib.Omega.{arith}
-use lib.Dec.{eqb}
 use borrow.Author.Tests.{ne-eqb}
 use Rattle.imports.specs.Import.{nodesOfKind}
-use Rattle.mesh_elements.specs.Kind.{IsSimplex}
-use Rattle.mesh_elements.specs.declared.kind.Simplex.{Simplex}
 use Rattle.mesh_elements.proofs.kind.kind_of.Statement.{statement}
 use Rattle.mesh_elements.proofs.kind.kind_of.Tie as tie
 

@@ -2,7 +2,7 @@
 -- number of nodes left.
 use borrow.Author.Needs.{needs}
 use mathlib.Core.Path.{_≡_, refl, sym, ap, _∙_}
-use mathlib.Core.Bool.{Bool, true, false, _&&_}
+use mathlib.Core.Bool.{Bool, true, false, and-false}
 use mathlib.Core.List.{List, [], _∷_}
 use Prim.Native.Nat.{ℕ, zero, suc, _+_, _-_, _*_, _/_, _%_, _≤_, _<_}
 use native.Mathlib.Omega.{arith}
@@ -23,11 +23,7 @@ every-fails : (test : ℕ → Bool) (l : List ℕ) (j : ℕ) → j < length l �
 unfolding every
 every-fails test [] j l e = absurd (omega arith)
 every-fails test (x ∷ l) zero m e = rw e refl
-every-fails test (x ∷ l) (suc j) m e = rw (every-fails test l j (omega arith) e) (fails (test x))
-  where
-    fails : (a : Bool) → a && false ≡ false
-    fails true = refl
-    fails false = refl
+every-fails test (x ∷ l) (suc j) m e = rw (every-fails test l j (omega arith) e) (and-false (test x))
 
 -- `rest` is the word of the nodes before the last i, which are marked; `left` nodes stand before them
 record Marked (map : List ℕ) (i rest : ℕ) (nodes : List ℕ) : Type 0 where

@@ -1,6 +1,6 @@
 -- `bit` meets its contract: 2 to the power k fits the byte.
 use borrow.Author.Needs.{needs}
-use Prim.Native.Nat.{_*_, _^_}
+use Prim.Native.Nat.{_^_}
 use native.Mathlib.Nat.{one-mul, mod-eq-of-lt, pow-le-pow-right}
 use native.Mathlib.Omega.{arith}
 use Rattle.mesh_elements.proofs.map.bit.Statement.{statement}
