@@ -13,7 +13,7 @@ use crate::number::node_number_after;
 use crate::run::Class;
 use crate::run::stands;
 
-// A word has room for this many nodes, and each takes the multiples of BASE.
+// The word of a cell has room for this many nodes, each a digit to the base BASE.
 const WORD_VERTICES: usize = 4;
 
 const BASE: u64 = NODE_BOUND as u64;

@@ -16,7 +16,7 @@ const MOST_DIGITS: usize = 9;
 // Node numbers are below this.
 pub const NODE_BOUND: usize = 65536;
 
-// A number. Of more digits than it may have, only one is looked at.
+// A number. Reading stops at the tenth digit.
 pub fn number_at(text: &[u8], c: Cursor) -> Number
     ensures { λ r. ⌜ r ≡ tellNumber (number (now (text .entry)) (c .at)) ⌝ }
 {
