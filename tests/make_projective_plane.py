@@ -8,10 +8,12 @@ generator and of multiples of it, and the lines that the program prints are the 
 import argparse
 from pathlib import Path
 
-from make_reduction_examples import numbers, table
+from make_reduction_examples import Case, numbers, table
 from model import homology
 from model.calls import program_output
+from model.matrices import boundary, identity, multiply
 from model.meshes import tower
+from model.reduction import ENTRY_LIMIT
 from model.sheet import LIBRARY_COUNT_LIMIT, closure, from_facets, parse
 
 DIMENSION = 1
@@ -56,8 +58,21 @@ def definition(about, name, kind, value):
     return f"\n-- {about}\nabbrev pub {name} : {kind}\n{name} =\n    {value}\n"
 
 
-def state(found, columns):
-    """The state that the second reduction leaves: a diagonal, the rows of Q, the columns of G."""
+def peak_of(sheet):
+    """The largest absolute value that an entry of the two reductions has had."""
+    n, above = sheet.count(DIMENSION), sheet.count(DIMENSION + 1)
+    first = Case("the first", sheet.count(DIMENSION - 1), n, boundary(sheet, DIMENSION), ENTRY_LIMIT,
+                 {"column": identity(n), "column_inverse": identity(n)})
+    made = first.outcome()
+    q = made.column_inverse[made.rank:]
+    g = [row[made.rank:] for row in made.column]
+    second = Case("the second", n - made.rank, above, multiply(q, boundary(sheet, DIMENSION + 1), above),
+                  ENTRY_LIMIT, {"row": q, "row_inverse": g})
+    return max(first.peak(), second.peak())
+
+
+def state(found, columns, peak):
+    """The state that the second reduction leaves: a diagonal, the rows of Q, the columns of G, the peak."""
     matrix = [[kind if i == j else 0 for j in range(columns)] for i, kind in enumerate(found.kinds)]
     absent = table([[] for _ in range(columns)])
     return ("record {\n"
@@ -66,6 +81,7 @@ def state(found, columns):
             f"      rowInverse ={tall(found.generators)};\n"
             f"      columnFollower = {absent};\n"
             f"      columnInverse = {absent};\n"
+            f"      peak = {peak};\n"
             "    }")
 
 
@@ -90,7 +106,7 @@ def content(facets):
     loop = report.generators[0]
     for factor, coordinate in ((1, 1), (2, 0), (-1, 1)):
         assert homology.coordinates(data, DIMENSION, times(factor, loop)) == [coordinate]
-    left = state(found, sheet.count(DIMENSION + 1))
+    left = state(found, sheet.count(DIMENSION + 1), peak_of(sheet))
     text = printed(data, report.generators)
     return HEADER + "".join([
         definition("6 vertices, 15 edges, 10 triangles", "cells", "Sections", sections(closure(facets))),

@@ -3,7 +3,8 @@
 
 First it checks that each finished outcome is right by itself (the transforms are inverse
 to each other and give the diagonal), and that each mistake named with a case changes the
-outcome of that case. The mistaken outcomes make the edits that the crate must refuse.
+outcome of that case. The mistaken outcomes make the edits that the crate must refuse. The
+peak of Note 4 in 02 is taken here, from the tables that stand after each operation.
 """
 
 import argparse
@@ -18,6 +19,7 @@ from model.reduction import Followers, Reduction, TooWide, copy_columns, copy_ro
 FIELDS = dict(zip(COMPANIONS, ("rowFollower", "rowInverse", "columnFollower", "columnInverse")))
 SPOKEN = dict(zip(COMPANIONS, ("row follower", "inverse of the row follower",
                                "column follower", "inverse of the column follower")))
+NOTED = ["matrix"] + list(SPOKEN.values())
 ROWS, COLUMNS = COMPANIONS[:2], COMPANIONS[2:]
 BY_ROWS = ("row", "column_inverse")
 NO_LIMIT = 10 ** 30
@@ -25,8 +27,8 @@ NO_LIMIT = 10 ** 30
 
 @dataclass
 class Case:
-    """A matrix with its companions as they start, the limit, what goes too wide, and the
-    mistakes that change its outcome."""
+    """A matrix with its companions as they start, the limit, what goes too wide, what alone
+    holds the peak, and the mistakes that change its outcome."""
 
     text: str
     rows: int
@@ -35,6 +37,7 @@ class Case:
     limit: int = 1000
     starts: dict = field(default_factory=dict)
     wide_in: str = None
+    peak_in: str = None
     told: tuple = ()
 
     def outcome(self, limit=None):
@@ -63,6 +66,30 @@ class Case:
         """Whether all four companions are there and start as identities."""
         return self.from_identities() and len(self.starts) == len(COMPANIONS)
 
+    def work(self, kind, limit):
+        """A reduction of a kind that is ready to run."""
+        start = {name: self.starts.get(name) for name in COMPANIONS}
+        on_rows = Followers("row", limit, copy_rows(start["row"]),
+                            copy_columns(start["row_inverse"], self.rows))
+        on_columns = Followers("column", limit, copy_columns(start["column"], self.cols),
+                               copy_rows(start["column_inverse"]))
+        return kind(copy_rows(self.matrix), self.rows, self.cols, limit, on_rows, on_columns)
+
+    def noted(self):
+        """The largest absolute value in the matrix and in each companion, at the start and
+        after each operation."""
+        work = self.work(Noting, self.limit)
+        work.run()
+        return work.noted
+
+    def start_peak(self):
+        """The largest absolute value of an entry at the start."""
+        return max(self.noted()[0])
+
+    def peak(self):
+        """The largest absolute value that an entry has had."""
+        return max(map(max, self.noted()))
+
 
 def case(text, matrix, names=(), **choices):
     """A case with at least one row whose companions start as identities."""
@@ -70,6 +97,41 @@ def case(text, matrix, names=(), **choices):
     starts = {name: identity(rows if name in ROWS else cols) for name in names}
     return Case(text, rows, cols, matrix, starts=starts, **choices)
 
+
+# ---- the peak
+
+def tables(work):
+    """The matrix and the companions' lines as they stand; an absent companion is None."""
+    return [work.matrix, work.on_rows.lines, work.on_rows.inverse,
+            work.on_columns.lines, work.on_columns.inverse]
+
+
+def largest(lines):
+    """The largest absolute value of an entry, 0 where there is none."""
+    return max((abs(x) for line in lines or [] for x in line), default=0)
+
+
+class Noting(Reduction):
+    """Notes the largest absolute value in each table at the start and after each operation."""
+
+    def __init__(self, *given):
+        super().__init__(*given)
+        self.noted = [[largest(lines) for lines in tables(self)]]
+
+
+def noting(name):
+    """An operation after which the entries are noted."""
+    def operation(self, *given):
+        getattr(Reduction, name)(self, *given)
+        self.noted.append([largest(lines) for lines in tables(self)])
+    return operation
+
+
+for operation_name in ("swap_rows", "swap_columns", "negate_row", "subtract_row", "subtract_column"):
+    setattr(Noting, operation_name, noting(operation_name))
+
+
+# ---- the cases
 
 def steps():
     """Cases that tell a mistake in one step of 01."""
@@ -128,6 +190,16 @@ def limits():
         made.append(case(f"beyond the limit in the {SPOKEN[name]}", matrix, [name], limit=9,
                          wide_in=SPOKEN[name]))
         made.append(case("the same matrix with the other companions", matrix, others, limit=9))
+    return made
+
+
+def peaks():
+    """Cases in which the matrix or one companion alone holds the peak."""
+    made = [case("the matrix holds the peak, on the way alone", [[1, 15], [-1, 10], [0, 1]],
+                 peak_in="matrix")]
+    for name, matrix in WIDE_AT_SMALL.items():
+        made.append(case(f"the {SPOKEN[name]} holds the peak", matrix, COMPANIONS,
+                         peak_in=SPOKEN[name]))
     return made
 
 
@@ -232,17 +304,12 @@ MISTAKES = {
 
 def left_by(kind, one, limit):
     """The matrix and the companions' lines that a kind of reduction leaves, or None."""
-    start = {name: one.starts.get(name) for name in COMPANIONS}
-    on_rows = Followers("row", limit, copy_rows(start["row"]),
-                        copy_columns(start["row_inverse"], one.rows))
-    on_columns = Followers("column", limit, copy_columns(start["column"], one.cols),
-                           copy_rows(start["column_inverse"]))
-    work = kind(copy_rows(one.matrix), one.rows, one.cols, limit, on_rows, on_columns)
+    work = one.work(kind, limit)
     try:
         work.run()
     except TooWide:
         return None
-    return [work.matrix, on_rows.lines, on_rows.inverse, on_columns.lines, on_columns.inverse]
+    return tables(work)
 
 
 def mistaken(mistake, one):
@@ -263,6 +330,12 @@ def check(one):
     if one.wide_in is not None:
         assert outcome == one.wide_in, (one.text, outcome)
         return
+    if one.peak_in is not None:
+        alone = [max(column) for column in zip(*one.noted())]
+        held = alone.pop(NOTED.index(one.peak_in))
+        assert held > max(alone) and held > one.start_peak(), one.text
+        if one.text.endswith("on the way alone"):
+            assert held > max(one.noted()[-1]), one.text
     diagonal = outcome.diagonal()
     assert all(a > 0 for a in diagonal) and all(b % a == 0 for a, b in zip(diagonal, diagonal[1:]))
     assert outcome.matrix == [[diagonal[i] if i == j < outcome.rank else 0 for j in range(one.cols)]
@@ -295,7 +368,7 @@ WRITTEN_BY = ("Written by tests/make_reduction_examples.py: the expected outcome
 IMPORTS = """\
 use mathlib.Core.List.{List, [], _∷_}
 use lib.IntN.{pos}
-use Rattle.reduction_steps.specs.Step.{done, wide}
+use Rattle.reduction_steps.specs.Step.{%s}
 """
 WIDTH = 140
 FORMS = ["minus", "withAll", "withRows", "withColumns", "alone", "fromIdentities", "bare"]
@@ -304,7 +377,8 @@ FORMS = ["minus", "withAll", "withRows", "withColumns", "alone", "fromIdentities
 def header(about, text):
     """The top of a file of cases: the imports that its text needs."""
     forms = ", ".join(["Case"] + [name for name in FORMS if f"{name} " in text])
-    return (f"-- {about}\n-- {WRITTEN_BY}\n{IMPORTS}"
+    ends = ", ".join(["done"] + ["wide"] * ("wide\n" in text))
+    return (f"-- {about}\n-- {WRITTEN_BY}\n{IMPORTS % ends}"
             f"use Rattle.reduction_examples.specs.Case.{{{forms}}}\n\n")
 
 
@@ -338,11 +412,11 @@ def fields(one, matrix, companions):
     return field_lines(matrix, lines)
 
 
-def state(one, matrix, companions):
+def state(one, matrix, companions, peak):
     """A state in full, or by the short form for a matrix alone."""
     if not one.starts:
-        return f"bare {one.rows} {one.cols} ({table(matrix)})"
-    parts = "".join(f"  {part}\n" for part in fields(one, matrix, companions))
+        return f"bare {one.rows} {one.cols} ({table(matrix)}) {peak}"
+    parts = "".join(f"  {part}\n" for part in fields(one, matrix, companions) + [f"peak = {peak};"])
     return "record {\n" + parts + "}"
 
 
@@ -365,7 +439,7 @@ def expected(one):
     if one.wide_in is not None:
         return "wide"
     left = {name: getattr(outcome, name) for name in one.starts}
-    text = state(one, outcome.matrix, left)
+    text = state(one, outcome.matrix, left, one.peak())
     return f"done {outcome.rank} ({text})"
 
 
@@ -378,7 +452,7 @@ def record(one):
         wide = len(" ".join(parts).split("\n")[0]) > WIDTH
         return ("\n" if wide else " ").join(parts)
     parts = [f"limit = {one.limit};", f"sizes = {sizes(one)};",
-             f"start = {state(one, one.matrix, one.starts)};", f"expected = {expected(one)};"]
+             f"start = {state(one, one.matrix, one.starts, one.start_peak())};", f"expected = {expected(one)};"]
     return "record {\n" + indent("\n".join(parts), "  ") + "\n}"
 
 
@@ -417,6 +491,10 @@ def main():
     limit_text = header("Cases at the entry limit and beyond it, in the matrix and in each companion "
                         "alone.", limit_text) + limit_text
     (crate / "specs" / "LimitCases.antt").write_text(limit_text, encoding="utf-8")
+    peak_text = group("peaks", peaks())
+    peak_text = header("Cases in which the matrix or one companion alone holds the peak of document 02, "
+                       "Note 4.", peak_text) + peak_text
+    (crate / "specs" / "PeakCases.antt").write_text(peak_text, encoding="utf-8")
     by_text = {one.text: one for one in steps()}
     for name, (case_text, mistake) in EDITS.items():
         text = edit("StepCases.antt", step_text, by_text[case_text], mistake)

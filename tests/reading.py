@@ -3,10 +3,10 @@
 usage: python3 tests/reading.py [--names]
 
 Starts at crates/demands/specs/Claims.antt and follows every name to its definition in the repository; names of the kit are not followed. Lines of
-definitions are counted; blank lines, comments and `use` lines are not. Seven parts, each without what an earlier one has: the sheet; what it means
-that an answer is right; the words by which cells are compared; the mesh text and what its import answers and writes; when each refusal and "too wide"
-is told, and what is left in the slices; which numbers, bytes and text stand there, by the pivot rule; and the import as it computes. In all but the
-last two the calls themselves are not opened: whatever they answer, the claims say what it is.
+definitions are counted; blank lines, comments and `use` lines are not. Eight parts, each without what an earlier one has: the sheet; what it means
+that an answer is right; the words by which cells are compared; the mesh text and what its import answers and writes; the headroom; when each refusal
+and "too wide" is told, at this and at other entry limits, and what is left in the slices; which numbers, bytes and text stand there, by the pivot
+rule; and the import as it computes. In all but the last two the calls themselves are not opened: whatever they answer, the claims say what it is.
 """
 import os
 import re
@@ -19,11 +19,13 @@ RIGHT = ["Reports", "CoordinateCounts", "ListCounts", "SameCounts", "Coordinates
          "CoordinatesReduced", "HostReports", "HostCoordinateCounts", "HostListCounts"]
 MESHES = ["ImportMalformed", "MeshesUnique", "ImportFaulty", "MeshCells", "MeshCellsUnique", "ImportTooLong", "ImportDone", "ImportLeft",
           "ImportSheet", "HostImportSheet"]
+HEADROOM = ["CountsAnswered", "OneCounts", "Headroom", "HeadroomNone"]
 PARTS = [
     ("the sheet", ["Acceptance", "SheetCells"], CALLS | IMPORT),
     ("the answers are right", RIGHT, CALLS | IMPORT),
     ("cells compared as words", ["WordFits", "WordsOrdered", "WordsShared"], CALLS | IMPORT),
     ("the mesh text and its import", MESHES, CALLS | IMPORT),
+    ("the headroom", HEADROOM, CALLS | IMPORT),
     ("refusals, too wide and what is left", [], CALLS | IMPORT),
     ("which numbers, bytes and text, by the pivot rule", sorted(CALLS), IMPORT),
     ("the import as it computes", sorted(IMPORT), set()),

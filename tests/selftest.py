@@ -8,6 +8,7 @@ import sys
 import unittest
 
 from checks.calls import Calls
+from checks.headroom import Headroom
 from checks.homology import Coordinates, RefusalOrder, Reports, SlicesOfCheck9
 from checks.imports import Imports
 from checks.lists import ListRefusalOrder, Lists, ListSlices, NoChainsRefusalOrder
@@ -15,9 +16,9 @@ from checks.meshes import Meshes
 from checks.reductions import Reductions
 from checks.sheets import Boundaries, Sheets
 
-__all__ = ["Boundaries", "Calls", "Coordinates", "Imports", "ListRefusalOrder", "Lists", "ListSlices",
-           "Meshes", "NoChainsRefusalOrder", "Reductions", "RefusalOrder", "Reports", "Sheets",
-           "SlicesOfCheck9"]
+__all__ = ["Boundaries", "Calls", "Coordinates", "Headroom", "Imports", "ListRefusalOrder", "Lists",
+           "ListSlices", "Meshes", "NoChainsRefusalOrder", "Reductions", "RefusalOrder", "Reports",
+           "Sheets", "SlicesOfCheck9"]
 
 if __name__ == "__main__":
     if {"-h", "--help"} & set(sys.argv[1:]):

@@ -3,6 +3,7 @@
 import struct
 
 from model import homology
+from model.headroom import bits
 from model.reduction import ENTRY_LIMIT
 from model.sheet import DIMENSIONS, LIBRARY_COUNT_LIMIT, PROGRAM_COUNT_LIMIT, Refused, refusal
 
@@ -29,6 +30,18 @@ def library_report(data, p, lent, work, count_limit=LIBRARY_COUNT_LIMIT, limit=E
     except Refused as refused:
         return refused.number, list(lent), cleared(work, refused.number)
     return DONE, overwrite(lent, numbers), cleared(work, DONE)
+
+
+def library_headroom(data, p, lent, work, peak, needed, count_limit=LIBRARY_COUNT_LIMIT, limit=ENTRY_LIMIT):
+    """The report call with its peak: what library_report gives, then the peak and its bits.
+
+    After a refusal these two are as they were lent.
+    """
+    number, lent_after, work_after = library_report(data, p, lent, work, count_limit, limit)
+    if number == DONE:
+        peak = homology.report(data, p, count_limit, limit).peak
+        needed = bits(peak)
+    return number, lent_after, work_after, peak, needed
 
 
 def library_coordinates(data, p, chain, lent, work,

@@ -1,4 +1,4 @@
-"""The report and the coordinates of 01, and the coordinate lists of Note 1 in 02.
+"""The report and the coordinates of 01, the coordinate lists of Note 1 in 02 and the peak of Note 4.
 
 Refusals 1 to 13 are tried in order. A slice length that is not given is long
 enough. Refusals are raised as Refused.
@@ -7,8 +7,9 @@ enough. Refusals are raised as Refused.
 from dataclasses import dataclass
 from functools import lru_cache
 
+from model import headroom
 from model.matrices import apply, boundary, identity, is_cycle, multiply
-from model.reduction import ENTRY_LIMIT, TooWide, check, reduce
+from model.reduction import ENTRY_LIMIT, Held, Reduced, TooWide, reduce
 from model.sheet import DIMENSIONS, LIBRARY_COUNT_LIMIT, Refused, parse
 
 COEFFICIENT_LIMIT = 32767
@@ -25,6 +26,8 @@ class Classes:
     rows: list
     generators: list
     kinds: list
+    first: Reduced
+    second: Reduced
 
     def places(self):
         """The places of the orders, then those of the free rows."""
@@ -34,11 +37,12 @@ class Classes:
 
 @dataclass(frozen=True)
 class Report:
-    """The free rank, the orders, and the generators of the orders and then the free ones."""
+    """The free rank, the orders, the generators of the orders and then the free ones, and the peak."""
 
     rank: int
     orders: list
     generators: list
+    peak: int
 
     def numbers(self):
         """The report as the numbers that the call writes."""
@@ -55,12 +59,11 @@ def classes(sheet, p, limit=ENTRY_LIMIT):
     g = [row[r:] for row in first.column]
     q = first.column_inverse[r:]
     product = multiply(q, boundary(sheet, p + 1), above)
-    for row in product:
-        check(row, limit, "product")
+    Held("product", limit, []).write([x for row in product for x in row])
     second = reduce(product, n - r, above, limit, row=q, row_inverse=g)
     kinds = second.diagonal() + [FREE] * (n - r - second.rank)
     columns = [[row[j] for row in second.row_inverse] for j in range(n - r)]
-    return Classes(second.row, columns, kinds)
+    return Classes(second.row, columns, kinds, first, second)
 
 
 def work_slots(sheet, p):
@@ -114,7 +117,7 @@ def report(data, p, count_limit=LIBRARY_COUNT_LIMIT, limit=ENTRY_LIMIT,
     found = reduced(sheet, p, limit)
     orders = [kind for kind in found.kinds if kind > 1]
     generators = [found.generators[i] for i in found.places()]
-    return Report(found.kinds.count(FREE), orders, generators)
+    return Report(found.kinds.count(FREE), orders, generators, headroom.peak(found.first, found.second))
 
 
 def coordinate(kind, value):

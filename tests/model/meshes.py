@@ -87,20 +87,40 @@ def moebius_band():
     return [(i, (i + 1) % 5, (i + 2) % 5) for i in range(5)]
 
 
-def moore_space(order):
-    """A disc whose rim runs `order` times round a triangle, order at least 2: torsion `order`.
+def disc(rim, first):
+    """A disc whose rim is a closed walk of at least six edges; its other vertices count from first.
 
-    A ring of inner vertices, each beside at most two edges of the rim, keeps the edges apart.
+    A ring of these vertices, each beside at most two edges of the rim, keeps the edges apart.
     """
-    edges = 3 * order
+    edges = len(rim)
     ring = (edges + 1) // 2
     facets = []
     for i in range(ring):
-        here, following = 3 + i, 3 + (i + 1) % ring
+        here, following = first + i, first + (i + 1) % ring
         end = min(2 * i + 2, edges)
-        facets += [(at % 3, (at + 1) % 3, here) for at in range(2 * i, end)]
-        facets.append((end % 3, here, following))
-    return facets + [(3, 3 + i, 4 + i) for i in range(1, ring - 1)]
+        facets += [(rim[at], rim[(at + 1) % edges], here) for at in range(2 * i, end)]
+        facets.append((rim[end % edges], here, following))
+    return facets + [(first, first + i, first + i + 1) for i in range(1, ring - 1)]
+
+
+def moore_space(order):
+    """A disc whose rim runs `order` times round a triangle, order at least 2: torsion `order`."""
+    return disc([0, 1, 2] * order, 3)
+
+
+def wound(windings):
+    """Triangles without inside that share vertex 0, and discs whose rims run round them.
+
+    Rim i runs windings[i][j] times, at least two in all, round triangle j, backwards where negative.
+    """
+    loops = [(0, 2 * j + 1, 2 * j + 2) for j in range(len(windings[0]))]
+    facets = [side for loop in loops for side in combinations(loop, 2)]
+    for numbers in windings:
+        rim = []
+        for (base, a, b), number in zip(loops, numbers):
+            rim += abs(number) * ([base, a, b] if number > 0 else [base, b, a])
+        facets += disc(rim, vertex_count(facets))
+    return facets
 
 
 def vertex_count(facets):

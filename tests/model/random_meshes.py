@@ -46,6 +46,13 @@ def glued(rng):
     return [tuple(sorted({image[v] for v in facet})) for facet in facets] + scattered(rng)[:2]
 
 
+def wound(rng):
+    """Discs wound up to four times either way round one or two triangles."""
+    triangles = rng.randint(1, 2)
+    windings = [[rng.randint(-4, 4) for _ in range(triangles)] for _ in range(rng.randint(1, 3))]
+    return meshes.wound([numbers for numbers in windings if sum(map(abs, numbers)) > 1] or [[2]])
+
+
 def joined(rng):
     """Two known complexes beside each other, at times with an edge between."""
     facets = meshes.disjoint_union(part(rng), part(rng))

@@ -1,11 +1,13 @@
 """The reduction of 01, steps a to e, with its companions and its entry limit.
 
 Every operation of the text is done, those with quotient 0 included, and every
-entry that an operation writes is held against the limit.
+entry that an operation writes is held against the limit. The least and the
+greatest entry that the matrix and each companion has held are kept, for Note 4
+of 02.
 """
 
 from collections import Counter
-from dataclasses import dataclass, field
+from dataclasses import dataclass
 
 from model.matrices import transpose
 
@@ -20,9 +22,30 @@ class TooWide(Exception):
         self.where = where
 
 
+def span(entries):
+    """The least and the greatest of 0 and the entries."""
+    return min(min(entries, default=0), 0), max(max(entries, default=0), 0)
+
+
+class Held:
+    """What a matrix has held: the span of its entries at the start and of those written since."""
+
+    def __init__(self, name, limit, lines):
+        self.name, self.limit = name, limit
+        self.start = span([x for line in lines or [] for x in line])
+        self.written = (0, 0)
+
+    def write(self, entries):
+        """Takes in entries that an operation wrote; raises TooWide where one is beyond the limit."""
+        lowest, highest = span(entries)
+        if highest > self.limit or lowest < -self.limit:
+            raise TooWide(self.name)
+        self.written = min(self.written[0], lowest), max(self.written[1], highest)
+
+
 @dataclass
 class Reduced:
-    """A finished reduction; a companion that was not asked for is None."""
+    """A finished reduction; a companion that was not asked for is None, and has held nothing."""
 
     rank: int
     matrix: list
@@ -30,6 +53,7 @@ class Reduced:
     row_inverse: list
     column: list
     column_inverse: list
+    held: dict
     tally: Counter
 
     def diagonal(self):
@@ -37,50 +61,39 @@ class Reduced:
         return [self.matrix[i][i] for i in range(self.rank)]
 
 
-@dataclass
 class Followers:
     """Lines (rows or columns) that follow operations, and lines that follow their inverses."""
 
-    side: str
-    limit: int
-    lines: list
-    inverse: list
-    names: tuple = field(init=False)
-
-    def __post_init__(self):
-        self.names = (f"{self.side} follower", f"inverse of the {self.side} follower")
+    def __init__(self, side, limit, lines, inverse):
+        self.lines, self.inverse = lines, inverse
+        self.held = Held(f"{side} follower", limit, lines)
+        self.inverse_held = Held(f"inverse of the {side} follower", limit, inverse)
 
     def present(self):
-        """The companions that were asked for, with their names."""
-        return [(lines, name) for lines, name in zip((self.lines, self.inverse), self.names)
-                if lines is not None]
+        """The companions that were asked for, with what they have held."""
+        both = ((self.lines, self.held), (self.inverse, self.inverse_held))
+        return [(lines, held) for lines, held in both if lines is not None]
 
     def swap(self, i, k):
         """Lines i and k change places; this is its own inverse."""
-        for lines, name in self.present():
+        for lines, held in self.present():
             lines[i], lines[k] = lines[k], lines[i]
-            check(lines[i] + lines[k], self.limit, name)
+            held.write(lines[i] + lines[k])
 
     def negate(self, k):
         """Line k changes sign; this is its own inverse."""
-        for lines, name in self.present():
+        for lines, held in self.present():
             lines[k] = [-x for x in lines[k]]
-            check(lines[k], self.limit, name)
+            held.write(lines[k])
 
     def subtract(self, i, k, quotient):
         """Line i loses quotient times line k; inversely line k gains quotient times line i."""
         if self.lines is not None:
             less(self.lines, i, k, quotient)
-            check(self.lines[i], self.limit, self.names[0])
+            self.held.write(self.lines[i])
         if self.inverse is not None:
             less(self.inverse, k, i, -quotient)
-            check(self.inverse[k], self.limit, self.names[1])
-
-
-def check(entries, limit, where):
-    """Raises TooWide where an entry lies beyond the limit either way from zero."""
-    if entries and (max(entries) > limit or min(entries) < -limit):
-        raise TooWide(where)
+            self.inverse_held.write(self.inverse[k])
 
 
 def less(lines, i, k, quotient):
@@ -92,7 +105,8 @@ class Reduction:
     """The state of a reduction: the matrix, the stage k and the companions."""
 
     def __init__(self, matrix, rows, cols, limit, on_rows, on_columns):
-        self.matrix, self.rows, self.cols, self.limit = matrix, rows, cols, limit
+        self.matrix, self.rows, self.cols = matrix, rows, cols
+        self.held = Held("matrix", limit, matrix)
         self.on_rows, self.on_columns = on_rows, on_columns
         self.stage, self.place = 0, None
         self.tally = Counter()
@@ -100,27 +114,27 @@ class Reduction:
     def swap_rows(self, i, k):
         self.tally["row swap"] += 1
         self.matrix[i], self.matrix[k] = self.matrix[k], self.matrix[i]
-        check(self.matrix[i] + self.matrix[k], self.limit, "matrix")
+        self.held.write(self.matrix[i] + self.matrix[k])
         self.on_rows.swap(i, k)
 
     def swap_columns(self, j, k):
         self.tally["column swap"] += 1
         for row in self.matrix:
             row[j], row[k] = row[k], row[j]
-            check((row[j], row[k]), self.limit, "matrix")
+        self.held.write([row[at] for at in (j, k) for row in self.matrix])
         self.on_columns.swap(j, k)
 
     def negate_row(self, k):
         self.tally["row negation"] += 1
         self.matrix[k] = [-x for x in self.matrix[k]]
-        check(self.matrix[k], self.limit, "matrix")
+        self.held.write(self.matrix[k])
         self.on_rows.negate(k)
 
     def subtract_row(self, i, k, quotient):
         """Row i less quotient times row k."""
         self.tally["row subtraction" if quotient else "row subtraction of 0"] += 1
         less(self.matrix, i, k, quotient)
-        check(self.matrix[i], self.limit, "matrix")
+        self.held.write(self.matrix[i])
         self.on_rows.subtract(i, k, quotient)
 
     def subtract_column(self, j, k, quotient):
@@ -128,7 +142,7 @@ class Reduction:
         self.tally["column subtraction" if quotient else "column subtraction of 0"] += 1
         for row in self.matrix:
             row[j] -= quotient * row[k]
-        check([row[j] for row in self.matrix], self.limit, "matrix")
+        self.held.write([row[j] for row in self.matrix])
         self.on_columns.subtract(j, k, quotient)
 
     def least_entry(self):
@@ -218,8 +232,10 @@ def reduce(matrix, rows, cols, limit=ENTRY_LIMIT,
     on_columns = Followers("column", limit, copy_columns(column, cols), copy_rows(column_inverse))
     work = Reduction(copy_rows(matrix), rows, cols, limit, on_rows, on_columns)
     work.run()
+    held = {"matrix": work.held, "row": on_rows.held, "row_inverse": on_rows.inverse_held,
+            "column": on_columns.held, "column_inverse": on_columns.inverse_held}
     return Reduced(
         work.stage, work.matrix,
         on_rows.lines, row_inverse and transpose(on_rows.inverse, len(row_inverse)),
         column and transpose(on_columns.lines, len(column)), on_columns.inverse,
-        work.tally)
+        held, work.tally)

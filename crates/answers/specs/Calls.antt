@@ -1,6 +1,7 @@
 -- A call, of the library or of the host, whose refusals before the reduction come to `before` and whose reductions to R. `told`: the number that
--- it answers, which is as document 01 says (told-answers). On an accepted sheet: reductionsOf-wide, reductionsOf-right, reductionsOf-within.
--- What the library's call leaves in its slices: call-leaves, output-kept. What it answers on an accepted sheet: call-answers, answered.
+-- it answers, which is as document 01 says (told-answers). On an accepted sheet: reductionsOf-wide, reductionsOf-right, reductionsOf-within,
+-- reductionsOf-headroom, reductionsOf-limits. What the library's call leaves in its slices: call-leaves, output-kept. What it answers on an accepted sheet: call-answers,
+-- answered.
 use mathlib.Core.Path.{_≡_, refl, sym, _∙_, ap}
 use mathlib.Core.Logic.{_↔_, _≢_}
 use mathlib.Core.Bool.{true}
@@ -27,7 +28,9 @@ use Rattle.reports.specs.RefusalLaws.{callChecks-zero}
 use Rattle.answers.specs.Wide.{GoesWide}
 use Rattle.answers.specs.Called.{answerNumber, IsDone, Answers, KeptPast, WorkLeft, Leaves}
 use Rattle.answers.specs.TwoReductions.{Right, reductions-right, reductions-within}
+use Rattle.answers.specs.Headroom.{Headroom, reductions-headroom}
 use Rattle.answers.specs.WideLaws.{wide-iff}
+use Rattle.answers.specs.LeastLimit.{AtLimit, reductions-limit}
 
 -- ---- the number
 
@@ -139,6 +142,14 @@ module _ {rule : Rule} (is : IsRule rule) {limit : ℕ} (K : Sections) (p : ℕ)
     unfolding reductionsOf
     reductionsOf-within = reductions-within chains rule is entryLimit p (omega arith) s r x e
 
+    pub reductionsOf-headroom : Headroom entryLimit K p x
+    unfolding reductionsOf
+    reductionsOf-headroom = reductions-headroom chains rule is entryLimit p (omega arith) s r x e
+
+    pub reductionsOf-limits : (L : ℕ) → 1 ≤ L → AtLimit rule L K p s r x
+    unfolding reductionsOf
+    reductionsOf-limits = reductions-limit chains rule is entryLimit p s r x e
+
 pub call-answers : {rule : Rule} → IsRule rule → {limit : ℕ} (K : Sections) (p before : ℕ) → before ≢ 13 → (before ≡ 0 → ChainComplex limit K)
     → (left : ℕ → ℕ → State → List ℤ) (output work : List ℤ)
     → Answers before (GoesWide entryLimit rule K p) (answerNumber (call before (reductionsOf rule K p) left output work .answer))
@@ -146,15 +157,23 @@ call-answers {rule} is K p before narrow chains left output work =
     rw (call-number left output work before (reductionsOf rule K p))
     (told-answers before (reductionsOf rule K p) narrow (λ e. reductionsOf-wide is K p (chains e)))
 
--- a call that is done with these counts: two reductions that are right
+-- a call that is done with these counts: two reductions that are right, their peak, and what they come to at other entry limits
 pub record Answered (rule : Rule) (K : Sections) (p before : ℕ) (counts : Counts) : Type 0 where
   pub passes : before ≡ 0
   pub counted : ReducedWith (reductionsOf rule K p) counts
   pub right : Right K p (counted .rows) (counted .rank) (counted .state)
+  pub headroom : Headroom entryLimit K p (counted .state)
+  pub limits : (L : ℕ) → 1 ≤ L → AtLimit rule L K p (counted .rows) (counted .rank) (counted .state)
 
 pub answered : {rule : Rule} → IsRule rule → {limit : ℕ} (K : Sections) (p before : ℕ) → (before ≡ 0 → ChainComplex limit K) → (left : ℕ → ℕ → State → List ℤ)
     (output work : List ℤ) (counts : Counts) → call before (reductionsOf rule K p) left output work .answer ≡ done counts → Answered rule K p before counts
 answered {rule} is K p before chains left output work counts e =
     let d = call-done before (reductionsOf rule K p) left output work counts e in
     let c = d .counted in
-    record { passes = d .passes; counted = c; right = reductionsOf-right is K p (chains (d .passes)) (c .rows) (c .rank) (c .state) (c .reductions) }
+    record {
+      passes = d .passes;
+      counted = c;
+      right = reductionsOf-right is K p (chains (d .passes)) (c .rows) (c .rank) (c .state) (c .reductions);
+      headroom = reductionsOf-headroom is K p (chains (d .passes)) (c .rows) (c .rank) (c .state) (c .reductions);
+      limits = reductionsOf-limits is K p (chains (d .passes)) (c .rows) (c .rank) (c .state) (c .reductions);
+    }

@@ -135,7 +135,7 @@ module _ (limit : ℕ) (b : List ℕ) (p number : ℕ) (chains coordinates work 
         single-answer =
             call-answer (coordinatesBefore limit b p (chainAt n chains i) coordinates′ work′) (reductionsOf pivotRule (chainCells b) p)
             (coordinatesLeft limit b p (chainAt n chains i) coordinates′ work′) coordinates′ work′ before (c .rows) (c .rank) (c .state) (c .reductions)
-            ∙ (λ k. done (record { free = sym (c .free) k; torsion = sym (c .torsion) k }))
+            ∙ (λ k. done (record { free = sym (c .free) k; torsion = sym (c .torsion) k; peak = sym (c .peak) k; bits = sym (c .bits) k }))
 
         single-output : single .output ≡ written (list (c .rows) (c .state) i) coordinates′
         unfolding coordinateCall

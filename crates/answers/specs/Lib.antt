@@ -9,7 +9,9 @@ pub mod Printed
 pub mod ReportedPlaces
 pub mod Starts
 pub mod TwoReductions
+pub mod Headroom
 pub mod WideLaws
+pub mod LeastLimit
 pub mod ChainChecks
 pub mod Numbers
 pub mod ReportRight

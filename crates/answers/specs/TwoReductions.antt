@@ -140,10 +140,10 @@ module _ {most : ℕ} {K : Sections} (chains : ChainComplex most K) (rule : Rule
     abbrev x₁ : State
     x₁ = both .firstState
 
-    first-smith : machine.Reduced limit (firstSizes K p) (firstStart K p) r₁ x₁
+    pub first-smith : machine.Reduced limit (firstSizes K p) (firstStart K p) r₁ x₁
     first-smith = first-reduced r₁ x₁ (both .first)
 
-    second-smith : machine.Reduced limit (secondSizes K p r₁) (secondStart K p r₁ x₁) r x
+    pub second-smith : machine.Reduced limit (secondSizes K p r₁) (secondStart K p r₁ x₁) r x
     second-smith =
         reduce-smith limit (secondSizes K p r₁) rule is (secondStart K p r₁ x₁)
         (second-shaped K p r₁ x₁ (first-smith .shaped)) (second-within K p r₁ x₁ limit (first-smith .within) (both .narrow)) r x (both .second)

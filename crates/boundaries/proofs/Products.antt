@@ -1,23 +1,37 @@
--- A matrix Q times a boundary matrix: an entry is a sum over the faces of the column's cell (`product-entry`). A matrix that stands after
--- another in a slice is kept while that one is written (`contents-kept`).
+-- A matrix Q times a boundary matrix: an entry is a sum over the faces of the column's cell (`product-entry`), which a word holds
+-- (`signed-sum-small`). A matrix that stands after another in a slice is kept while that one is written (`contents-kept`).
 use mathlib.Core.Path.{_≡_, sym, ap, _∙_}
 use mathlib.Core.Logic.{inr}
 use mathlib.Core.List.{List}
-use Prim.Native.Nat.{ℕ, suc, _+_, _≤_, _<_}
+use Prim.Native.Nat.{ℕ, suc, _+_, _^_, _≤_, _<_}
 use native.Mathlib.Omega.{arith}
 use lib.ListN.{getD}
-use lib.IntN.{ℤ, _*ℤ_}
+use lib.IntN.{ℤ, natAbs, _*ℤ_}
+use Rattle.integers.specs.Order.{natAbs-mul}
 use Rattle.matrices.specs.Sum.{sum}
+use Rattle.matrices.specs.SumLaws.{natAbs-sum}
 use Rattle.matrices.specs.Matrix.{mul}
 use Rattle.matrices.specs.Matrix as theory
 use Rattle.complexes.specs.Complex.{Sections, count, Complex}
 use Rattle.complexes.specs.Boundary.{sign, boundary}
+use Rattle.complexes.specs.CoefficientLaws.{natAbs-sign}
+use Rattle.sheet_format.specs.Layout.{top}
 use Rattle.sheet_format.specs.Check.{sectionsOf, chainCells}
-use Rattle.lines.specs.Slice.{at, lineAt}
+use Rattle.lines.specs.Slice.{entryLimit, at, lineAt, Small}
 use Rattle.lines.specs.Matrices.{contents, end, Off}
 use Rattle.lines.specs.declared.matrix.Matrix.{Matrix}
 use Rattle.faces.specs.Face.{AreFaces}
 use Rattle.faces.proofs.Sums.{sum-places}
+
+-- the entry at places[t] of a line, times sign t
+abbrev pub signed : List ℤ → ℕ → List ℕ → ℕ → ℤ
+signed w line places t = at w (line + getD places t 0) *ℤ sign t
+
+pub signed-sum-small : (w : List ℤ) (line : ℕ) (places : List ℕ) (n : ℕ) → Small w → n ≤ suc top → natAbs (sum n (signed w line places)) ≤ 2 ^ 33
+signed-sum-small w line places n small few = omega (arith, natAbs-sum n (signed w line places) entryLimit (λ k l. term k))
+  where
+    term : (k : ℕ) → natAbs (signed w line places k) ≤ entryLimit
+    term k = rw (natAbs-mul (at w (line + getD places k 0)) (sign k), natAbs-sign k) (omega (arith, small .bound (line + getD places k 0)))
 
 -- the matrix q of a slice times the boundary matrix of dimension p + 1 of the cells K
 abbrev pub product : Sections → ℕ → Matrix → List ℤ → theory.Matrix

@@ -1,4 +1,4 @@
--- One entry of a matrix in a slice is set: `entry-set`. What that leaves of a matrix (`holds-set`) and of a column that is being filled
+-- One entry of a matrix in a slice is set: `entry-set`. What that leaves of a matrix (`matrix-set`) and of a column that is being filled
 -- (`column-set`).
 use mathlib.Core.Path.{_≡_, sym, ap, _∙_}
 use mathlib.Core.Logic.{_⊎_, inl, inr, ⊎-elim, _≢_}
@@ -7,15 +7,15 @@ use Prim.Native.Nat.{ℕ, _+_, _<_, _≤_}
 use native.Mathlib.Omega.{arith}
 use native.Mathlib.Decide.{ℕ-discrete, decLt}
 use lib.ListN.{length, set, length-set}
-use lib.IntN.{ℤ, natAbs}
+use lib.IntN.{ℤ}
 use Rattle.matrices.specs.Matrix as theory
-use Rattle.lines.specs.Slice.{entryLimit, at, lineAt, Small}
+use Rattle.lines.specs.Slice.{at, lineAt}
 use Rattle.lines.specs.Slice as slice
-use Rattle.lines.specs.Matrices.{Held, contents, Off, Holds}
+use Rattle.lines.specs.Matrices.{Held, contents, Off}
 use Rattle.lines.specs.declared.matrix.Matrix.{Matrix}
-use Rattle.lines.proofs.Store.{at-set-same, at-set-other, small-set}
+use Rattle.lines.proofs.Store.{at-set-same, at-set-other}
 use Rattle.lines.proofs.Spans.{Span, span-inside, span-off, span-outside}
-use Rattle.boundaries.specs.Column.{ColumnFilled}
+use Rattle.boundaries.specs.Filled.{MatrixFilled, ColumnFilled}
 
 -- the place of entry i, j of M
 pub record Place (M : Matrix) (n i j place : ℕ) : Type 0 where
@@ -30,7 +30,6 @@ pub record EntrySet (M : Matrix) (w : List ℤ) (i j : ℕ) (v : ℤ) (w′ : Li
   pub on : contents M w′ i j ≡ v
   pub beside : (a b : ℕ) → b < M .width → (a ≢ i) ⊎ (b ≢ j) → contents M w′ a b ≡ contents M w a b
   pub off : (k : ℕ) → Off M k → at w′ k ≡ at w k
-  pub small : Small w′
 
 module _ {M : Matrix} {n i j place : ℕ} (e : Place M n i j place) where
   span : Span M place i j 1
@@ -39,13 +38,12 @@ module _ {M : Matrix} {n i j place : ℕ} (e : Place M n i j place) where
   pub place-inside : place + 1 ≤ n
   place-inside = span-inside span (e .held)
 
-  pub entry-set : (w : List ℤ) (v : ℤ) → length w ≡ n → Small w → natAbs v ≤ entryLimit → EntrySet M w i j v (set w place v)
-  entry-set w v s h l = record {
+  pub entry-set : (w : List ℤ) (v : ℤ) → length w ≡ n → EntrySet M w i j v (set w place v)
+  entry-set w v s = record {
     same-length = length-set w place v;
     on = ap (at (set w place v)) (sym (e .is)) ∙ at-set-same w place v inside;
     beside = λ a b k o. at-set-other w place v inside (lineAt (M .at) (M .width) a + b) (apart (span-off span a b k (⊎-elim inl (λ d. inr (other d (decLt b j))) o)));
     off = λ k o. at-set-other w place v inside k (apart (span-outside span k o));
-    small = small-set w place v inside h l;
   }
     where
       inside : place < length w
@@ -60,12 +58,11 @@ module _ {M : Matrix} {n i j place : ℕ} (e : Place M n i j place) where
 
 module _ {M : Matrix} {w₀ w w′ : List ℤ} {A : theory.Matrix} {i j : ℕ} {v : ℤ} (e : EntrySet M w i j v w′) (B : theory.Matrix)
     (on : B i j ≡ v) where
-  pub holds-set : Holds M w₀ A w → ((a b : ℕ) → a < M .lines → b < M .width → (a ≢ i) ⊎ (b ≢ j) → B a b ≡ A a b) → Holds M w₀ B w′
-  holds-set h beside = record {
+  pub matrix-set : MatrixFilled M w₀ A w → ((a b : ℕ) → a < M .lines → b < M .width → (a ≢ i) ⊎ (b ≢ j) → B a b ≡ A a b) → MatrixFilled M w₀ B w′
+  matrix-set h beside = record {
     same-length = e .same-length ∙ h .same-length;
     on = record { at = λ a b k l. pick a b k l (ℕ-discrete a i) (ℕ-discrete b j) };
     off = λ k o. e .off k o ∙ h .off k o;
-    small = e .small;
   }
     where
       rest : (a b : ℕ) → a < M .lines → b < M .width → (a ≢ i) ⊎ (b ≢ j) → contents M w′ a b ≡ B a b
@@ -82,7 +79,6 @@ module _ {M : Matrix} {w₀ w w′ : List ℤ} {A : theory.Matrix} {i j : ℕ} {
     on = λ a k. pick a k (ℕ-discrete a i);
     beside = λ a b k m d. e .beside a b m (inr d) ∙ h .beside a b k m d;
     off = λ k o. e .off k o ∙ h .off k o;
-    small = e .small;
   }
     where
       pick : (a : ℕ) → a < M .lines → Dec (a ≡ i) → contents M w′ a j ≡ B a j

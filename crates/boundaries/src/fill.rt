@@ -7,10 +7,9 @@ ghost use Rattle.complexes.specs.Complex.{count};
 ghost use Rattle.complexes.specs.Boundary.{boundary};
 ghost use Rattle.sheet_format.specs.Layout.{top};
 ghost use Rattle.sheet_format.specs.Check.{chainCells};
-ghost use Rattle.lines.specs.Slice.{Small};
-ghost use Rattle.lines.specs.Matrices.{Held, contents, Holds};
+ghost use Rattle.lines.specs.Matrices.{Held, contents};
 ghost use Rattle.faces.specs.Face.{Accepted};
-ghost use Rattle.boundaries.specs.Column.{ColumnFilled};
+ghost use Rattle.boundaries.specs.Filled.{MatrixFilled, ColumnFilled};
 use cells::face::FACES;
 use faces::face::face_places;
 use faces::face::sign;
@@ -20,7 +19,7 @@ use lines::matrix::Matrix;
 fn fill_column(s: &[u8], p: usize, m: Matrix, w: &mut [i32], j: usize, places: &mut [usize; FACES])
     requires { ⌜ Accepted (now s) × (p < top) × (length (now places) ≡ suc top) ⌝ }
     requires { ⌜ (m .lines ≡ count (chainCells (now s)) p) × (m .width ≡ count (chainCells (now s)) (suc p)) × (j < m .width) ⌝ }
-    requires { ⌜ Held (length (now w)) m × Small (now w) ⌝ }
+    requires { ⌜ Held (length (now w)) m ⌝ }
     requires { ⌜ ((i : ℕ) → i < m .lines → contents m (now w) i j ≡ null i j) ⌝ }
     ensures { λ r. ⌜ ColumnFilled m (now (w .entry)) (boundary (chainCells (now (s .entry))) (suc p)) j (now (w .exit)) ⌝ }
     ensures { λ r. ⌜ length (now (places .exit)) ≡ suc top ⌝ }
@@ -38,8 +37,8 @@ fn fill_column(s: &[u8], p: usize, m: Matrix, w: &mut [i32], j: usize, places: &
 pub fn fill_boundary(s: &[u8], p: usize, m: Matrix, w: &mut [i32])
     requires { ⌜ Accepted (now s) × (p < top) ⌝ }
     requires { ⌜ (m .lines ≡ count (chainCells (now s)) p) × (m .width ≡ count (chainCells (now s)) (suc p)) ⌝ }
-    requires { ⌜ Held (length (now w)) m × Small (now w) × Eq (m .lines) (m .width) (contents m (now w)) null ⌝ }
-    ensures { λ r. ⌜ Holds m (now (w .entry)) (boundary (chainCells (now (s .entry))) (suc p)) (now (w .exit)) ⌝ }
+    requires { ⌜ Held (length (now w)) m × Eq (m .lines) (m .width) (contents m (now w)) null ⌝ }
+    ensures { λ r. ⌜ MatrixFilled m (now (w .entry)) (boundary (chainCells (now (s .entry))) (suc p)) (now (w .exit)) ⌝ }
 {
     let mut places = [0usize; FACES];
     let mut j: usize = 0;
@@ -52,8 +51,8 @@ pub fn fill_boundary(s: &[u8], p: usize, m: Matrix, w: &mut [i32])
 
 // Writes the identity.
 pub fn fill_identity(m: Matrix, w: &mut [i32])
-    requires { ⌜ Held (length (now w)) m × Small (now w) × (m .lines ≡ m .width) × Eq (m .lines) (m .width) (contents m (now w)) null ⌝ }
-    ensures { λ r. ⌜ Holds m (now (w .entry)) identity (now (w .exit)) ⌝ }
+    requires { ⌜ Held (length (now w)) m × (m .lines ≡ m .width) × Eq (m .lines) (m .width) (contents m (now w)) null ⌝ }
+    ensures { λ r. ⌜ MatrixFilled m (now (w .entry)) identity (now (w .exit)) ⌝ }
 {
     let mut i: usize = 0;
     let lines = m.lines;

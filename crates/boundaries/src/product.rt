@@ -10,13 +10,14 @@ ghost use Rattle.complexes.specs.Boundary as spec;
 ghost use Rattle.complexes.specs.Boundary.{boundary};
 ghost use Rattle.sheet_format.specs.Layout.{top};
 ghost use Rattle.sheet_format.specs.Check.{chainCells};
-ghost use Rattle.lines.specs.Slice.{Small, at};
+ghost use Rattle.lines.specs.Slice.{Small, Under, at};
 ghost use Rattle.lines.specs.Matrices.{Held, contents, end, Became};
 ghost use Rattle.faces.specs.Face.{Accepted};
 ghost use Rattle.boundaries.specs.Column.{atPlaces, ColumnBecame};
 use cells::face::FACES;
 use faces::face::face_places;
 use faces::face::sign;
+use lines::absolute::absolute;
 use lines::line::Effect;
 use lines::line::Written;
 use lines::matrix::Matrix;
@@ -48,50 +49,55 @@ fn multiply_column(
     j: usize,
     places: [usize; FACES],
     faces: usize,
+    peak: u64,
 ) -> Effect
     requires { ⌜ (m .lines ≡ q .lines) × (j < m .width) × (faces ≤ suc top) ⌝ }
     requires { ⌜ ((t : ℕ) → t < faces → getD places t 0 < q .width) ⌝ }
-    requires { ⌜ Held (length (now w)) q × (end m ≤ q .at) × Small (now w) ⌝ }
-    ensures { λ r. ⌜ ColumnBecame m (now (w .entry)) (atPlaces q (now (w .entry)) places faces) j r (now (w .exit)) ⌝ }
+    requires { ⌜ Held (length (now w)) q × (end m ≤ q .at) × Under peak (now w) ⌝ }
+    ensures { λ r. ⌜ ColumnBecame m (now (w .entry)) (atPlaces q (now (w .entry)) places faces) j peak r (now (w .exit)) ⌝ }
 {
     let lines = q.lines;
     let width = q.width;
+    let mut largest = peak;
     let mut i: usize = 0;
     while i < lines {
         let v = line_product(w, q.line(i), width, places, faces);
-        if v < -Matrix::ENTRY_LIMIT {
-            return Effect::TooWide;
-        }
-        if Matrix::ENTRY_LIMIT < v {
-            return Effect::TooWide;
+        let size = absolute(v);
+        if largest < size {
+            if (Matrix::ENTRY_LIMIT as u64) < size {
+                return Effect::TooWide;
+            }
+            largest = size;
         }
         let at = m.line(i) + j;
         w[at] = v as i32;
         i = i + 1;
     }
-    Effect::Done(Written {})
+    Effect::Done(Written { peak: largest })
 }
 
 // Makes of m the product of q and the boundary matrix of dimension p + 1.
-pub fn multiply(s: &[u8], p: usize, q: Matrix, m: Matrix, w: &mut [i32]) -> Effect
+pub fn multiply(s: &[u8], p: usize, q: Matrix, m: Matrix, w: &mut [i32], peak: u64) -> Effect
     requires { ⌜ Accepted (now s) ⌝ }
     requires { ⌜ (q .width ≡ count (chainCells (now s)) p) × (m .width ≡ count (chainCells (now s)) (suc p)) × (m .lines ≡ q .lines) ⌝ }
-    requires { ⌜ Held (length (now w)) q × (end m ≤ q .at) × Small (now w) ⌝ }
+    requires { ⌜ Held (length (now w)) q × (end m ≤ q .at) × Under peak (now w) ⌝ }
     ensures { λ r. ⌜
         Became m (now (w .entry))
-        (mul (q .width) (contents q (now (w .entry))) (boundary (chainCells (now (s .entry))) (suc p))) r
+        (mul (q .width) (contents q (now (w .entry))) (boundary (chainCells (now (s .entry))) (suc p))) peak r
         (now (w .exit))
         ⌝ }
 {
     let mut places = [0usize; FACES];
+    let mut largest = peak;
     let mut j: usize = 0;
     let columns = m.width;
     while j < columns {
         face_places(s, p, j, &mut places);
-        let Effect::Done(_) = multiply_column(q, m, w, j, places, p + 2) else {
+        let Effect::Done(written) = multiply_column(q, m, w, j, places, p + 2, largest) else {
             return Effect::TooWide;
         };
+        largest = written.peak;
         j = j + 1;
     }
-    Effect::Done(Written {})
+    Effect::Done(Written { peak: largest })
 }

@@ -7,13 +7,14 @@ use lib.IntN.{ℤ, pos}
 use lib.ListN.{length, replicate}
 use Rattle.reduction_steps.specs.State.{State}
 use Rattle.reports.specs.Reductions.{Reductions, tooWide, reduced}
-use Rattle.reports.specs.Report.{freeRank, torsionCount}
+use Rattle.reports.specs.Report.{countsOf}
 use Rattle.reports.specs.Call as definition
 use Rattle.reports.specs.Call.{finished}
 use Rattle.reports.specs.CallLaws.{call}
 use Rattle.refusal.specs.Number.{numberOf}
 use Rattle.refusal.specs.declared.Refusal.{Refusal}
 use Rattle.refusal.specs.declared.Refusal.the-variants as refusal
+use Rattle.writers.specs.Written.{countsIn}
 use Rattle.writers.specs.declared.reduced.Counts.{Counts}
 use Rattle.calls.specs.Answer.{CallAnswers}
 use Rattle.calls.specs.declared.answer.Answer.the-variants.{Done, Refused}
@@ -34,7 +35,7 @@ module _ (before : ℕ) (R : Reductions) (left : ℕ → ℕ → State → List 
     goes-wide e f = rw (passes, e) (record { answer = refl; output-is = refl; work-is = f })
 
     pub is-done : {s r : ℕ} {x : State} {counts : Counts} {output′ work′ : List ℤ} → R ≡ reduced s r x
-        → counts .free ≡ freeRank s r → counts .torsion ≡ torsionCount r x → output′ ≡ left s r x → work′ ≡ replicate (length work) (pos 0)
+        → countsIn counts ≡ countsOf s r x → output′ ≡ left s r x → work′ ≡ replicate (length work) (pos 0)
         → CallAnswers (call before R left output work) (Done counts) output′ work′
     unfolding finished
-    is-done e f t o w = rw (passes, e) (record { answer = cc; output-is = o; work-is = w })
+    is-done e c o w = rw (passes, e) (record { answer = ap definition.done c; output-is = o; work-is = w })

@@ -1,11 +1,11 @@
 -- Between the two reductions Q is the lines of the inverse from the rank on and G the columns of V from the rank on, which are the same places of
 -- the slice: later-lines. After the product the slice holds the start of the second reduction: second-state, product-narrow; or the product
 -- goes beyond the limit: product-beyond.
-use mathlib.Core.Path.{_≡_, sym, subst, _∙_, ap}
+use mathlib.Core.Path.{_≡_, refl, sym, subst, _∙_, ap}
 use mathlib.Core.Bool.{true, false}
 use mathlib.Core.List.{List}
-use Prim.Native.Nat.{ℕ, suc, _+_, _*_, _-_, _≤_}
-use native.Mathlib.Nat.{add-mul}
+use Prim.Native.Nat.{ℕ, suc, _+_, _*_, _-_, _≤_, _<_, max}
+use native.Mathlib.Nat.{add-mul, le-refl, le-trans, le-antisymm, le-max-left, le-max-right, max-le}
 use native.Mathlib.Omega.{arith}
 use lib.IntN.{ℤ, pos, natAbs}
 use lib.ListN.{getD, drop}
@@ -14,18 +14,21 @@ use Rattle.matrices.specs.Matrix as theory
 use Rattle.matrices.specs.Product.{Eq-refl, mul-ext}
 use Rattle.complexes.specs.Complex.{Sections, count}
 use Rattle.complexes.specs.Boundary.{countBelow, boundary}
-use Rattle.reduction_steps.specs.Table.{entry, table, tableWithin}
-use Rattle.reduction_laws.specs.Tables.{entry-table, table-ext, tableWithin-table, tableWithin-false}
+use Rattle.reduction_steps.specs.Table.{Table, entry, table, tableLargest, tableWithin}
+use Rattle.reduction_steps.specs.State.{State, largest}
+use Rattle.reduction_laws.specs.Tables.{entry-table, table-ext, tableLargest-table, tableWithin-table, tableWithin-false}
 use Rattle.reduction_laws.specs.Shape.{Shaped}
-use Rattle.reports.specs.Reductions.{firstSizes, secondSizes, secondStart, product}
+use Rattle.reports.specs.Reductions.{firstSizes, secondSizes, secondStart, product, absent}
 use Rattle.reports.specs.Call.{workSlots}
 use Rattle.limits.specs.Limits.{entryLimit}
 use Rattle.answers.specs.Starts.{second-shaped, entry-drop}
 use Rattle.lines.specs.Slice.{lineAt}
 use Rattle.lines.specs.Matrices.{contents, Holds, Exceeds}
 use Rattle.lines.specs.declared.matrix.Matrix.{Matrix}
+use Rattle.lines.specs.declared.line.Written.{Written}
 use Rattle.operations.specs.Laid.{Laid, linesOf, stateOf}
 use Rattle.operations.proofs.Regions.{lines-off, lines-on}
+use Rattle.operations.proofs.Operate.{largest-under}
 use Rattle.operations.specs.Layouts.{matrixAt, firstLayout, secondLayout}
 use Rattle.calls.specs.Slices.{firstLayoutOf, secondLayoutOf}
 use Rattle.calls.proofs.Places.{second-laid, matrix-row-inverse, matrix-row-follower}
@@ -42,8 +45,13 @@ later-lines at lines width r w = record {
       ∙ sym (entry-drop r (table lines width (contents (matrixAt at lines width) w)) i j);
 }
 
-module _ (K : Sections) (p n r : ℕ) (slots : workSlots K p ≤ n) (within : r ≤ count K p) (w : List ℤ)
-    (shaped : Shaped (firstSizes K p) (stateOf (firstLayoutOf K p) w)) where
+-- the matrix's largest entry is one of the state's
+matrix-largest : (s : State) → tableLargest (s .matrix) ≤ largest s
+unfolding largest
+matrix-largest s = omega arith
+
+module _ (K : Sections) (p n r : ℕ) (slots : workSlots K p ≤ n) (within : r ≤ count K p) (peak : ℕ) (w : List ℤ)
+    (shaped : Shaped (firstSizes K p) (stateOf (firstLayoutOf K p) peak w)) where
   -- Q times the boundary matrix of dimension p + 1
   abbrev pub multiplied : theory.Matrix
   multiplied = mul (count K p) (contents (secondLayoutOf K p r .«row_follower») w) (boundary K (suc p))
@@ -53,45 +61,75 @@ module _ (K : Sections) (p n r : ℕ) (slots : workSlots K p ≤ n) (within : r 
       second-laid (count K p) (countBelow K p) (count K (suc p)) slots r within
 
   Q-is : Eq (count K p - r) (count K p) (contents (secondLayoutOf K p r .«row_follower») w)
-      (entry (drop r (stateOf (firstLayoutOf K p) w .columnInverse)))
-  unfolding firstLayout secondLayout stateOf
+      (entry (drop r (stateOf (firstLayoutOf K p) peak w .columnInverse)))
+  unfolding firstLayout secondLayout
   Q-is = later-lines _ (count K p) (count K p) r w
 
   G-is : Eq (count K p - r) (count K p) (contents (secondLayoutOf K p r .«row_inverse») w)
-      (entry (drop r (stateOf (firstLayoutOf K p) w .columnFollower)))
-  unfolding firstLayout secondLayout stateOf
+      (entry (drop r (stateOf (firstLayoutOf K p) peak w .columnFollower)))
+  unfolding firstLayout secondLayout
   G-is = later-lines _ (count K p) (count K p) r w
 
-  product-is : table (count K p - r) (count K (suc p)) multiplied ≡ product K p r (stateOf (firstLayoutOf K p) w)
+  product-is : table (count K p - r) (count K (suc p)) multiplied ≡ product K p r (stateOf (firstLayoutOf K p) peak w)
   unfolding product
   product-is = table-ext (mul-ext Q-is (Eq-refl (count K p) (count K (suc p)) (boundary K (suc p))))
 
-  module _ {w′ : List ℤ} (h : Holds (secondLayoutOf K p r .matrix) w multiplied w′) where
-    pub second-state : stateOf (secondLayoutOf K p r) w′ ≡ secondStart K p r (stateOf (firstLayoutOf K p) w)
-    unfolding stateOf linesOf secondLayout secondStart
-    second-state =
+  module _ {x : Written} {w′ : List ℤ} (h : Holds (secondLayoutOf K p r .matrix) w multiplied peak x w′) where
+    -- before the peak takes in what stands there
+    abbrev begun : ℕ → State
+    begun top = record {
+      matrix = product K p r (stateOf (firstLayoutOf K p) peak w);
+      rowFollower = drop r (stateOf (firstLayoutOf K p) peak w .columnInverse);
+      rowInverse = drop r (stateOf (firstLayoutOf K p) peak w .columnFollower);
+      columnFollower = absent (count K (suc p));
+      columnInverse = absent (count K (suc p));
+      peak = top;
+    }
+
+    tables : (top : ℕ) → stateOf (secondLayoutOf K p r) top w′ ≡ begun top
+    unfolding linesOf secondLayout secondStart
+    tables top =
         state-is
         (lines-on h ∙ product-is)
         (lines-off (matrix-row-follower laid-second) h ∙ table-ext Q-is ∙ sym (later .rowFollower))
         (lines-off (matrix-row-inverse laid-second) h ∙ table-ext G-is ∙ sym (later .rowInverse))
         (lines-absent end (count K (suc p)) w′)
         (lines-absent end (count K (suc p)) w′)
+        refl
       where
-        later : Shaped (secondSizes K p r) (secondStart K p r (stateOf (firstLayoutOf K p) w))
-        later = second-shaped K p r (stateOf (firstLayoutOf K p) w) shaped
+        later : Shaped (secondSizes K p r) (secondStart K p r (stateOf (firstLayoutOf K p) peak w))
+        later = second-shaped K p r (stateOf (firstLayoutOf K p) peak w) shaped
 
         end : ℕ
         end = secondLayoutOf K p r .«column_follower» .at
 
-    pub product-narrow : tableWithin entryLimit (product K p r (stateOf (firstLayoutOf K p) w)) ≡ true
+    -- the peak that the product answers is the larger of the one before and the largest entry now
+    peak-is : x .peak ≡ max peak (largest (begun peak))
+    unfolding secondLayout
+    peak-is =
+        le-antisymm
+        (h .least (max peak (largest (begun peak))) (le-max-left peak (largest (begun peak)))
+        (λ i j a b. le-trans (entry-product i j a b) (le-trans (matrix-largest (begun peak)) (le-max-right peak (largest (begun peak))))))
+        (max-le (h .above) (subst (λ (s : State). largest s ≤ x .peak) (tables peak) (largest-under (secondLayoutOf K p r) peak (h .under))))
+      where
+        entry-product : (i j : ℕ) → i < count K p - r → j < count K (suc p) → natAbs (multiplied i j) ≤ tableLargest (begun peak .matrix)
+        entry-product =
+            tableLargest-table (tableLargest (begun peak .matrix)) (count K p - r) (count K (suc p)) multiplied .0
+            (subst (λ (T : Table). tableLargest T ≤ tableLargest (begun peak .matrix)) (sym product-is) (le-refl (tableLargest (begun peak .matrix))))
+
+    pub second-state : stateOf (secondLayoutOf K p r) (x .peak) w′ ≡ secondStart K p r (stateOf (firstLayoutOf K p) peak w)
+    unfolding secondStart
+    second-state = tables (x .peak) ∙ ap begun peak-is
+
+    pub product-narrow : tableWithin entryLimit (product K p r (stateOf (firstLayoutOf K p) peak w)) ≡ true
     unfolding secondLayout
     product-narrow =
         rw (← product-is)
         (tableWithin-table entryLimit (count K p - r) (count K (suc p)) multiplied .1
-        (λ i j s t. subst (λ (x : ℤ). natAbs x ≤ entryLimit) (h .on .at i j s t) (h .small .bound (lineAt 0 (count K (suc p)) i + j))))
+        (λ i j s t. subst (λ (x : ℤ). natAbs x ≤ entryLimit) (h .on .at i j s t) (le-trans (h .under .bound (lineAt 0 (count K (suc p)) i + j)) (h .under .limit))))
 
   pub product-beyond : {w′ : List ℤ} → Exceeds (secondLayoutOf K p r .matrix) w multiplied w′
-      → tableWithin entryLimit (product K p r (stateOf (firstLayoutOf K p) w)) ≡ false
+      → tableWithin entryLimit (product K p r (stateOf (firstLayoutOf K p) peak w)) ≡ false
   unfolding secondLayout
   product-beyond h =
       rw (← product-is)

@@ -25,10 +25,9 @@ use Rattle.refusal.specs.Number.{numberOf}
 use Rattle.refusal.specs.NumberLaws.{number-positive}
 use Rattle.refusal.specs.declared.Refusal.{Refusal}
 use Rattle.refusal.specs.declared.Refusal.the-variants as refusal
-use Rattle.writers.specs.Written.{Counted, CanList, coordinatesOf}
+use Rattle.writers.specs.Written.{stateIn, Counted, CanList, coordinatesOf}
 use Rattle.writers.specs.declared.reduced.Counts.{Counts}
 use Rattle.writers.specs.declared.reduced.Reduced.{Reduced}
-use Rattle.operations.specs.Laid.{stateOf}
 use Rattle.passes.specs.Answer.{Cleared}
 use Rattle.calls.specs.Answer.{CallAnswers}
 use Rattle.calls.specs.declared.admission.Sizes.{Sizes}
@@ -109,8 +108,8 @@ module _ (l : Lent) (number : ℕ) (chains : List ℤ) where
               → CallAnswers listsCalled (Done counts) coordinates′ work′
           unfolding coordinateListsCall
           lists-done k o e =
-              is-done before-reductions (twice (asked l)) left (l .output) (l .work) (cycles-next ∙ passed) (h .is) (k .free) (k .torsion)
+              is-done before-reductions (twice (asked l)) left (l .output) (l .work) (cycles-next ∙ passed) (h .is) k
               (o
-              ∙ ap (λ (width : ℕ). splices cells (λ i. coordinateList width (x .layout .matrix .lines) (stateOf (x .layout) w) (chainAt cells chains i)) number (l .output))
+              ∙ ap (λ (width : ℕ). splices cells (λ i. coordinateList width (x .layout .matrix .lines) (stateIn x w) (chainAt cells chains i)) number (l .output))
               (follower-width pivotRule-is-rule (g .chains) (g .passed .work-slots) h))
               (e ∙ ap (λ (m : ℕ). replicate m (pos 0)) (h .kept .same-length))

@@ -33,13 +33,13 @@ use Rattle.refusal.specs.declared.Refusal.{Refusal}
 use Rattle.refusal.specs.declared.Refusal.the-variants as refusal
 use Rattle.operations.specs.Laid.{Laid, stateOf}
 use Rattle.operations.specs.declared.layout.Layout.{Layout}
-use Rattle.passes.specs.Answer.{Cleared, StillSmall}
+use Rattle.passes.specs.Answer.{Cleared, StillUnder}
 use Rattle.reducer.specs.Answer.{Reduces, ReductionDone, ReductionRefused, reductionOf}
 use Rattle.reducer.specs.declared.reduction.Reduction.{Reduction}
 use Rattle.reducer.specs.declared.reduction.Reduction.the-variants as reduction
 use Rattle.writers.specs.declared.reduced.Reduced.{Reduced}
 use Rattle.operations.specs.Layouts.{firstLayout, secondLayout}
-use Rattle.calls.specs.Slices.{firstLayoutOf, secondLayoutOf, Filled, TwiceReduced}
+use Rattle.calls.specs.Slices.{firstLayoutOf, secondLayoutOf, startPeak, Filled, TwiceReduced}
 use Rattle.calls.specs.declared.reductions.Reductions.the-variants.{Done, Refused}
 use Rattle.calls.proofs.Places.{held-row-follower}
 use Rattle.calls.proofs.Between.{laid-second, second-state, product-narrow, product-beyond}
@@ -54,43 +54,43 @@ cleared-length {n} h = ap length (h .zeros) ∙ length-replicate n (pos 0)
 -- ---- the case that a call answered
 
 module _ (W : Layout) {y : Machine} {n : ℕ} {w : List ℤ} (x : Reduction) where
-  pub reduces-done : {r : ℕ} → x ≡ reduction.Done r → Reduces W y n x w → ReductionDone W y n r w
+  pub reduces-done : {r peak : ℕ} → x ≡ reduction.Done r peak → Reduces W y n x w → ReductionDone W y n r peak w
   reduces-done e h = subst (λ (z : Reduction). Reduces W y n z w) e h
 
   pub reduces-refused : {z : Refusal} → x ≡ reduction.Refused z → Reduces W y n x w → ReductionRefused y n z w
   reduces-refused e h = subst (λ (z : Reduction). Reduces W y n z w) e h
 
-module _ {M : Matrix} {w w′ : List ℤ} {A : theory.Matrix} (x : Effect) where
-  pub became-done : {a : Written} → x ≡ written.Done a → Became M w A x w′ → Holds M w A w′
-  became-done e h = subst (λ (z : Effect). Became M w A z w′) e h
+module _ {M : Matrix} {w w′ : List ℤ} {A : theory.Matrix} (peak : ℕ) (x : Effect) where
+  pub became-done : {a : Written} → x ≡ written.Done a → Became M w A peak x w′ → Holds M w A peak a w′
+  became-done e h = subst (λ (z : Effect). Became M w A peak z w′) e h
 
-  pub became-wide : x ≡ written.TooWide → Became M w A x w′ → Exceeds M w A w′
-  became-wide e h = subst (λ (z : Effect). Became M w A z w′) e h
+  pub became-wide : x ≡ written.TooWide → Became M w A peak x w′ → Exceeds M w A w′
+  became-wide e h = subst (λ (z : Effect). Became M w A peak z w′) e h
 
 module _ {rule : Rule} (is-rule : IsRule rule) (K : Sections) (p n : ℕ) (chains : ChainComplex libraryLimit K) (slots : workSlots K p ≤ n) where
-  -- the first reduction is done with rank r, and the slice holds the state that it leaves
-  pub record FirstDone (r : ℕ) (w : List ℤ) : Type 0 where
-    pub outcome : reduce entryLimit (firstSizes K p) rule (firstStart K p) ≡ done r (stateOf (firstLayoutOf K p) w)
+  -- the first reduction is done with rank r, and the slice holds the state that it leaves, with the peak
+  pub record FirstDone (r peak : ℕ) (w : List ℤ) : Type 0 where
+    pub outcome : reduce entryLimit (firstSizes K p) rule (firstStart K p) ≡ done r (stateOf (firstLayoutOf K p) peak w)
     pub rank-within : r ≤ count K p
-    pub shaped : Shaped (firstSizes K p) (stateOf (firstLayoutOf K p) w)
-    pub kept : StillSmall n w
+    pub shaped : Shaped (firstSizes K p) (stateOf (firstLayoutOf K p) peak w)
+    pub kept : StillUnder n peak w
 
   -- the product lies within the limit, and the slice holds the start of the second reduction
-  pub record SecondStarted (r : ℕ) (w w′ : List ℤ) : Type 0 where
-    pub first : FirstDone r w
-    pub state : stateOf (secondLayoutOf K p r) w′ ≡ secondStart K p r (stateOf (firstLayoutOf K p) w)
-    pub narrow : tableWithin entryLimit (product K p r (stateOf (firstLayoutOf K p) w)) ≡ true
-    pub kept : StillSmall n w′
+  pub record SecondStarted (r peak : ℕ) (w : List ℤ) (peak′ : ℕ) (w′ : List ℤ) : Type 0 where
+    pub first : FirstDone r peak w
+    pub state : stateOf (secondLayoutOf K p r) peak′ w′ ≡ secondStart K p r (stateOf (firstLayoutOf K p) peak w)
+    pub narrow : tableWithin entryLimit (product K p r (stateOf (firstLayoutOf K p) peak w)) ≡ true
+    pub kept : StillUnder n peak′ w′
 
   -- ---- the first reduction
 
-  module _ (W : Layout) (is : W ≡ firstLayoutOf K p) {w : List ℤ} (f : Filled K p n w) where
+  module _ (W : Layout) (is : W ≡ firstLayoutOf K p) {w : List ℤ} (f : Filled K p n w) {peak : ℕ} (from : peak ≡ startPeak (count K p)) where
     -- it starts as the definition's
-    starts : reductionOf rule W w ≡ reduce entryLimit (firstSizes K p) rule (firstStart K p)
+    starts : reductionOf rule W peak w ≡ reduce entryLimit (firstSizes K p) rule (firstStart K p)
     unfolding firstLayout
-    starts = rw is (ap (reduce entryLimit (firstSizes K p) rule) (f .state))
+    starts = rw (is, from) (ap (reduce entryLimit (firstSizes K p) rule) (f .state))
 
-    pub first-refused : {x : Refusal} {w′ : List ℤ} → ReductionRefused (reductionOf rule W w) (length w) x w′
+    pub first-refused : {x : Refusal} {w′ : List ℤ} → ReductionRefused (reductionOf rule W peak w) (length w) x w′
         → TwiceReduced K p (reductionsOf rule K p) n (Refused refusal.TooWide) w′
     unfolding reductionsOf
     first-refused h = (
@@ -98,25 +98,25 @@ module _ {rule : Rule} (is-rule : IsRule rule) (K : Sections) (p n : ℕ) (chain
       cleared (f .kept .same-length) (h .cleared),
     )
 
-    pub first-done : {r : ℕ} {w′ : List ℤ} → ReductionDone W (reductionOf rule W w) (length w) r w′ → FirstDone r w′
-    first-done {r} {w′} h = record {
+    pub first-done : {r peak′ : ℕ} {w′ : List ℤ} → ReductionDone W (reductionOf rule W peak w) (length w) r peak′ w′ → FirstDone r peak′ w′
+    first-done {r} {peak′} {w′} h = record {
       outcome = outcome;
       rank-within = le-trans (right .bound) (min-le-right (countBelow K p) (count K p));
       shaped = right .shaped;
-      kept = record { same-length = h .kept .same-length ∙ f .kept .same-length; small = h .kept .small };
+      kept = record { same-length = h .kept .same-length ∙ f .kept .same-length; under = h .kept .under };
     }
       where
-        outcome : reduce entryLimit (firstSizes K p) rule (firstStart K p) ≡ done r (stateOf (firstLayoutOf K p) w′)
-        outcome = sym starts ∙ h .outcome ∙ ap (λ (X : Layout). done r (stateOf X w′)) is
+        outcome : reduce entryLimit (firstSizes K p) rule (firstStart K p) ≡ done r (stateOf (firstLayoutOf K p) peak′ w′)
+        outcome = sym starts ∙ h .outcome ∙ ap (λ (X : Layout). done r (stateOf X peak′ w′)) is
 
-        right : machine.Reduced entryLimit (firstSizes K p) (firstStart K p) r (stateOf (firstLayoutOf K p) w′)
-        right = first-reduced chains rule is-rule entryLimit p (omega arith) r (stateOf (firstLayoutOf K p) w′) outcome
+        right : machine.Reduced entryLimit (firstSizes K p) (firstStart K p) r (stateOf (firstLayoutOf K p) peak′ w′)
+        right = first-reduced chains rule is-rule entryLimit p (omega arith) r (stateOf (firstLayoutOf K p) peak′ w′) outcome
 
   -- ---- the product
 
-  module _ {r : ℕ} {w : List ℤ} (f : FirstDone r w) (W : Layout) (is : W ≡ secondLayoutOf K p r) where
+  module _ {r peak : ℕ} {w : List ℤ} (f : FirstDone r peak w) (W : Layout) (is : W ≡ secondLayoutOf K p r) where
     pub laid-then : Laid n W
-    laid-then = rw is (laid-second K p n r slots (f .rank-within) w (f .shaped))
+    laid-then = rw is (laid-second K p n r slots (f .rank-within) peak w (f .shaped))
 
     -- what `multiply` asks of Q and of the matrix
     pub Q-width : W .«row_follower» .width ≡ count K p
@@ -137,47 +137,47 @@ module _ {rule : Rule} (is-rule : IsRule rule) (K : Sections) (p n : ℕ) (chain
     pub product-refused : {w′ : List ℤ} → Exceeds (W .matrix) w asked w′ → reductionsOf rule K p ≡ reports.tooWide
     unfolding reductionsOf secondLayout
     product-refused {w′} h =
-        product-wide rule entryLimit K p r (stateOf (firstLayoutOf K p) w) (f .outcome)
-        (product-beyond K p n r slots (f .rank-within) w (f .shaped) (rw is at h))
+        product-wide rule entryLimit K p r (stateOf (firstLayoutOf K p) peak w) (f .outcome)
+        (product-beyond K p n r slots (f .rank-within) peak w (f .shaped) (rw is at h))
 
-    pub second-started : {w′ : List ℤ} → Holds (W .matrix) w asked w′ → SecondStarted r w w′
+    pub second-started : {x : Written} {w′ : List ℤ} → Holds (W .matrix) w asked peak x w′ → SecondStarted r peak w (x .peak) w′
     unfolding secondLayout
-    second-started {w′} h = record {
+    second-started {x} {w′} h = record {
       first = f;
-      state = second-state K p n r slots (f .rank-within) w (f .shaped) (rw is at h);
-      narrow = product-narrow K p n r slots (f .rank-within) w (f .shaped) (rw is at h);
-      kept = record { same-length = h .same-length ∙ f .kept .same-length; small = h .small };
+      state = second-state K p n r slots (f .rank-within) peak w (f .shaped) (rw is at h);
+      narrow = product-narrow K p n r slots (f .rank-within) peak w (f .shaped) (rw is at h);
+      kept = record { same-length = h .same-length ∙ f .kept .same-length; under = h .under };
     }
 
   -- ---- the second reduction
 
-  module _ {r : ℕ} {w w′ : List ℤ} (s : SecondStarted r w w′) (W : Layout) (is : W ≡ secondLayoutOf K p r) where
-    starts-again : reductionOf rule W w′ ≡ reduce entryLimit (secondSizes K p r) rule (secondStart K p r (stateOf (firstLayoutOf K p) w))
+  module _ {r peak : ℕ} {w : List ℤ} {peak′ : ℕ} {w′ : List ℤ} (s : SecondStarted r peak w peak′ w′) (W : Layout) (is : W ≡ secondLayoutOf K p r) where
+    starts-again : reductionOf rule W peak′ w′ ≡ reduce entryLimit (secondSizes K p r) rule (secondStart K p r (stateOf (firstLayoutOf K p) peak w))
     unfolding secondLayout
     starts-again = rw is (ap (reduce entryLimit (secondSizes K p r) rule) (s .state))
 
-    pub second-refused : {x : Refusal} {w″ : List ℤ} → ReductionRefused (reductionOf rule W w′) (length w′) x w″
+    pub second-refused : {x : Refusal} {w″ : List ℤ} → ReductionRefused (reductionOf rule W peak′ w′) (length w′) x w″
         → TwiceReduced K p (reductionsOf rule K p) n (Refused refusal.TooWide) w″
     unfolding reductionsOf
     second-refused h = (
-      second-wide rule entryLimit K p r (stateOf (firstLayoutOf K p) w) (s .first .outcome) (s .narrow) (sym starts-again ∙ h .outcome),
+      second-wide rule entryLimit K p r (stateOf (firstLayoutOf K p) peak w) (s .first .outcome) (s .narrow) (sym starts-again ∙ h .outcome),
       cleared (s .kept .same-length) (h .cleared),
     )
 
-    pub second-done : {last : ℕ} {w″ : List ℤ} → ReductionDone W (reductionOf rule W w′) (length w′) last w″
-        → TwiceReduced K p (reductionsOf rule K p) n (Done (record { layout = W; rank = last })) w″
+    pub second-done : {last peak″ : ℕ} {w″ : List ℤ} → ReductionDone W (reductionOf rule W peak′ w′) (length w′) last peak″ w″
+        → TwiceReduced K p (reductionsOf rule K p) n (Done (record { layout = W; rank = last; peak = peak″ })) w″
     unfolding reductionsOf secondLayout afterSecond
-    second-done {last} {w″} h = record {
+    second-done {last} {peak″} {w″} h = record {
       first-rank = r;
       rank-within = s .first .rank-within;
       layout-is = is;
       is = outcome;
-      rank-below = reductions-right chains rule is-rule entryLimit p (omega arith) (W .matrix .lines) last (stateOf W w″) outcome .rank-bound;
-      kept = record { same-length = h .kept .same-length ∙ s .kept .same-length; small = h .kept .small };
+      rank-below = reductions-right chains rule is-rule entryLimit p (omega arith) (W .matrix .lines) last (stateOf W peak″ w″) outcome .rank-bound;
+      kept = record { same-length = h .kept .same-length ∙ s .kept .same-length; under = h .kept .under };
     }
       where
-        outcome : reductionsOf rule K p ≡ reports.reduced (W .matrix .lines) last (stateOf W w″)
+        outcome : reductionsOf rule K p ≡ reports.reduced (W .matrix .lines) last (stateOf W peak″ w″)
         outcome =
-            after-second rule entryLimit K p r (stateOf (firstLayoutOf K p) w) (s .first .outcome) (s .narrow)
-            (done last (stateOf W w″)) (sym starts-again ∙ h .outcome)
-            ∙ ap (λ (k : ℕ). reports.reduced k last (stateOf W w″)) (sym (ap (λ (X : Layout). X .matrix .lines) is))
+            after-second rule entryLimit K p r (stateOf (firstLayoutOf K p) peak w) (s .first .outcome) (s .narrow)
+            (done last (stateOf W peak″ w″)) (sym starts-again ∙ h .outcome)
+            ∙ ap (λ (k : ℕ). reports.reduced k last (stateOf W peak″ w″)) (sym (ap (λ (X : Layout). X .matrix .lines) is))

@@ -15,10 +15,9 @@ use Rattle.reports.specs.RefusalLaws.{callChecks-zero}
 use Rattle.refusal.specs.Number.{numberOf}
 use Rattle.refusal.specs.declared.Refusal.{Refusal}
 use Rattle.refusal.specs.declared.Refusal.the-variants as refusal
-use Rattle.writers.specs.Written.{WroteReport}
+use Rattle.writers.specs.Written.{stateIn, WroteReport}
 use Rattle.writers.specs.declared.reduced.Counts.{Counts}
 use Rattle.writers.specs.declared.reduced.Reduced.{Reduced}
-use Rattle.operations.specs.Laid.{stateOf}
 use Rattle.passes.specs.Answer.{Cleared}
 use Rattle.calls.specs.Answer.{CallAnswers}
 use Rattle.calls.specs.declared.admission.Sizes.{Sizes}
@@ -57,8 +56,8 @@ module _ (l : Lent) where
         → work′ ≡ replicate (length w) (pos 0) → CallAnswers called (Done counts) report′ work′
     unfolding reportCall
     report-done {x} {w} h k e =
-        is-done before-report (twice (asked l)) left (l .output) (l .work) passes (h .is) (k .free) (k .torsion)
+        is-done before-report (twice (asked l)) left (l .output) (l .work) passes (h .is) (k .counts)
         (k .is
-        ∙ ap (λ (cells : ℕ). written (reportList cells (x .layout .matrix .lines) (x .rank) (stateOf (x .layout) w)) (l .output))
+        ∙ ap (λ (cells : ℕ). written (reportList cells (x .layout .matrix .lines) (x .rank) (stateIn x w)) (l .output))
         (inverse-width pivotRule-is-rule (g .chains) (g .passed .work-slots) h))
         (e ∙ ap (λ (m : ℕ). replicate m (pos 0)) (h .kept .same-length))

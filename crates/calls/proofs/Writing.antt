@@ -14,8 +14,9 @@ use Rattle.reports.specs.Call.{workSlots, reportSlots, reductionsOf}
 use Rattle.limits.specs.Limits.{entryLimit, coefficientLimit, libraryLimit}
 use Rattle.answers.specs.TwoReductions.{Right, reductions-right}
 use Rattle.lines.specs.Slice.{at}
-use Rattle.operations.specs.Laid.{Laid, stateOf}
-use Rattle.writers.specs.Written.{Kinds, CanReport, CanCount, CanCoordinate}
+use Rattle.lines.proofs.Peaks.{under-small}
+use Rattle.operations.specs.Laid.{Laid}
+use Rattle.writers.specs.Written.{stateIn, Kinds, CanReport, CanCount, CanCoordinate}
 use Rattle.writers.specs.declared.reduced.Reduced.{Reduced}
 use Rattle.operations.specs.Layouts.{secondLayout}
 use Rattle.calls.specs.Slices.{ReducedTwice}
@@ -28,13 +29,12 @@ module _ {rule : Rule} (is : IsRule rule) {K : Sections} {p n : ℕ} {x : Reduce
       rw (h .kept .same-length, h .layout-is)
       (second-laid (count K p) (countBelow K p) (count K (suc p)) slots (h .first-rank) (h .rank-within))
 
-  right : Right K p (x .layout .matrix .lines) (x .rank) (stateOf (x .layout) w)
+  right : Right K p (x .layout .matrix .lines) (x .rank) (stateIn x w)
   unfolding reductionsOf
   right =
-      reductions-right chains rule is entryLimit p (omega arith) (x .layout .matrix .lines) (x .rank) (stateOf (x .layout) w) (h .is)
+      reductions-right chains rule is entryLimit p (omega arith) (x .layout .matrix .lines) (x .rank) (stateIn x w) (h .is)
 
   kinds : Kinds (x .layout .matrix) w
-  unfolding stateOf
   kinds = record { nonneg = right .reduced .second .nonneg }
 
   pub inverse-width : x .layout .«row_inverse» .width ≡ count K p
@@ -65,7 +65,7 @@ module _ {rule : Rule} (is : IsRule rule) {K : Sections} {p n : ℕ} {x : Reduce
       → ((j : ℕ) → natAbs (at z j) ≤ coefficientLimit) → CanCoordinate x w z from m
   can-coordinate {z} {from} {m} room size small = record {
     laid = laid;
-    small = h .kept .small;
+    small = under-small (h .kept .under);
     kinds = kinds;
     room = omega (arith, right .rows-bound, room);
     width = follower-width ∙ sym size;

@@ -3,16 +3,11 @@ use mathlib.Core.Path.{_≡_}
 use mathlib.Core.List.{List}
 use lib.IntN.{ℤ}
 use Rattle.refusal.specs.Number.{numberOf}
-use Rattle.reports.specs.Report as report
 use Rattle.reports.specs.Call as call
 use Rattle.reports.specs.Call.{Called}
-use Rattle.writers.specs.declared.reduced.Counts.{Counts}
+pub use Rattle.writers.specs.Written.{countsIn}
 use Rattle.calls.specs.declared.answer.Answer.{Answer}
 use Rattle.calls.specs.declared.answer.Answer.the-variants.{Done, Refused}
-
--- the counts that a call answers
-abbrev pub countsIn : Counts → report.Counts
-countsIn counts = record { free = counts .free; torsion = counts .torsion }
 
 -- done with the counts, or refused with the number that document 01 gives the refusal
 abbrev pub answered : Answer → call.Answer

@@ -8,7 +8,7 @@ ghost use Rattle.reduction_steps.specs.Pivot.{pivotRule};
 ghost use Rattle.reports.specs.Call.{workSlots, reductionsOf};
 ghost use Rattle.faces.specs.Face.{Accepted};
 ghost use Rattle.calls.specs.Admission.{SizesRead};
-ghost use Rattle.calls.specs.Slices.{firstLayoutOf, Filled, TwiceReduced};
+ghost use Rattle.calls.specs.Slices.{firstLayoutOf, startPeak, Filled, TwiceReduced};
 use crate::admission::Sizes;
 use boundaries::fill::fill_boundary;
 use boundaries::fill::fill_identity;
@@ -42,6 +42,13 @@ fn fill_first(s: &[u8], p: usize, layout: Layout, w: &mut [i32])
     fill_identity(layout.column_inverse, w);
 }
 
+// The peak at the start of the first reduction: V and its inverse are identities, and no entry of the boundary matrix is larger.
+fn start_peak(cells: usize) -> u64
+    ensures { λ r. ⌜ r ≡ startPeak cells ⌝ }
+{
+    if cells == 0 { 0 } else { 1 }
+}
+
 // Reduces the boundary matrix of dimension p, then Q times the one of p + 1.
 pub fn reduce_twice(s: &[u8], p: usize, sizes: Sizes, w: &mut [i32]) -> Reductions
     requires { ⌜ Accepted (now s) × (p ≤ top) ⌝ }
@@ -51,19 +58,21 @@ pub fn reduce_twice(s: &[u8], p: usize, sizes: Sizes, w: &mut [i32]) -> Reductio
 {
     let first = Layout::first(sizes.cells, sizes.rows, sizes.columns);
     fill_first(s, p, first, w);
-    let Reduction::Done(rank) = reduce_matrix(first, w) else {
+    let Reduction::Done(rank, halfway) = reduce_matrix(first, w, start_peak(sizes.cells)) else {
         return Reductions::Refused(Refusal::TooWide);
     };
     let second = Layout::second(sizes.cells, sizes.rows, sizes.columns, rank);
-    let Effect::Done(_) = multiply(s, p, second.row_follower, second.matrix, w) else {
+    let Effect::Done(product) = multiply(s, p, second.row_follower, second.matrix, w, halfway)
+    else {
         clear(w);
         return Reductions::Refused(Refusal::TooWide);
     };
-    let Reduction::Done(last) = reduce_matrix(second, w) else {
+    let Reduction::Done(last, peak) = reduce_matrix(second, w, product.peak) else {
         return Reductions::Refused(Refusal::TooWide);
     };
     Reductions::Done(Reduced {
         layout: second,
         rank: last,
+        peak,
     })
 }

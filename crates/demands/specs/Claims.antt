@@ -5,10 +5,10 @@
 -- all input .. nothing undefined happens" (demand 1) is settled by the proof of every function, "nothing is assumed beyond 01's rule on overlapping
 -- slices" (demand 3) by calls without a `requires`. A slice of bytes meets `Bytes`: the contract of `Sheet::read` says so.
 use mathlib.Core.Path.{_≡_}
-use mathlib.Core.Logic.{_↔_, _≢_}
+use mathlib.Core.Logic.{_↔_, _≢_, _⊎_}
 use mathlib.Core.Bool.{true, false}
 use mathlib.Core.List.{List, _++_}
-use Prim.Native.Nat.{ℕ, _+_, _*_, _^_, _≤_, _<_}
+use Prim.Native.Nat.{ℕ, _+_, _-_, _*_, _^_, _≤_, _<_}
 use lib.ListN.{length, getD, take, drop}
 use lib.IntN.{ℤ, pos, _-ℤ_}
 use lib.Signed.{_≤ℤ_, _<ℤ_}
@@ -26,6 +26,7 @@ use Rattle.imports.specs.Import as imports
 use Rattle.imports.specs.Sheet.{headerGives, ImportedSheet}
 use Rattle.homology_groups.specs.Chain.{Chain, combination}
 use Rattle.reduction_steps.specs.Pivot.{pivotRule}
+use Rattle.reports.specs.Reductions.{reductions}
 use Rattle.reports.specs.Report.{Counts}
 use Rattle.reports.specs.Call.{done, callChecks, chainChecks, reportSlots, coordinateSlots, workSlots, reportCall, coordinateCall}
 use Rattle.reports.specs.Lists.{chainAt, chainBytes, listSlots, chainsChecks, coordinateListsCall, hostCoordinateLists, FirstFault}
@@ -373,6 +374,52 @@ abbrev pub HostImportSheet : Type 0
 HostImportSheet =
     (text sheet : List ℕ) → importNumber (importCall hostLimit text sheet .answer) ≡ 0 →
     ImportedSheet hostLimit text sheet (importCall hostLimit text sheet .output) (headerGives (importCall hostLimit text sheet .output))
+
+-- ==== Headroom in the report
+
+-- 02, Note 4, "The report's done answer carries ..": the counts that a call of the library answered on a sheet and dimension, at some count limit; 01,
+-- "done, with the report's counts": the coordinate calls answer them too
+pub data CountsAnswered (b : List ℕ) (p : ℕ) : Counts → Type 0 where
+  by-report : (limit : ℕ) (report work : List ℤ) (counts : Counts) → reportCall limit b p report work .answer ≡ done counts → CountsAnswered b p counts
+  by-coordinates :
+      (limit : ℕ) (z coordinates work : List ℤ) (counts : Counts) → coordinateCall limit b p z coordinates work .answer ≡ done counts →
+      CountsAnswered b p counts
+  by-lists :
+      (limit number : ℕ) (chains coordinates work : List ℤ) (counts : Counts) →
+      coordinateListsCall limit b p number chains coordinates work .answer ≡ done counts → CountsAnswered b p counts
+
+-- all of them are the same record: free rank, number of orders, peak and bits
+abbrev pub OneCounts : Type 0
+OneCounts = (b : List ℕ) (p : ℕ) → Bytes b → (c d : Counts) → CountsAnswered b p c → CountsAnswered b p d → c ≡ d
+
+-- "the largest over both reductions .. and the number of bits it needs": the peak lies within the entry limit, below 2 to the power of its bits, and not
+-- below the power before
+pub record HeadroomBits (counts : Counts) : Type 0 where
+  pub within : counts .peak ≤ entryLimit
+  pub few : counts .bits ≤ 20
+  pub fits : counts .peak < 2 ^ counts .bits
+  pub least : (counts .peak ≡ 0) ⊎ (2 ^ (counts .bits - 1) ≤ counts .peak)
+
+abbrev pub Headroom : Type 0
+Headroom = (b : List ℕ) (p : ℕ) → Bytes b → (counts : Counts) → CountsAnswered b p counts → HeadroomBits counts
+
+-- "0 for 0": the peak is 0, and needs 0 bits, exactly where the dimension has no cells
+pub record NoneFor (n : ℕ) (counts : Counts) : Type 0 where
+  pub peak : (counts .peak ≡ 0) ↔ (n ≡ 0)
+  pub bits : (counts .bits ≡ 0) ↔ (n ≡ 0)
+
+abbrev pub HeadroomNone : Type 0
+HeadroomNone = (b : List ℕ) (p : ℕ) → Bytes b → (counts : Counts) → CountsAnswered b p counts → NoneFor (count (sectionsOf b) p) counts
+
+-- "how near a mesh came to the entry limit": with another entry limit L in place of 1,048,575, the reductions go too wide exactly where L is below the
+-- peak, and come to the same where it is not. L is 1 at least, so that the matrix of p, V and its inverse, which no operation has written yet, lie within
+-- it. This fixes every peak above 1, and `HeadroomNone` tells 0 from 1
+pub record AtEntryLimit (b : List ℕ) (p L : ℕ) (counts : Counts) : Type 0 where
+  pub too-wide : GoesWide L pivotRule (sectionsOf b) p ↔ (L < counts .peak)
+  pub same : counts .peak ≤ L → reductions pivotRule L (sectionsOf b) p ≡ reductions pivotRule entryLimit (sectionsOf b) p
+
+abbrev pub LeastLimit : Type 0
+LeastLimit = (b : List ℕ) (p : ℕ) → Bytes b → (counts : Counts) → CountsAnswered b p counts → (L : ℕ) → 1 ≤ L → AtEntryLimit b p L counts
 
 -- ==== The program
 

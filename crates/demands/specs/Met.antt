@@ -1,6 +1,8 @@
 -- The hypotheses of the claims are met, shown on the projective plane of crate `projective_plane` in dimension 1, whose one loop has order 2:
 --     plane-report, loop-coordinates, ..   a report and coordinates that are done
 --     twice-bounds, loop-differs           what demand 3 then says: the loop and its opposite differ by a boundary, the loop and twice it do not
+--     plane-answered, loop-answered        the counts that the report call and the coordinate call answered, with peak 2 and 2 bits
+--     plane-limit, plane-enough            what the peak then says: at the entry limit 1 the reductions go too wide, at 2 they do not
 --     plane-lists, plane-list, ..          two chains in one call of the library and of the host, both done, and a list of each
 --     plane-host-report, ..                the same through the host calls, and an accepted sheet for the program
 --     triangle-no-cycle, triangle-first,
@@ -37,7 +39,7 @@ use Rattle.imports.specs.Import.{nodeLists, complexOf, tooLong, importCall, imp
 use Rattle.imports.specs.ImportLaws.{mesh-cells}
 use Rattle.imports.specs.Sheet.{headerGives, ImportedSheet}
 use Rattle.imports.specs.Examples.{hollow, lent, hollowMesh, hollow-text, hollow-right, hollow-done, hollow-host-done}
-use Rattle.reduction_steps.specs.Pivot.{release1}
+use Rattle.reduction_steps.specs.Pivot.{release1, pivotRule}
 use Rattle.reduction_steps.specs.PivotLaws.{release1-is-rule}
 use Rattle.limits.specs.Limits.{libraryLimit, hostLimit, coefficientLimit}
 use Rattle.reports.specs.Call.{Called, callChecks, chainChecks, coefficientExceeds, boundaryNotZero, reportSlots, coordinateSlots, workSlots, reportCall, coordinateCall}
@@ -51,9 +53,9 @@ use Rattle.answers.specs.Called.{answerNumber, IsDone, NoCycle}
 use Rattle.answers.specs.WideLaws.{wide-iff}
 use Rattle.projective_plane.specs.Plane.{cells, sheet, loop, twice, backwards}
 use Rattle.projective_plane.specs.Examples.{nines, counts, plane-calls, plane-too-wide}
-use Rattle.demands.specs.Claims.{TooWide, CoordinatesOf, ReportOf}
+use Rattle.demands.specs.Claims.{TooWide, CoordinatesOf, ReportOf, CountsAnswered}
 use Rattle.demands.specs.Claims as claims
-use Rattle.demands.specs.Proofs.{reportNumbers, listNumbers, firstFaultyChain, hostFirstFaultyChain, listsLeave, notACycle, coordinateCounts, coordinatesDecide, hostReportNumbers, hostCoordinateNumbers, hostListNumbers, wordsOrdered, importTooLong, importSheet, hostImportSheet}
+use Rattle.demands.specs.Proofs.{reportNumbers, listNumbers, firstFaultyChain, hostFirstFaultyChain, listsLeave, notACycle, coordinateCounts, coordinatesDecide, leastLimit, hostReportNumbers, hostCoordinateNumbers, hostListNumbers, wordsOrdered, importTooLong, importSheet, hostImportSheet}
 
 -- ---- a sheet of bytes
 
@@ -105,6 +107,19 @@ twice-coordinates = claims.CoordinatesOf.by-library 256 twice (nines 15) (nines 
 pub plane-counts : HasCounts (sectionsOf sheet) 1 0 1
 plane-counts =
     coordinateCounts 256 sheet 1 loop (nines 15) (nines 600) plane-bytes counts (ap (λ (c : Called). c .answer) (plane-calls .coordinate-loop))
+
+pub plane-answered : CountsAnswered sheet 1 counts
+plane-answered = claims.CountsAnswered.by-report 256 (nines 242) (nines 600) counts (ap (λ (c : Called). c .answer) (plane-calls .report-call))
+
+pub loop-answered : CountsAnswered sheet 1 counts
+loop-answered =
+    claims.CountsAnswered.by-coordinates 256 loop (nines 15) (nines 600) counts (ap (λ (c : Called). c .answer) (plane-calls .coordinate-loop))
+
+pub plane-limit : GoesWide 1 pivotRule (sectionsOf sheet) 1
+plane-limit = leastLimit sheet 1 plane-bytes counts plane-answered 1 (omega arith) .too-wide .1 (omega arith)
+
+pub plane-enough : GoesWide 2 pivotRule (sectionsOf sheet) 1 → ⊥
+plane-enough g = omega (arith, leastLimit sheet 1 plane-bytes counts plane-answered 2 (omega arith) .too-wide .0 g)
 
 -- ---- what demand 3 says of them
 

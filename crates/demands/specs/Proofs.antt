@@ -1,14 +1,14 @@
 -- The owner's demands: what `Claims` states, proved. The claims speak of the cells of the sheet, the calls of `chainCells`, which are these.
 use mathlib.Core.Path.{_≡_, refl, sym, _∙_, ap, ap₂, subst}
-use mathlib.Core.Logic.{_↔_}
+use mathlib.Core.Logic.{_↔_, _⊎_}
 use mathlib.Core.List.{List, _++_}
-use Prim.Native.Nat.{ℕ, _+_, _*_, _<_}
+use Prim.Native.Nat.{ℕ, _+_, _-_, _*_, _^_, _≤_, _<_}
 use native.Mathlib.Omega.{arith}
 use lib.ListN.{length, drop, replicate, length-replicate}
 use lib.Seq.{getD-take, getD-drop}
 use lib.IntN.{ℤ, pos, _-ℤ_}
 use lib.Signed.{_<ℤ_}
-use Rattle.limits.specs.Limits.{hostLimit, coefficientLimit}
+use Rattle.limits.specs.Limits.{hostLimit, entryLimit, coefficientLimit}
 use Rattle.complexes.specs.Complex.{count}
 use Rattle.complexes.specs.PackedLaws.{packed-fits, packed-precedes, packed-injective}
 use Rattle.sheet_format.specs.Check.{first, sectionsOf, chainCells}
@@ -23,7 +23,9 @@ use Rattle.homology_groups.specs.Chain.{Chain, combination}
 use Rattle.homology_groups.specs.ChainLaws.{boundary-same}
 use Rattle.reduction_steps.specs.State.{State}
 use Rattle.reduction_steps.specs.Pivot.{pivotRule}
-use Rattle.reports.specs.Report.{Counts, freeRank, torsionCount}
+use Rattle.reports.specs.Report.{Counts, freeRank, torsionCount, bitsOf, countsOf}
+use Rattle.reports.specs.BitsLaws.{bits-zero, bits-below, bits-least, bits-le}
+use Rattle.reports.specs.CallLaws.{counted-is}
 use Rattle.reports.specs.Reductions.{Reductions, tooWide, reduced}
 use Rattle.reports.specs.Call.{done, callChecks, chainChecks, workSlots, reductionsOf, reportCall, coordinateCall}
 use Rattle.reports.specs.Lists.{chainAt, chainBytes, listSlots, cyclesChecks, chainsChecks, coordinateListsCall, hostCoordinateLists, FirstFault}
@@ -39,9 +41,10 @@ use Rattle.answers.specs.TwoReductions.{Right}
 use Rattle.answers.specs.ChainChecks.{not-a-cycle-iff}
 use Rattle.answers.specs.ReportRight.{Reads, report-is-right, has-counts, counts-unique}
 use Rattle.answers.specs.CoordinatesRight.{ReadsCoordinates, coordinates-decide, coordinates-combine, coordinates-reduced}
-use Rattle.answers.specs.ReportCall.{report-answers, report-leaves, report-answered, report-reads}
-use Rattle.answers.specs.CoordinateCall.{coordinates-answer, coordinates-leave, coordinates-answered, coordinates-read, chain-cycle}
-use Rattle.answers.specs.CoordinateLists.{chain-told, lists-answer, lists-leave, lists-answered, lists-single, lists-between, single-answer}
+use Rattle.answers.specs.Calls.{Answered}
+use Rattle.answers.specs.ReportCall.{reportBefore, report-answers, report-leaves, report-answered, report-reads}
+use Rattle.answers.specs.CoordinateCall.{coordinatesBefore, coordinates-answer, coordinates-leave, coordinates-answered, coordinates-read, chain-cycle}
+use Rattle.answers.specs.CoordinateLists.{listsBefore, chain-told, lists-answer, lists-leave, lists-answered, lists-single, lists-between, single-answer}
 use Rattle.answers.specs.HostCoordinateLists.{host-lists-answer, host-lists-left, host-lists-kept, host-listed, host-lists-size, host-lists-between, host-single-number, host-lists-single}
 use Rattle.answers.specs.HostReport.{host-report-answers, host-report-left, host-reported}
 use Rattle.answers.specs.HostCoordinates.{host-coordinates-answer, host-coordinates-left, host-coordinated, given-coefficient}
@@ -52,6 +55,7 @@ use Rattle.demands.specs.Claims.{HostReportNumbers, HostCoordinateNumber
 use Rattle.demands.specs.Claims.{ListNumbers, FirstFaultyChain, HostFirstFaultyChain, ListsLeave, ListCounts, ListsSingle, HostListsSingle, HostListNumbers, HostListsLeft, HostListCounts}
 use Rattle.demands.specs.Claims.{WordFits, WordsOrdered, WordsShared, ProgramRefuses, ProgramPrints, ProgramInput}
 use Rattle.demands.specs.Claims.{ImportMalformed, MeshesUnique, ImportFaulty, MeshCells, MeshCellsUnique, ImportTooLong, ImportDone, ImportLeft, ImportSheet, HostImportSheet}
+use Rattle.demands.specs.Claims.{CountsAnswered, OneCounts, Headroom, HeadroomNone, AtEntryLimit, LeastLimit}
 use Rattle.demands.specs.Claims as claims
 
 -- ==== Demand 1
@@ -461,6 +465,79 @@ importSheet limit small text sheet = import-sheet limit small text sheet
 
 pub hostImportSheet : HostImportSheet
 hostImportSheet text sheet = import-number hostLimit (omega arith) text sheet
+
+-- ==== Headroom in the report
+
+-- the call that stands behind the counts that were answered
+record CountsBehind (b : List ℕ) (p : ℕ) (counts : Counts) : Type 0 where
+  before : ℕ
+  answer : Answered pivotRule (chainCells b) p before counts
+
+counts-behind : (b : List ℕ) (p : ℕ) → Bytes b → (counts : Counts) → CountsAnswered b p counts → CountsBehind b p counts
+counts-behind b p bytes _ (claims.CountsAnswered.by-report limit report work counts e) =
+    record { before = reportBefore limit b p report work; answer = report-answered limit b p report work bytes e }
+counts-behind b p bytes _ (claims.CountsAnswered.by-coordinates limit z coordinates work counts e) =
+    record { before = coordinatesBefore limit b p z coordinates work; answer = coordinates-answered limit b p z coordinates work bytes e }
+counts-behind b p bytes _ (claims.CountsAnswered.by-lists limit number chains coordinates work counts e) =
+    record { before = listsBefore limit b p number chains coordinates work; answer = lists-answered limit b p number chains coordinates work bytes e }
+
+pub oneCounts : OneCounts
+oneCounts b p bytes c d of-c of-d =
+    let C = counts-behind b p bytes c of-c .answer .counted in
+    let D = counts-behind b p bytes d of-d .answer .counted in
+    same-reduced (λ s r x. c ≡ countsOf s r x) (D .reductions) (C .reductions) (counted-is C) ∙ sym (counted-is D)
+
+module _ (b : List ℕ) (p : ℕ) (bytes : Bytes b) (counts : Counts) (of-counts : CountsAnswered b p counts) where
+  abbrev behind : Answered pivotRule (chainCells b) p (counts-behind b p bytes counts of-counts .before) counts
+  behind = counts-behind b p bytes counts of-counts .answer
+
+  peak-is : counts .peak ≡ behind .counted .state .peak
+  peak-is = behind .counted .peak
+
+  bits-are : counts .bits ≡ bitsOf (counts .peak)
+  bits-are = behind .counted .bits ∙ ap bitsOf (sym peak-is)
+
+  bits-fit : counts .peak < 2 ^ counts .bits
+  bits-fit = subst (λ (n : ℕ). counts .peak < 2 ^ n) (sym bits-are) (bits-below (counts .peak))
+
+  peak-none : (counts .peak ≡ 0) ↔ (count (sectionsOf b) p ≡ 0)
+  unfolding chainCells
+  peak-none = (λ e. behind .headroom .none .0 (sym peak-is ∙ e), λ e. peak-is ∙ behind .headroom .none .1 e)
+
+  bits-none : (counts .bits ≡ 0) ↔ (count (sectionsOf b) p ≡ 0)
+  bits-none = (
+    λ e. peak-none .0 (omega (arith, subst (λ (n : ℕ). counts .peak < 2 ^ n) e bits-fit)),
+    λ e. bits-are ∙ ap bitsOf (peak-none .1 e) ∙ bits-zero,
+  )
+
+  at-limit : (L : ℕ) → 1 ≤ L → AtEntryLimit b p L counts
+  unfolding chainCells reductionsOf
+  at-limit L one =
+      let d = behind .limits L one in
+      record {
+        too-wide = (λ g. omega (arith, peak-is, d .wide .0 g), λ l. d .wide .1 (omega (arith, peak-is)));
+        same = λ h. d .same (omega (arith, peak-is)) ∙ sym (behind .counted .reductions);
+      }
+
+pub headroom : Headroom
+headroom b p bytes counts of-counts = record {
+  within = within;
+  few = subst (λ (n : ℕ). n ≤ 20) (sym bits) (bits-le (counts .peak) 20 (omega (arith, within)));
+  fits = bits-fit b p bytes counts of-counts;
+  least = subst (λ (n : ℕ). (counts .peak ≡ 0) ⊎ (2 ^ (n - 1) ≤ counts .peak)) (sym bits) (bits-least (counts .peak));
+}
+  where
+    bits : counts .bits ≡ bitsOf (counts .peak)
+    bits = bits-are b p bytes counts of-counts
+
+    within : counts .peak ≤ entryLimit
+    within = omega (arith, peak-is b p bytes counts of-counts, behind b p bytes counts of-counts .headroom .within)
+
+pub headroomNone : HeadroomNone
+headroomNone b p bytes counts of-counts = record { peak = peak-none b p bytes counts of-counts; bits = bits-none b p bytes counts of-counts }
+
+pub leastLimit : LeastLimit
+leastLimit = at-limit
 
 -- ==== The program
 

@@ -29,7 +29,7 @@ use Rattle.refusal.specs.NumberLaws.{number-positive}
 use Rattle.refusal.specs.declared.Refusal.{Refusal}
 use Rattle.refusal.specs.declared.Refusal.the-variants as refusal
 use Rattle.writers.specs.declared.reduced.Reduced.{Reduced}
-use Rattle.operations.specs.Laid.{stateOf}
+use Rattle.writers.specs.Written.{stateIn}
 use Rattle.calls.specs.declared.admission.Sizes.{Sizes}
 use Rattle.calls.specs.declared.admission.Request.the-variants.{Coordinates}
 use Rattle.calls.proofs.Admitting.{Asked, Granted, twice, Reduces}
@@ -126,5 +126,5 @@ module _ (b : List ℕ) (p number : ℕ) (chains output : List ℕ) {work : ℕ}
           lists-done o =
               is-done before-reductions (twice asked) left output (cycles-next ∙ passed) (h .is)
               (o
-              ∙ ap (λ (width : ℕ). splices (8 * cells) (λ i. numbersBytes (coordinateList width (x .layout .matrix .lines) (stateOf (x .layout) w) (chainAt cells coefficients i))) number output)
+              ∙ ap (λ (width : ℕ). splices (8 * cells) (λ i. numbersBytes (coordinateList width (x .layout .matrix .lines) (stateIn x w) (chainAt cells coefficients i))) number output)
               (follower-width pivotRule-is-rule (g .chains) (g .passed .work-slots) h))

@@ -6,7 +6,7 @@ ghost use Rattle.limits.specs.Limits.{libraryLimit};
 ghost use Rattle.calls.specs.Answer.{answered};
 ghost use Rattle.imports.specs.Import.{importCall};
 ghost use Rattle.importer.specs.Answer.{ImportTold};
-ghost use Rattle.library_host.specs.Answer.{numberTold, LibraryAnswers};
+ghost use Rattle.library_host.specs.Answer.{numberTold, LibraryAnswers, HeadroomAnswers};
 use calls::answer::Answer;
 
 fn number_told(answer: Answer) -> u32
@@ -34,6 +34,36 @@ pub extern "C" fn library_report(
         ⌝ }
 {
     number_told(calls::report::report(sheet, dimension, report, work))
+}
+
+// The report with its headroom: where the call is done, the peak and its bits are written.
+#[no_mangle]
+pub extern "C" fn library_headroom(
+    sheet: &[u8],
+    dimension: u32,
+    report: &mut [i64],
+    work: &mut [i32],
+    peak: &mut u64,
+    bits: &mut u32,
+) -> u32
+    ensures { λ r.
+        let left = now (report .exit) in
+        let work-left = now (work .exit) in
+        let peak-left = now (peak .exit) in
+        let bits-left = now (bits .exit) in ⌜
+        HeadroomAnswers
+        (reportCall libraryLimit (now (sheet .entry)) dimension (now (report .entry)) (now (work .entry))) r left work-left
+        (now (peak .entry)) peak-left (now (bits .entry)) bits-left
+        ⌝ }
+{
+    match calls::report::report(sheet, dimension, report, work) {
+        Answer::Done(counts) => {
+            *peak = counts.peak;
+            *bits = counts.bits;
+            0
+        }
+        Answer::Refused(refusal) => refusal.number(),
+    }
 }
 
 // The coordinates of a cycle.

@@ -1,4 +1,5 @@
 -- What the proofs of the crate share.
+pub mod Peaks
 pub mod Store
 pub mod Blocks
 pub mod Zeros

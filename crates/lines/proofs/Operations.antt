@@ -26,24 +26,24 @@ use Rattle.lines.proofs.Holding.{subtracted-became, negated-became, swa
 -- ---- whole lines
 
 pub subtract-lines : {M : Matrix} {target source i k : ℕ} → Span M target i 0 (M .width) → Span M source k 0 (M .width) → (w w′ : List ℤ) (q : ℤ)
-    (r : Effect) → Subtracted w target source (M .width) q r w′ → Became M w (onRows (subtract i k q) (contents M w)) r w′
+    (peak : ℕ) (r : Effect) → Subtracted w target source (M .width) q peak r w′ → Became M w (onRows (subtract i k q) (contents M w)) peak r w′
 subtract-lines {M} {target} {source} {i} {k} s u w w′ q =
     subtracted-became s u w w′ q (onRows (subtract i k q) (contents M w)) (λ t l. onRows-subtract-at i k q (contents M w) (0 + t))
     (λ a b x y o. onRows-subtract-other i k q (contents M w) a b (off-line (M .width) i a b y o))
 
-pub negate-line : {M : Matrix} {start k : ℕ} → Span M start k 0 (M .width) → (w w′ : List ℤ) (r : Effect) → Negated w start (M .width) r w′
-    → Became M w (onRows (negate k) (contents M w)) r w′
+pub negate-line : {M : Matrix} {start k : ℕ} → Span M start k 0 (M .width) → (w w′ : List ℤ) (peak : ℕ) (r : Effect)
+    → Negated w start (M .width) peak r w′ → Became M w (onRows (negate k) (contents M w)) peak r w′
 negate-line {M} {start} {k} s w w′ =
     negated-became s w w′ (onRows (negate k) (contents M w)) (λ t l. onRows-negate-at k (contents M w) (0 + t))
     (λ a b x y o. onRows-negate-other k (contents M w) a b (off-line (M .width) k a b y o))
 
-pub swap-lines : {M : Matrix} {first second i k : ℕ} → Span M first i 0 (M .width) → Span M second k 0 (M .width) → (w w′ : List ℤ) (r : Effect)
-    → Swapped w first second (M .width) r w′ → Became M w (onRows (swap i k) (contents M w)) r w′
-swap-lines {M} {first} {second} {i} {k} s u w w′ (Done x) h =
+pub swap-lines : {M : Matrix} {first second i k : ℕ} → Span M first i 0 (M .width) → Span M second k 0 (M .width) → (w w′ : List ℤ) (peak : ℕ)
+    (r : Effect) → Swapped w first second (M .width) peak r w′ → Became M w (onRows (swap i k) (contents M w)) peak r w′
+swap-lines {M} {first} {second} {i} {k} s u w w′ peak (Done x) h =
     swapped-holds s u (onRows (swap i k) (contents M w)) (λ t l. onRows-swap-first i k (contents M w) (0 + t))
     (λ t l. onRows-swap-second i k (contents M w) (0 + t))
     (λ a b x y o p. onRows-swap-other i k (contents M w) a b (off-line (M .width) i a b y o) (off-line (M .width) k a b y p)) h
-swap-lines s u w w′ TooWide h = absurd h
+swap-lines s u w w′ peak TooWide h = absurd h
 
 -- ---- by cases on the operation
 
@@ -51,9 +51,9 @@ module _ {op o : Operation} (e : op ≡ o) where
   pub fits-case : {n : ℕ} → Fits n (operationOf op) → Fits n (operationOf o)
   fits-case {n} = subst (λ (x : Operation). Fits n (operationOf x)) e
 
-  pub became-case : (M : Matrix) (w w′ : List ℤ) (r : Effect)
-      → Became M w (onRows (operationOf o) (contents M w)) r w′ → Became M w (onRows (operationOf op) (contents M w)) r w′
-  became-case M w w′ r = subst (λ (x : Operation). Became M w (onRows (operationOf x) (contents M w)) r w′) (sym e)
+  pub became-case : (M : Matrix) (w w′ : List ℤ) (peak : ℕ) (r : Effect)
+      → Became M w (onRows (operationOf o) (contents M w)) peak r w′ → Became M w (onRows (operationOf op) (contents M w)) peak r w′
+  became-case M w w′ peak r = subst (λ (x : Operation). Became M w (onRows (operationOf x) (contents M w)) peak r w′) (sym e)
 
 -- ---- inverses
 

@@ -3,7 +3,8 @@
 use mathlib.Core.Path.{_≡_, refl, sym, ap, subst, _∙_}
 use mathlib.Core.Logic.{inl, inr, ⊎-elim, _≢_}
 use mathlib.Core.List.{List}
-use Prim.Native.Nat.{ℕ, _+_, _<_}
+use Prim.Native.Nat.{ℕ, _+_, _<_, _≤_}
+use native.Mathlib.Nat as NatL
 use native.Mathlib.Omega.{arith}
 use native.Mathlib.Decide.{ℕ-discrete, decLt}
 use lib.IntN.{ℤ, natAbs}
@@ -13,17 +14,18 @@ use Rattle.matrices.specs.Matrix as theory
 use Rattle.matrices.specs.Operation.{Operation, subtract, swap, negate, onRows, onColumns}
 use Rattle.matrices.specs.OperationLaws.{onRows-ext-at, onRows-subtract-at, onRows-subtract-other}
 use Rattle.matrices.specs.Within.{Within}
-use Rattle.lines.specs.Slice.{entryLimit, at, lineAt}
+use Rattle.lines.specs.Slice.{entryLimit, at, lineAt, Under}
 use Rattle.lines.specs.Slice as slice
 use Rattle.lines.specs.Matrices.{Held, contents, Off, Holds, Exceeds, Became, placesOf}
 use Rattle.lines.specs.Operations.{operationOf, Fits, AloneAt, Alone}
 use Rattle.lines.specs.declared.matrix.Matrix.{Matrix}
+use Rattle.lines.specs.declared.line.Written.{Written}
 use Rattle.lines.specs.declared.line.Effect.{Effect}
 use Rattle.lines.specs.declared.line.Effect.the-variants.{Done, TooWide}
 use Rattle.lines.specs.declared.operation.Operation as code
 use Rattle.lines.specs.declared.operation.Operation.the-variants.{Subtract}
 use Rattle.lines.proofs.Spans.{Span, line-span, span-inside, span-off, span-outside}
-use Rattle.lines.proofs.Holding.{holds-trans}
+use Rattle.lines.proofs.Holding.{EntriesWithin, holds-trans}
 use Rattle.lines.proofs.Operations.{fits-case, upTo, upTo-below, upTo-from}
 
 -- ---- the places of a line
@@ -65,17 +67,23 @@ module _ (M : Matrix) (op : Operation) (f : Within (M .width) op) (w₀ w : List
       ∙ sym (onRows-column op (transpose (contents M w₀)) b i)
 
   module _ (A : theory.Matrix) (on : (b : ℕ) → b < M .width → A i b ≡ onColumns op (contents M w₀) i b) where
-    line-holds : {w′ : List ℤ} → Holds (placesOf M i) w changed w′
-        → ((a b : ℕ) → a < M .lines → b < M .width → a ≢ i → A a b ≡ contents M w a b) → Holds M w A w′
+    -- the entry that the operation makes at place `b` is the new one
+    changed-new : (b c : ℕ) → b < M .width → c < 1 → changed b c ≡ A i b
+    changed-new b c l h = ap (λ (j : ℕ). changed b j) (omega arith) ∙ changed-at b l ∙ sym (on b l)
+
+    line-holds : {w′ : List ℤ} {peak : ℕ} {x : Written} → Holds (placesOf M i) w changed peak x w′
+        → ((a b : ℕ) → a < M .lines → b < M .width → a ≢ i → A a b ≡ contents M w a b) → Holds M w A peak x w′
     line-holds {w′} h same = record {
       same-length = h .same-length;
       on = record { at = λ a b x y. pick a b x y (ℕ-discrete a i) };
       off = λ p o. h .off p (off-places M i below p (span-outside (line M i below) p o));
-      small = h .small;
+      under = h .under;
+      above = h .above;
+      least = λ L p a. h .least L p (λ b c l k. subst (λ (z : ℤ). natAbs z ≤ L) (sym (changed-new b c l k)) (a i b below l));
     }
       where
         pick : (a b : ℕ) → a < M .lines → b < M .width → Dec (a ≡ i) → contents M w′ a b ≡ A a b
-        pick a b x y (yes e) = rw e (sym (place-at M i w′ b) ∙ h .on .at b 0 y (omega arith) ∙ changed-at b y ∙ sym (on b y))
+        pick a b x y (yes e) = rw e (sym (place-at M i w′ b) ∙ h .on .at b 0 y (omega arith) ∙ changed-new b 0 y (omega arith))
         pick a b x y (no d) =
             h .off (lineAt (M .at) (M .width) a + b) (off-places M i below (lineAt (M .at) (M .width) a + b) (span-off (line M i below) a b y (inl d)))
             ∙ sym (same a b x y d)
@@ -87,11 +95,7 @@ module _ (M : Matrix) (op : Operation) (f : Within (M .width) op) (w₀ w : List
       place = h .line;
       line-below = below;
       place-below = h .line-below;
-      beyond =
-          subst (λ (z : ℤ). entryLimit < natAbs z)
-          (ap (λ (j : ℕ). changed (h .line) j) (omega (arith, h .place-below)) ∙ changed-at (h .line) (h .line-below) ∙ sym (on (h .line) (h .line-below)))
-          (h .beyond);
-      small = h .small;
+      beyond = subst (λ (z : ℤ). entryLimit < natAbs z) (changed-new (h .line) (h .place) (h .line-below) (h .place-below)) (h .beyond);
     }
 
 -- ---- a subtraction of place k
@@ -109,17 +113,17 @@ module _ (M : Matrix) (w : List ℤ) (j k : ℕ) (q : ℤ) (f : Within (M .width
       pick (no n) = onRows-subtract-other j k q (transpose old) b a n
       pick (yes e) = rw e (onRows-subtract-at j k q (transpose old) a ∙ rw (alone .zero a x d, mul-zero q, add-zero (old a j)))
 
-  pub subtract-places : (r : Effect) (w′ : List ℤ) → Became (placesOf M k) w (onRows (subtract j k q) (contents (placesOf M k) w)) r w′
-      → Became M w (onColumns (subtract j k q) old) r w′
-  subtract-places (Done x) w′ h =
+  pub subtract-places : (peak : ℕ) (r : Effect) (w′ : List ℤ)
+      → Became (placesOf M k) w (onRows (subtract j k q) (contents (placesOf M k) w)) peak r w′ → Became M w (onColumns (subtract j k q) old) peak r w′
+  subtract-places peak (Done x) w′ h =
       line-holds M (subtract j k q) f w w k (alone .line) (λ b l. refl) (onColumns (subtract j k q) old) (λ b l. refl) h others
-  subtract-places TooWide w′ h = line-exceeds M (subtract j k q) f w w k (alone .line) (λ b l. refl) (onColumns (subtract j k q) old) (λ b l. refl) h
+  subtract-places peak TooWide w′ h = line-exceeds M (subtract j k q) f w w k (alone .line) (λ b l. refl) (onColumns (subtract j k q) old) (λ b l. refl) h
 
 -- ---- the same as the code finds it: P turned out to be the places of line i
 
-pub became-places : {P : Matrix} (M : Matrix) (i : ℕ) → P ≡ placesOf M i → (op : Operation) (w w′ : List ℤ) (r : Effect)
-    → Became P w (onRows op (contents P w)) r w′ → Became (placesOf M i) w (onRows op (contents (placesOf M i) w)) r w′
-became-places M i e op w w′ r = subst (λ (P : Matrix). Became P w (onRows op (contents P w)) r w′) e
+pub became-places : {P : Matrix} (M : Matrix) (i : ℕ) → P ≡ placesOf M i → (op : Operation) (w w′ : List ℤ) (peak : ℕ) (r : Effect)
+    → Became P w (onRows op (contents P w)) peak r w′ → Became (placesOf M i) w (onRows op (contents (placesOf M i) w)) peak r w′
+became-places M i e op w w′ peak r = subst (λ (P : Matrix). Became P w (onRows op (contents P w)) peak r w′) e
 
 -- what an operation on them asks
 pub record Ready (P : Matrix) (n : ℕ) (op : Operation) : Type 0 where
@@ -135,16 +139,16 @@ module _ {op : code.Operation} {j k : ℕ} {q : ℤ} (e : op ≡ Subtract j k q)
   pub alone-line : AloneAt M w k
   alone-line = subst (λ (o : code.Operation). Alone M w (operationOf o)) e alone
 
-  pub subtract-became : {P : Matrix} → P ≡ placesOf M k → Fits (M .width) (operationOf op) → (w′ : List ℤ) (r : Effect)
-      → Became P w (onRows (subtract j k q) (contents P w)) r w′ → Became M w (onColumns (operationOf op) (contents M w)) r w′
-  subtract-became p f w′ r h =
-      subst (λ (o : code.Operation). Became M w (onColumns (operationOf o) (contents M w)) r w′) (sym e)
-      (subtract-places M w j k q (fits-case e f .within) alone-line r w′ (became-places M k p (subtract j k q) w w′ r h))
+  pub subtract-became : {P : Matrix} → P ≡ placesOf M k → Fits (M .width) (operationOf op) → (w′ : List ℤ) (peak : ℕ) (r : Effect)
+      → Became P w (onRows (subtract j k q) (contents P w)) peak r w′ → Became M w (onColumns (operationOf op) (contents M w)) peak r w′
+  subtract-became p f w′ peak r h =
+      subst (λ (o : code.Operation). Became M w (onColumns (operationOf o) (contents M w)) peak r w′) (sym e)
+      (subtract-places M w j k q (fits-case e f .within) alone-line peak r w′ (became-places M k p (subtract j k q) w w′ peak r h))
 
 -- ---- one line after another
 
-module _ (M : Matrix) (op : Operation) (f : Within (M .width) op) (w₀ w : List ℤ) (i : ℕ) (below : i < M .lines)
-    (before : Holds M w₀ (upTo i (onColumns op (contents M w₀)) (contents M w₀)) w) where
+module _ (M : Matrix) (op : Operation) (f : Within (M .width) op) (w₀ w : List ℤ) (i : ℕ) (below : i < M .lines) {peak : ℕ} {x : Written}
+    (under : Under peak w₀) (before : Holds M w₀ (upTo i (onColumns op (contents M w₀)) (contents M w₀)) peak x w) where
   abbrev new : theory.Matrix
   new = onColumns op (contents M w₀)
 
@@ -152,12 +156,24 @@ module _ (M : Matrix) (op : Operation) (f : Within (M .width) op) (w₀ w : List
   kept : (b : ℕ) → b < M .width → contents M w i b ≡ contents M w₀ i b
   kept b l = before .on .at i b below l ∙ upTo-from i new (contents M w₀) i b (omega arith)
 
-  pub places-next : {w′ : List ℤ} → Holds (placesOf M i) w (onRows op (contents (placesOf M i) w)) w′ → Holds M w₀ (upTo (i + 1) new (contents M w₀)) w′
+  pub places-next : {y : Written} {w′ : List ℤ} → Holds (placesOf M i) w (onRows op (contents (placesOf M i) w)) (x .peak) y w′
+      → Holds M w₀ (upTo (i + 1) new (contents M w₀)) peak y w′
   places-next h =
       holds-trans before
       (line-holds M op f w₀ w i below kept (upTo (i + 1) new (contents M w₀))
       (λ b l. upTo-below (i + 1) new (contents M w₀) i b (omega arith)) h (λ a b x y d. other-line a b x y d (decLt a i)))
+      (λ L p e a b x y. line-within L p e a b x y (decLt a i))
     where
+      -- a line that is changed already has the new entries, another the old ones
+      line-within : (L : ℕ) → peak ≤ L → EntriesWithin M (upTo (i + 1) new (contents M w₀)) L → (a b : ℕ) → a < M .lines → b < M .width → Dec (a < i)
+          → natAbs (upTo i new (contents M w₀) a b) ≤ L
+      line-within L p e a b x y (yes l) =
+          subst (λ (z : ℤ). natAbs z ≤ L)
+          (upTo-below (i + 1) new (contents M w₀) a b (omega arith) ∙ sym (upTo-below i new (contents M w₀) a b l)) (e a b x y)
+      line-within L p e a b x y (no l) =
+          subst (λ (z : ℤ). natAbs z ≤ L) (sym (upTo-from i new (contents M w₀) a b (omega arith)))
+          (NatL.le-trans (under .bound (lineAt (M .at) (M .width) a + b)) p)
+
       other-line : (a b : ℕ) → a < M .lines → b < M .width → a ≢ i → Dec (a < i) → upTo (i + 1) new (contents M w₀) a b ≡ contents M w a b
       other-line a b x y d (yes l) =
           upTo-below (i + 1) new (contents M w₀) a b (omega arith) ∙ sym (before .on .at a b x y ∙ upTo-below i new (contents M w₀) a b l)
@@ -174,5 +190,4 @@ module _ (M : Matrix) (op : Operation) (f : Within (M .width) op) (w₀ w : List
         line-below = beyond .line-below;
         place-below = beyond .place-below;
         beyond = beyond .beyond;
-        small = beyond .small;
       }

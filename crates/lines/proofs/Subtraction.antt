@@ -7,7 +7,7 @@ use lib.ListN.{length}
 use lib.IntN.{ℤ, natAbs}
 use mir.Syntax.{w64}
 use Rattle.matrices.specs.Operation.{subtract, onRows}
-use Rattle.lines.specs.Slice.{entryLimit, lineAt, Small, Apart, Subtracted}
+use Rattle.lines.specs.Slice.{entryLimit, lineAt, Under, Apart, Subtracted}
 use Rattle.lines.specs.Matrices.{Held, contents, Became}
 use Rattle.lines.specs.Operations.{operationOf, Fits}
 use Rattle.lines.specs.declared.matrix.Matrix.{Matrix}
@@ -40,18 +40,20 @@ module _ {op : Operation} {i k : ℕ} {q : ℤ} (e : op ≡ Subtract i k q) (M :
     source = line-span M b k b-is taken-below
 
     pub subtraction-asks :
-        {w : List ℤ} → Held (length w) M → Small w
-        → ((a + M .width ≤ length w) × (b + M .width ≤ length w)) × (Apart a b (M .width) × (Small w × (natAbs (read w64 q) ≤ entryLimit)))
-    subtraction-asks held small = (
+        {w : List ℤ} {peak : ℕ} → Held (length w) M → Under peak w
+        → ((a + M .width ≤ length w) × (b + M .width ≤ length w)) × (Apart a b (M .width) × (Under peak w × (natAbs (read w64 q) ≤ entryLimit)))
+    subtraction-asks held under = (
       (span-inside target held, span-inside source held),
       (
         spans-apart target source (inl (subtract-fits .within .distinct)),
-        (small, subst (λ (x : ℤ). natAbs x ≤ entryLimit) (sym factor-is) (subtract-fits .factor)),
+        (under, subst (λ (x : ℤ). natAbs x ≤ entryLimit) (sym factor-is) (subtract-fits .factor)),
       ),
     )
 
     pub subtraction-came :
-        (w w′ : List ℤ) (r : Effect) → Subtracted w a b (M .width) (read w64 q) r w′ → Became M w (onRows (operationOf op) (contents M w)) r w′
-    subtraction-came w w′ r h =
-        became-case e M w w′ r
-        (subst (λ (x : ℤ). Became M w (onRows (subtract i k x) (contents M w)) r w′) factor-is (subtract-lines target source w w′ (read w64 q) r h))
+        (w w′ : List ℤ) (peak : ℕ) (r : Effect) → Subtracted w a b (M .width) (read w64 q) peak r w′
+        → Became M w (onRows (operationOf op) (contents M w)) peak r w′
+    subtraction-came w w′ peak r h =
+        became-case e M w w′ peak r
+        (subst (λ (x : ℤ). Became M w (onRows (subtract i k x) (contents M w)) peak r w′) factor-is
+        (subtract-lines target source w w′ (read w64 q) peak r h))

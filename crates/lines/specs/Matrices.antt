@@ -7,8 +7,9 @@ use lib.ListN.{length}
 use lib.IntN.{ℤ, natAbs}
 use Rattle.matrices.specs.Matrix.{Eq}
 use Rattle.matrices.specs.Matrix as theory
-use Rattle.lines.specs.Slice.{entryLimit, at, lineAt, Small}
+use Rattle.lines.specs.Slice.{entryLimit, at, lineAt, Under}
 use Rattle.lines.specs.declared.matrix.Matrix.{Matrix}
+use Rattle.lines.specs.declared.line.Written.{Written}
 use Rattle.lines.specs.declared.line.Effect.{Effect}
 use Rattle.lines.specs.declared.line.Effect.the-variants.{Done, TooWide}
 
@@ -28,14 +29,17 @@ contents M w i j = at w (lineAt (M .at) (M .width) i + j)
 abbrev pub Off : Matrix → ℕ → Type 0
 Off M i = (i < M .at) ⊎ (end M ≤ i)
 
--- w′ holds A where the matrix stands, and is w elsewhere
-pub record Holds (M : Matrix) (w : List ℤ) (A : theory.Matrix) (w′ : List ℤ) : Type 0 where
+-- w′ holds A where the matrix stands, and is w elsewhere. The peak after it bounds every entry, and is no larger than the one before and the entries
+-- of A make it.
+pub record Holds (M : Matrix) (w : List ℤ) (A : theory.Matrix) (peak : ℕ) (x : Written) (w′ : List ℤ) : Type 0 where
   pub same-length : length w′ ≡ length w
   pub on : Eq (M .lines) (M .width) (contents M w′) A
   pub off : (i : ℕ) → Off M i → at w′ i ≡ at w i
-  pub small : Small w′
+  pub under : Under (x .peak) w′
+  pub above : peak ≤ x .peak
+  pub least : (L : ℕ) → peak ≤ L → ((i j : ℕ) → i < M .lines → j < M .width → natAbs (A i j) ≤ L) → x .peak ≤ L
 
--- some entry of A lies beyond the limit; what the slice holds now lies within it
+-- some entry of A lies beyond the limit
 pub record Exceeds (M : Matrix) (w : List ℤ) (A : theory.Matrix) (w′ : List ℤ) : Type 0 where
   pub same-length : length w′ ≡ length w
   pub line : ℕ
@@ -43,12 +47,11 @@ pub record Exceeds (M : Matrix) (w : List ℤ) (A : theory.Matrix) (w′ : List 
   pub line-below : line < M .lines
   pub place-below : place < M .width
   pub beyond : entryLimit < natAbs (A line place)
-  pub small : Small w′
 
--- what an operation that makes A of the matrix answers and leaves
-abbrev pub Became : Matrix → List ℤ → theory.Matrix → Effect → List ℤ → Type 0
-Became M w A (Done x) w′ = Holds M w A w′
-Became M w A TooWide w′ = Exceeds M w A w′
+-- what an operation that makes A of the matrix, handed the peak so far, answers and leaves
+abbrev pub Became : Matrix → List ℤ → theory.Matrix → ℕ → Effect → List ℤ → Type 0
+Became M w A peak (Done x) w′ = Holds M w A peak x w′
+Became M w A peak TooWide w′ = Exceeds M w A w′
 
 -- the places of line i, as a matrix of that many lines of one entry
 abbrev pub placesOf : Matrix → ℕ → Matrix

@@ -7,6 +7,7 @@ use Prim.Native.Nat.{ℕ, _+_, _*_, _<_, _≤_}
 use lib.ListN.{length, getD}
 use lib.IntN.{ℤ, pos, negℤ, natAbs, _-ℤ_, _*ℤ_}
 pub use Rattle.limits.specs.Limits.{entryLimit}
+use Rattle.lines.specs.declared.line.Written.{Written}
 use Rattle.lines.specs.declared.line.Effect.{Effect}
 use Rattle.lines.specs.declared.line.Effect.the-variants.{Done, TooWide}
 
@@ -21,6 +22,11 @@ lineAt start width i = start + i * width
 -- every entry lies within the limit
 pub record Small (w : List ℤ) : Type 0 where
   pub bound : (i : ℕ) → natAbs (at w i) ≤ entryLimit
+
+-- every entry lies within the peak, and the peak within the limit
+pub record Under (peak : ℕ) (w : List ℤ) : Type 0 where
+  pub bound : (i : ℕ) → natAbs (at w i) ≤ peak
+  pub limit : peak ≤ entryLimit
 
 -- two lines share no place
 abbrev pub Apart : ℕ → ℕ → ℕ → Type 0
@@ -49,42 +55,45 @@ pub record FirstNonzero (w : List ℤ) (a from width r : ℕ) : Type 0 where
   pub passed : ZerosTo w a from width r
   pub found : r < width → at w (a + r) ≢ pos 0
 
--- w′ is w but for the line at `target`, which now holds `line`; all its entries lie within the limit
-pub record LineSet (w : List ℤ) (target width : ℕ) (line : ℕ → ℤ) (w′ : List ℤ) : Type 0 where
+-- w′ is w but for the line at `target`, which now holds `line`. The peak after it bounds every entry, and is no larger than the one before and the
+-- entries of the line make it.
+pub record LineSet (w : List ℤ) (target width : ℕ) (line : ℕ → ℤ) (peak : ℕ) (x : Written) (w′ : List ℤ) : Type 0 where
   pub same-length : length w′ ≡ length w
   pub on : (t : ℕ) → t < width → at w′ (target + t) ≡ line t
   pub off : (i : ℕ) → Off target width i → at w′ i ≡ at w i
-  pub small : Small w′
+  pub under : Under (x .peak) w′
+  pub above : peak ≤ x .peak
+  pub least : (L : ℕ) → peak ≤ L → ((t : ℕ) → t < width → natAbs (line t) ≤ L) → x .peak ≤ L
 
--- some entry of the line would lie beyond the limit; what was written so far lies within it
+-- some entry of the line would lie beyond the limit
 pub record Beyond (w : List ℤ) (width : ℕ) (line : ℕ → ℤ) (w′ : List ℤ) : Type 0 where
   pub same-length : length w′ ≡ length w
   pub place : ℕ
   pub below : place < width
   pub beyond : entryLimit < natAbs (line place)
-  pub small : Small w′
 
 -- the line at `target` less q times the line at `source`
 abbrev pub difference : List ℤ → ℕ → ℕ → ℤ → ℕ → ℤ
 difference w target source q t = at w (target + t) -ℤ q *ℤ at w (source + t)
 
 -- q times the line at `source` is taken from the line at `target`
-abbrev pub Subtracted : List ℤ → ℕ → ℕ → ℕ → ℤ → Effect → List ℤ → Type 0
-Subtracted w target source width q (Done x) w′ = LineSet w target width (difference w target source q) w′
-Subtracted w target source width q TooWide w′ = Beyond w width (difference w target source q) w′
+abbrev pub Subtracted : List ℤ → ℕ → ℕ → ℕ → ℤ → ℕ → Effect → List ℤ → Type 0
+Subtracted w target source width q peak (Done x) w′ = LineSet w target width (difference w target source q) peak x w′
+Subtracted w target source width q peak TooWide w′ = Beyond w width (difference w target source q) w′
 
--- the two lines have changed places
-pub record LinesSwapped (w : List ℤ) (first second width : ℕ) (w′ : List ℤ) : Type 0 where
+-- the two lines have changed places; the peak stays
+pub record LinesSwapped (w : List ℤ) (first second width peak : ℕ) (x : Written) (w′ : List ℤ) : Type 0 where
   pub same-length : length w′ ≡ length w
   pub on-first : (t : ℕ) → t < width → at w′ (first + t) ≡ at w (second + t)
   pub on-second : (t : ℕ) → t < width → at w′ (second + t) ≡ at w (first + t)
   pub off : (i : ℕ) → Off first width i → Off second width i → at w′ i ≡ at w i
-  pub small : Small w′
+  pub under : Under peak w′
+  pub peak-is : x .peak ≡ peak
 
-abbrev pub Swapped : List ℤ → ℕ → ℕ → ℕ → Effect → List ℤ → Type 0
-Swapped w first second width (Done x) w′ = LinesSwapped w first second width w′
-Swapped w first second width TooWide w′ = ⊥
+abbrev pub Swapped : List ℤ → ℕ → ℕ → ℕ → ℕ → Effect → List ℤ → Type 0
+Swapped w first second width peak (Done x) w′ = LinesSwapped w first second width peak x w′
+Swapped w first second width peak TooWide w′ = ⊥
 
-abbrev pub Negated : List ℤ → ℕ → ℕ → Effect → List ℤ → Type 0
-Negated w target width (Done x) w′ = LineSet w target width (λ t. negℤ (at w (target + t))) w′
-Negated w target width TooWide w′ = ⊥
+abbrev pub Negated : List ℤ → ℕ → ℕ → ℕ → Effect → List ℤ → Type 0
+Negated w target width peak (Done x) w′ = LineSet w target width (λ t. negℤ (at w (target + t))) peak x w′
+Negated w target width peak TooWide w′ = ⊥

@@ -1,6 +1,4 @@
--- What the proofs of the crate share: absolute values (`AbsoluteValue`), products of counts (`Room`), the operations (`Regions`,
--- `Side`, `Operate`, `Unchanged`), the scans for a remainder (`Tests`) and for a pivot (`Choosing`, `Scanning`).
-mod AbsoluteValue
+-- What the proofs of the crate share: products of counts (`Room`), the operations (`Regions`, `Side`, `Operate`, `Unchanged`), the scans for a remainder (`Tests`) and for a pivot (`Choosing`, `Scanning`).
 pub mod Room
 pub mod Regions
 pub mod Side

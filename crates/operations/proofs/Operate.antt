@@ -1,21 +1,23 @@
--- An operation on a side of the matrix: first the matrix, then the side's follower, then its inverse companion. `wide-matrix`,
--- `wide-follower` and `operated` tell what the three answers make together: the operation, then the check of the limit.
--- `follower-ready`, `undone-ready`: what the second and the third call ask.
+-- An operation on a side of the matrix: first the matrix, then the side's follower and its inverse companion. `wide-matrix` and `operated`
+-- tell what the answers make together: the operation, then the check of the limit. `companions-ready`: what the companions' call asks.
 use mathlib.Core.Path.{_≡_, refl, sym, ap, subst, _∙_}
-use mathlib.Core.Bool.{Bool, true, false, _&&_}
+use mathlib.Core.Bool.{Bool, true}
 use mathlib.Core.List.{List}
-use Prim.Native.Nat.{ℕ, _+_}
-use lib.IntN.{ℤ}
+use Prim.Native.Nat.{ℕ, _+_, _≤_, _<_, max}
+use native.Mathlib.Nat as NatL
+use native.Mathlib.Omega.{arith}
+use borrow.Author.Tests.{le-leb, lt-leb}
+use lib.IntN.{ℤ, natAbs}
 use lib.ListN.{length}
 use Rattle.matrices.specs.Matrix.{Eq}
 use Rattle.matrices.specs.Matrix as theory
 use Rattle.matrices.specs.Operation.{Operation, onRows, inverse}
 use Rattle.matrices.specs.OperationLaws.{onRows-ext, onColumns-ext}
 use Rattle.matrices.specs.Within.{Within, Within-inverse}
-use Rattle.reduction_steps.specs.Table.{Table, entry, table, tableWithin}
-use Rattle.reduction_steps.specs.State.{State, made, tooWide, follow, within, checked}
-use Rattle.reduction_laws.specs.Tables.{entry-table, table-ext, Eq-table, tableWithin-table, tableWithin-false}
-use Rattle.lines.specs.Slice.{entryLimit, at, lineAt, Small}
+use Rattle.reduction_steps.specs.Table.{Table, entry, table, tableLargest}
+use Rattle.reduction_steps.specs.State.{State, made, tooWide, largest, noted, follow, within, checked}
+use Rattle.reduction_laws.specs.Tables.{entry-table, table-ext, Eq-table, tableLargest-table}
+use Rattle.lines.specs.Slice.{entryLimit, at, lineAt, Under}
 use Rattle.lines.specs.Matrices.{Held, contents, Exceeds, Became}
 use Rattle.lines.specs.Operations.{Fits}
 use Rattle.lines.specs.declared.matrix.Matrix.{Matrix}
@@ -25,38 +27,41 @@ use Rattle.lines.specs.declared.line.Effect.the-variants.{Done, TooWide}
 use Rattle.operations.specs.Laid.{Laid, linesOf, stateOf, Operated, Followed}
 use Rattle.operations.specs.declared.layout.Layout.{Layout}
 use Rattle.operations.proofs.Regions.{disjoint-sym, Kept, kept-refl, kept-trans, contents-off, lines-off, lines-on, shaped}
-use Rattle.operations.proofs.Side.{Side, rows, columns, across, count, follower, undone, onSide, outcomeOn, put, state-put, outcome-put, within-put, Separate, separate, follower-lines, undone-lines, follower-inside, undone-inside, follower-fits, undone-fits}
+use Rattle.operations.proofs.Side.{Side, rows, columns, across, count, follower, undone, onSide, outcomeOn, put, state-put, noted-put, outcome-put, Largest, largest-put, largest-peak, Separate, separate, follower-lines, undone-lines, follower-inside, undone-inside, follower-fits, undone-fits}
 
 -- ---- the check of the limit
 
-pub checked-made : (s : State) → within entryLimit s ≡ true → checked entryLimit s ≡ made s
-unfolding checked
-checked-made s e = rw e
+checked-made : (s : State) → largest s ≤ entryLimit → checked entryLimit s ≡ made s
+unfolding checked within
+checked-made s l = rw (le-leb (largest s) entryLimit l)
 
-pub checked-wide : (s : State) → within entryLimit s ≡ false → checked entryLimit s ≡ tooWide
-unfolding checked
-checked-wide s e = rw e
+checked-wide : (s : State) → entryLimit < largest s → checked entryLimit s ≡ tooWide
+unfolding checked within
+checked-wide s l = rw (lt-leb (largest s) entryLimit l)
 
-lines-within : (M : Matrix) {w : List ℤ} → Small w → tableWithin entryLimit (linesOf M w) ≡ true
+lines-largest : (M : Matrix) {peak : ℕ} {w : List ℤ} → Under peak w → tableLargest (linesOf M w) ≤ peak
 unfolding linesOf
-lines-within M {w} h = tableWithin-table entryLimit (M .lines) (M .width) (contents M w) .1 (λ i j a b. h .bound (lineAt (M .at) (M .width) i + j))
+lines-largest M {peak} {w} h = tableLargest-table peak (M .lines) (M .width) (contents M w) .1 (λ i j a b. h .bound (lineAt (M .at) (M .width) i + j))
 
-pub within-small : (W : Layout) {w : List ℤ} → Small w → within entryLimit (stateOf W w) ≡ true
-unfolding within stateOf
-within-small W h =
-    rw (lines-within (W .matrix) h, lines-within (W .«row_follower») h, lines-within (W .«row_inverse») h, lines-within (W .«column_follower») h, lines-within (W .«column_inverse») h)
+-- what the slice holds lies within the peak
+pub largest-under : (W : Layout) {peak : ℕ} {w : List ℤ} (p : ℕ) → Under peak w → largest (stateOf W p w) ≤ peak
+unfolding largest
+largest-under W p h =
+    NatL.max-le (lines-largest (W .matrix) h)
+    (NatL.max-le (lines-largest (W .«row_follower») h)
+    (NatL.max-le (lines-largest (W .«row_inverse») h)
+    (NatL.max-le (lines-largest (W .«column_follower») h) (lines-largest (W .«column_inverse») h))))
 
-exceeds-within : {M : Matrix} {w w′ : List ℤ} {A : theory.Matrix} → Exceeds M w A w′ → tableWithin entryLimit (shaped M A) ≡ false
-exceeds-within {M} {A} h =
-    tableWithin-false entryLimit (shaped M A) (h .line) (h .place)
-    (rw (entry-table (M .lines) (M .width) A (h .line) (h .place) (h .line-below) (h .place-below)) (h .beyond))
+pub within-under : (W : Layout) {peak : ℕ} {w : List ℤ} → Under peak w → within entryLimit (stateOf W peak w) ≡ true
+unfolding within
+within-under W {peak} {w} h = le-leb (largest (stateOf W peak w)) entryLimit (NatL.le-trans (largest-under W peak h) (h .limit))
 
-and-left : (p q : Bool) → p ≡ false → p && q ≡ false
-and-left p q e = rw e
+-- an entry of a table is no larger than the largest
+entry-under : (M : Matrix) (A : theory.Matrix) (i j : ℕ) → i < M .lines → j < M .width → natAbs (A i j) ≤ tableLargest (shaped M A)
+entry-under M A = tableLargest-table (tableLargest (shaped M A)) (M .lines) (M .width) A .0 (NatL.le-refl (tableLargest (shaped M A)))
 
-and-right : (p q : Bool) → q ≡ false → p && q ≡ false
-and-right true q e = e
-and-right false q e = refl
+exceeds-largest : {M : Matrix} {w w′ : List ℤ} {A : theory.Matrix} → Exceeds M w A w′ → entryLimit < tableLargest (shaped M A)
+exceeds-largest {M} {A = A} h = NatL.lt-of-lt-of-le (h .beyond) (entry-under M A (h .line) (h .place) (h .line-below) (h .place-below))
 
 -- ---- the tables of the new state
 
@@ -91,14 +96,14 @@ companion-table M m op e f {w} {w′} h = subst Same e here
 
 module _ (x : Side) (op : Operation) (W : Layout) where
   -- the call on the matrix, which leaves w₁, the one on the follower, which leaves w₂, and the one on the inverse companion
-  abbrev pub OnMatrix : List ℤ → Effect → List ℤ → Type 0
-  OnMatrix w r w₁ = Became (W .matrix) w (onSide x op (contents (W .matrix) w)) r w₁
+  abbrev pub OnMatrix : List ℤ → ℕ → Effect → List ℤ → Type 0
+  OnMatrix w peak r w₁ = Became (W .matrix) w (onSide x op (contents (W .matrix) w)) peak r w₁
 
-  abbrev pub OnFollower : List ℤ → Effect → List ℤ → Type 0
-  OnFollower w₁ r w₂ = Became (follower x W) w₁ (onRows op (contents (follower x W) w₁)) r w₂
+  abbrev pub OnFollower : List ℤ → ℕ → Effect → List ℤ → Type 0
+  OnFollower w₁ peak r w₂ = Became (follower x W) w₁ (onRows op (contents (follower x W) w₁)) peak r w₂
 
-  abbrev pub OnUndone : List ℤ → Effect → List ℤ → Type 0
-  OnUndone w₂ r w₃ = Became (undone x W) w₂ (onRows (inverse op) (contents (undone x W) w₂)) r w₃
+  abbrev pub OnUndone : List ℤ → ℕ → Effect → List ℤ → Type 0
+  OnUndone w₂ peak r w₃ = Became (undone x W) w₂ (onRows (inverse op) (contents (undone x W) w₂)) peak r w₃
 
   -- the tables that they make
   abbrev newMatrix : List ℤ → Table
@@ -110,83 +115,107 @@ module _ (x : Side) (op : Operation) (W : Layout) where
   abbrev newUndone : List ℤ → Table
   newUndone w₂ = shaped (undone x W) (onRows (inverse op) (contents (undone x W) w₂))
 
-  abbrev newState : List ℤ → List ℤ → List ℤ → State
-  newState w w₁ w₂ =
-      put x (newMatrix w) (newFollower w₁) (newUndone w₂) (linesOf (follower (across x) W) w) (linesOf (undone (across x) W) w)
+  -- before the peak takes them in
+  abbrev newState : ℕ → List ℤ → List ℤ → List ℤ → State
+  newState peak w w₁ w₂ =
+      put x (newMatrix w) (newFollower w₁) (newUndone w₂) (linesOf (follower (across x) W) w) (linesOf (undone (across x) W) w) peak
 
 -- what the companions' call asks
-pub record Companions (F U : Matrix) (op : Operation) (w : List ℤ) : Type 0 where
+pub record Companions (F U : Matrix) (op : Operation) (peak : ℕ) (w : List ℤ) : Type 0 where
   pub follower-held : Held (length w) F
   pub inverse-held : Held (length w) U
-  pub small : Small w
+  pub under : Under peak w
   pub follower-fits : Fits (F .lines) op
   pub inverse-fits : Fits (U .lines) (inverse op)
 
-module _ (x : Side) (op : Operation) (W : Layout) (w : List ℤ) (l : Laid (length w) W) (f : Within (count x W) op) where
+module _ (x : Side) (op : Operation) (W : Layout) (peak : ℕ) (w : List ℤ) (l : Laid (length w) W) (f : Within (count x W) op) where
   apart : Separate (W .matrix) (follower x W) (undone x W) (follower (across x) W) (undone (across x) W)
   apart = separate l x
 
   -- where the slices w₁ and w₂ still have the side's companions as w has
-  outcome-is : {w₁ w₂ : List ℤ} → Kept (follower x W) w w₁ → Kept (undone x W) w w₂ → outcomeOn x W op (stateOf W w) ≡ checked entryLimit (newState x op W w w₁ w₂)
+  outcome-is :
+      {w₁ w₂ : List ℤ} → Kept (follower x W) w w₁ → Kept (undone x W) w w₂
+      → outcomeOn x W op (stateOf W peak w) ≡ checked entryLimit (noted (newState x op W peak w w₁ w₂))
   outcome-is h k =
-      outcome-put x W op w
+      outcome-put x W op peak w
       ∙ cc (
         matrix-table x W op f w,
         companion-table (follower x W) (count x W) op (follower-lines l x) f h,
         companion-table (undone x W) (count x W) (inverse op) (undone-lines l x) (Within-inverse (count x W) op f) k,
       )
 
-  goes-wide :
-      {w₁ w₂ : List ℤ} → Kept (follower x W) w w₁ → Kept (undone x W) w w₂
-      → tableWithin entryLimit (newMatrix x op W w) && (tableWithin entryLimit (newFollower x op W w₁) && tableWithin entryLimit (newUndone x op W w₂)) ≡ false
-      → tooWide ≡ outcomeOn x W op (stateOf W w)
-  goes-wide {w₁} {w₂} h k e =
-      sym
-      (outcome-is h k
-      ∙ checked-wide (newState x op W w w₁ w₂)
-      (within-put x (newMatrix x op W w) (newFollower x op W w₁) (newUndone x op W w₂) (linesOf (follower (across x) W) w) (linesOf (undone (across x) W) w) e))
+  module _ (w₁ w₂ : List ℤ) where
+    -- the largest entry of the new state
+    abbrev reached : ℕ
+    reached = largest (newState x op W peak w w₁ w₂)
 
-  wide-first : {w₁ : List ℤ} → OnMatrix x op W w TooWide w₁ → Operated W (outcomeOn x W op (stateOf W w)) TooWide w₁
+    parts : Largest (tableLargest (newMatrix x op W w)) (tableLargest (newFollower x op W w₁)) (tableLargest (newUndone x op W w₂)) reached
+    parts =
+        largest-put x (newMatrix x op W w) (newFollower x op W w₁) (newUndone x op W w₂) (linesOf (follower (across x) W) w) (linesOf (undone (across x) W) w)
+        peak
+
+  goes-wide : {w₁ w₂ : List ℤ} → Kept (follower x W) w w₁ → Kept (undone x W) w w₂ → entryLimit < reached w₁ w₂ → tooWide ≡ outcomeOn x W op (stateOf W peak w)
+  goes-wide {w₁} {w₂} h k e = sym (outcome-is h k ∙ checked-wide (noted (newState x op W peak w w₁ w₂)) (subst (λ (n : ℕ). entryLimit < n) same e))
+    where
+      same : reached w₁ w₂ ≡ largest (noted (newState x op W peak w w₁ w₂))
+      same =
+          largest-peak x (newMatrix x op W w) (newFollower x op W w₁) (newUndone x op W w₂) (linesOf (follower (across x) W) w) (linesOf (undone (across x) W) w)
+          peak (max peak (reached w₁ w₂))
+          ∙ ap largest (sym (noted-put x (newMatrix x op W w) (newFollower x op W w₁) (newUndone x op W w₂) (linesOf (follower (across x) W) w) (linesOf (undone (across x) W) w) peak))
+
+  wide-first : {w₁ : List ℤ} → OnMatrix x op W w peak TooWide w₁ → Operated W (outcomeOn x W op (stateOf W peak w)) TooWide w₁
   wide-first h = record {
     outcome =
-        goes-wide (kept-refl (follower x W) w) (kept-refl (undone x W) w)
-        (and-left (tableWithin entryLimit (newMatrix x op W w)) (tableWithin entryLimit (newFollower x op W w) && tableWithin entryLimit (newUndone x op W w)) (exceeds-within h));
-    small = h .small;
+        goes-wide (kept-refl (follower x W) w) (kept-refl (undone x W) w) (NatL.lt-of-lt-of-le (exceeds-largest h) (parts w w .matrix));
+    under = tt;
   }
 
   wide-second :
-      {w₁ w₂ : List ℤ} {a : Written} → OnMatrix x op W w (Done a) w₁ → OnFollower x op W w₁ TooWide w₂
-      → Operated W (outcomeOn x W op (stateOf W w)) TooWide w₂
+      {w₁ w₂ : List ℤ} {a : Written} → OnMatrix x op W w peak (Done a) w₁ → OnFollower x op W w₁ (a .peak) TooWide w₂
+      → Operated W (outcomeOn x W op (stateOf W peak w)) TooWide w₂
   wide-second {w₁} h k = record {
     outcome =
-        goes-wide (contents-off (apart .ab) h) (kept-refl (undone x W) w)
-        (and-right (tableWithin entryLimit (newMatrix x op W w)) (tableWithin entryLimit (newFollower x op W w₁) && tableWithin entryLimit (newUndone x op W w))
-        (and-left (tableWithin entryLimit (newFollower x op W w₁)) (tableWithin entryLimit (newUndone x op W w)) (exceeds-within k)));
-    small = k .small;
+        goes-wide (contents-off (apart .ab) h) (kept-refl (undone x W) w) (NatL.lt-of-lt-of-le (exceeds-largest k) (parts w₁ w .follower));
+    under = tt;
   }
 
   pub ends :
-      {w₁ w₂ w₃ : List ℤ} {a b : Written} → OnMatrix x op W w (Done a) w₁ → OnFollower x op W w₁ (Done b) w₂ → (r : Effect) → OnUndone x op W w₂ r w₃
-      → Operated W (outcomeOn x W op (stateOf W w)) r w₃
+      {w₁ w₂ w₃ : List ℤ} {a b : Written} → OnMatrix x op W w peak (Done a) w₁ → OnFollower x op W w₁ (a .peak) (Done b) w₂ → (r : Effect)
+      → OnUndone x op W w₂ (b .peak) r w₃ → Operated W (outcomeOn x W op (stateOf W peak w)) r w₃
   ends {w₁} {w₂} {w₃} h k TooWide g = record {
     outcome =
         goes-wide (contents-off (apart .ab) h) (kept-trans (contents-off (apart .ac) h) (contents-off (apart .bc) k))
-        (and-right (tableWithin entryLimit (newMatrix x op W w)) (tableWithin entryLimit (newFollower x op W w₁) && tableWithin entryLimit (newUndone x op W w₂))
-        (and-right (tableWithin entryLimit (newFollower x op W w₁)) (tableWithin entryLimit (newUndone x op W w₂)) (exceeds-within g)));
-    small = g .small;
+        (NatL.lt-of-lt-of-le (exceeds-largest g) (parts w₁ w₂ .undone));
+    under = tt;
   }
-  ends {w₁} {w₂} {w₃} h k (Done d) g = record {
+  ends {w₁} {w₂} {w₃} {a} {b} h k (Done d) g = record {
     outcome =
         sym
         (outcome-is (contents-off (apart .ab) h) (kept-trans (contents-off (apart .ac) h) (contents-off (apart .bc) k))
         ∙ ap (checked entryLimit) (sym state-is)
-        ∙ checked-made (stateOf W w₃) (within-small W (g .small)));
-    small = g .small;
+        ∙ checked-made (stateOf W (d .peak) w₃) (NatL.le-trans (largest-under W (d .peak) (g .under)) (g .under .limit)));
+    under = g .under;
   }
     where
-      state-is : stateOf W w₃ ≡ newState x op W w w₁ w₂
-      state-is =
-          state-put x W w₃
+      A : Table
+      A = newMatrix x op W w
+
+      B : Table
+      B = newFollower x op W w₁
+
+      C : Table
+      C = newUndone x op W w₂
+
+      D : Table
+      D = linesOf (follower (across x) W) w
+
+      E : Table
+      E = linesOf (undone (across x) W) w
+
+      -- the tables are those that the calls made, or kept
+      tables : (p : ℕ) → stateOf W p w₃ ≡ put x A B C D E p
+      tables p =
+          state-put x W p w₃
           ∙ cc (
             lines-off (disjoint-sym (apart .ac)) g ∙ lines-off (disjoint-sym (apart .ab)) k ∙ lines-on h,
             lines-off (disjoint-sym (apart .bc)) g ∙ lines-on k,
@@ -195,6 +224,37 @@ module _ (x : Side) (op : Operation) (W : Layout) (w : List ℤ) (l : Laid (leng
             lines-off (apart .ce) g ∙ lines-off (apart .be) k ∙ lines-off (apart .ae) h,
           )
 
+      -- the peak answered is the larger of the one before and the largest entry now
+      larger : ℕ
+      larger = max peak (reached w₁ w₂)
+
+      bound : reached w₁ w₂ ≤ larger
+      bound = NatL.le-max-right peak (reached w₁ w₂)
+
+      matrix-least : a .peak ≤ larger
+      matrix-least =
+          h .least larger (NatL.le-max-left peak (reached w₁ w₂))
+          (λ i j p q. NatL.le-trans (entry-under (W .matrix) (onSide x op (contents (W .matrix) w)) i j p q) (NatL.le-trans (parts w₁ w₂ .matrix) bound))
+
+      follower-least : b .peak ≤ larger
+      follower-least =
+          k .least larger matrix-least
+          (λ i j p q. NatL.le-trans (entry-under (follower x W) (onRows op (contents (follower x W) w₁)) i j p q) (NatL.le-trans (parts w₁ w₂ .follower) bound))
+
+      undone-least : d .peak ≤ larger
+      undone-least =
+          g .least larger follower-least
+          (λ i j p q. NatL.le-trans (entry-under (undone x W) (onRows (inverse op) (contents (undone x W) w₂)) i j p q) (NatL.le-trans (parts w₁ w₂ .undone) bound))
+
+      reached-under : reached w₁ w₂ ≤ d .peak
+      reached-under = subst (λ (s : State). largest s ≤ d .peak) (tables peak) (largest-under W peak (g .under))
+
+      peak-is : d .peak ≡ larger
+      peak-is = NatL.le-antisymm undone-least (NatL.max-le (NatL.le-trans (h .above) (NatL.le-trans (k .above) (g .above))) reached-under)
+
+      state-is : stateOf W (d .peak) w₃ ≡ noted (newState x op W peak w w₁ w₂)
+      state-is = tables (d .peak) ∙ ap (λ (p : ℕ). put x A B C D E p) peak-is ∙ sym (noted-put x A B C D E peak)
+
 -- ---- the same, as the code finds the answers: each call's result r with what it turned out to be
 
 -- an operation that is called on a slice
@@ -202,36 +262,52 @@ pub record Task : Type 0 where
   pub side : Side
   pub operation : Operation
   pub layout : Layout
+  pub peak : ℕ
   pub slice : List ℤ
   pub laid : Laid (length slice) layout
   pub fits : Fits (count side layout) operation
 
 -- what the operation answers and leaves
 abbrev pub Comes : Task → Effect → List ℤ → Type 0
-Comes t r w′ = Operated (t .layout) (outcomeOn (t .side) (t .layout) (t .operation) (stateOf (t .layout) (t .slice))) r w′
+Comes t r w′ = Operated (t .layout) (outcomeOn (t .side) (t .layout) (t .operation) (stateOf (t .layout) (t .peak) (t .slice))) r w′
 
-module _ (t : Task) (w₁ : List ℤ) (r₁ : Effect) (b₁ : OnMatrix (t .side) (t .operation) (t .layout) (t .slice) r₁ w₁) where
+-- the call on the matrix, as the code finds its answer
+pub record MatrixCalled : Type 0 where
+  pub task : Task
+  pub left : List ℤ
+  pub result : Effect
+  pub became : OnMatrix (task .side) (task .operation) (task .layout) (task .slice) (task .peak) result left
+
+module _ (c : MatrixCalled) where
+  abbrev t : Task
+  t = c .task
+
+  turned : (r : Effect) → c .result ≡ r → OnMatrix (t .side) (t .operation) (t .layout) (t .slice) (t .peak) r (c .left)
+  turned r e = subst (λ (x : Effect). OnMatrix (t .side) (t .operation) (t .layout) (t .slice) (t .peak) x (c .left)) e (c .became)
+
   -- the matrix goes too wide
-  pub wide-matrix : r₁ ≡ TooWide → Comes t TooWide w₁
-  wide-matrix e =
-      wide-first (t .side) (t .operation) (t .layout) (t .slice) (t .laid) (t .fits .within)
-      (subst (λ (r : Effect). OnMatrix (t .side) (t .operation) (t .layout) (t .slice) r w₁) e b₁)
+  pub wide-matrix : c .result ≡ TooWide → Comes t TooWide (c .left)
+  wide-matrix e = wide-first (t .side) (t .operation) (t .layout) (t .peak) (t .slice) (t .laid) (t .fits .within) (turned TooWide e)
 
-  module _ {a : Written} (e₁ : r₁ ≡ Done a) where
-    done₁ : OnMatrix (t .side) (t .operation) (t .layout) (t .slice) (Done a) w₁
-    done₁ = subst (λ (r : Effect). OnMatrix (t .side) (t .operation) (t .layout) (t .slice) r w₁) e₁ b₁
-
+  module _ {a : Written} (e : c .result ≡ Done a) where
     -- what the companions' call asks
-    pub companions-ready : Companions (follower (t .side) (t .layout)) (undone (t .side) (t .layout)) (t .operation) w₁
+    pub companions-ready : Companions (follower (t .side) (t .layout)) (undone (t .side) (t .layout)) (t .operation) (a .peak) (c .left)
     companions-ready = record {
-      follower-held = record { ends = rw (done₁ .same-length) (follower-inside (t .laid) (t .side)) };
-      inverse-held = record { ends = rw (done₁ .same-length) (undone-inside (t .laid) (t .side)) };
-      small = done₁ .small;
+      follower-held = record { ends = rw (turned (Done a) e .same-length) (follower-inside (t .laid) (t .side)) };
+      inverse-held = record { ends = rw (turned (Done a) e .same-length) (undone-inside (t .laid) (t .side)) };
+      under = turned (Done a) e .under;
       follower-fits = follower-fits (t .laid) (t .side) (t .fits);
       inverse-fits = undone-fits (t .laid) (t .side) (t .fits);
     }
 
     -- a companion goes too wide, or all is done
-    pub operated : {r : Effect} {w₃ : List ℤ} → Followed (follower (t .side) (t .layout)) (undone (t .side) (t .layout)) (t .operation) w₁ r w₃ → Comes t r w₃
-    operated (Followed.stopped h) = wide-second (t .side) (t .operation) (t .layout) (t .slice) (t .laid) (t .fits .within) done₁ h
-    operated (Followed.followed h r g) = ends (t .side) (t .operation) (t .layout) (t .slice) (t .laid) (t .fits .within) done₁ h r g
+    comes :
+        {r : Effect} {w₃ : List ℤ} → Followed (follower (t .side) (t .layout)) (undone (t .side) (t .layout)) (t .operation) (a .peak) (c .left) r w₃
+        → Comes t r w₃
+    comes (Followed.stopped h) = wide-second (t .side) (t .operation) (t .layout) (t .peak) (t .slice) (t .laid) (t .fits .within) (turned (Done a) e) h
+    comes (Followed.followed h r g) = ends (t .side) (t .operation) (t .layout) (t .peak) (t .slice) (t .laid) (t .fits .within) (turned (Done a) e) h r g
+
+    pub operated :
+        {r : Effect} {w₃ : List ℤ} (r′ : Effect) → r ≡ r′
+        → Followed (follower (t .side) (t .layout)) (undone (t .side) (t .layout)) (t .operation) (a .peak) (c .left) r w₃ → Comes t r′ w₃
+    operated {w₃ = w₃} r′ same h = subst (λ (x : Effect). Comes t x w₃) same (comes h)

@@ -1,5 +1,5 @@
 -- Matrices that share no place of the slice. `lines-on`: what a matrix holds after an operation on it; `contents-off`, `lines-off`: an
--- operation on one matrix keeps every other.
+-- operation on one matrix keeps every other; `contents-apart`: so does every change of that matrix alone.
 use mathlib.Core.Path.{_≡_, refl, _∙_}
 use mathlib.Core.Logic.{inl, inr}
 use mathlib.Core.List.{List}
@@ -12,9 +12,10 @@ use Rattle.matrices.specs.Matrix.{Eq}
 use Rattle.matrices.specs.Matrix as theory
 use Rattle.reduction_steps.specs.Table.{Table, table}
 use Rattle.reduction_laws.specs.Tables.{table-ext}
-use Rattle.lines.specs.Slice.{lineAt}
+use Rattle.lines.specs.Slice.{at, lineAt}
 use Rattle.lines.specs.Matrices.{end, contents, Off, Holds}
 use Rattle.lines.specs.declared.matrix.Matrix.{Matrix}
+use Rattle.lines.specs.declared.line.Written.{Written}
 use Rattle.operations.specs.Laid.{linesOf}
 
 -- place p belongs to the matrix
@@ -48,11 +49,14 @@ module _ {M N : Matrix} (apart : Disjoint M N) where
       go (no a) (yes b) = inr b
       go (no a) (no b) = absurd (apart .none p (record { from = omega arith; below = omega arith }) here)
 
-  pub contents-off : {w w′ : List ℤ} {A : theory.Matrix} → Holds M w A w′ → Kept N w w′
-  contents-off h =
-      record { same = record { at = λ i j a b. h .off (lineAt (N .at) (N .width) i + j) (off (lineAt (N .at) (N .width) i + j) (entry-inside N i j a b)) } }
+  pub contents-apart : (w w′ : List ℤ) → ((p : ℕ) → Off M p → at w′ p ≡ at w p) → Kept N w w′
+  contents-apart w w′ kept =
+      record { same = record { at = λ i j a b. kept (lineAt (N .at) (N .width) i + j) (off (lineAt (N .at) (N .width) i + j) (entry-inside N i j a b)) } }
 
-  pub lines-off : {w w′ : List ℤ} {A : theory.Matrix} → Holds M w A w′ → linesOf N w′ ≡ linesOf N w
+  pub contents-off : {w w′ : List ℤ} {A : theory.Matrix} {peak : ℕ} {x : Written} → Holds M w A peak x w′ → Kept N w w′
+  contents-off {w} {w′} h = contents-apart w w′ (h .off)
+
+  pub lines-off : {w w′ : List ℤ} {A : theory.Matrix} {peak : ℕ} {x : Written} → Holds M w A peak x w′ → linesOf N w′ ≡ linesOf N w
   unfolding linesOf
   lines-off h = table-ext (contents-off h .same)
 
@@ -66,6 +70,6 @@ kept-trans h k = record { same = record { at = λ i j a b. k .same .at i j a b �
 abbrev pub shaped : Matrix → theory.Matrix → Table
 shaped M A = table (M .lines) (M .width) A
 
-pub lines-on : {M : Matrix} {w w′ : List ℤ} {A : theory.Matrix} → Holds M w A w′ → linesOf M w′ ≡ shaped M A
+pub lines-on : {M : Matrix} {w w′ : List ℤ} {A : theory.Matrix} {peak : ℕ} {x : Written} → Holds M w A peak x w′ → linesOf M w′ ≡ shaped M A
 unfolding linesOf
 lines-on h = table-ext (h .on)

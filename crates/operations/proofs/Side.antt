@@ -1,15 +1,14 @@
 -- The operations on rows and those on columns, told alike. An operation on a side changes the matrix, the side's follower and its
 -- inverse companion, and keeps the two companions of the other side.
-use mathlib.Core.Path.{_≡_, refl, sym}
-use mathlib.Core.Bool.{Bool, true, false, false≢true, _&&_}
+use mathlib.Core.Path.{_≡_, refl}
 use mathlib.Core.List.{List}
-use Prim.Native.Nat.{ℕ, _≤_}
+use Prim.Native.Nat.{ℕ, _≤_, max}
 use native.Mathlib.Omega.{arith}
 use lib.IntN.{ℤ}
 use Rattle.matrices.specs.Matrix as theory
 use Rattle.matrices.specs.Operation.{Operation, onRows, onColumns, inverse}
-use Rattle.reduction_steps.specs.Table.{Table, entry, table, tableWithin}
-use Rattle.reduction_steps.specs.State.{State, Outcome, follow, rowOperation, columnOperation, within, checked, onRow, onColumn}
+use Rattle.reduction_steps.specs.Table.{Table, entry, table, tableLargest}
+use Rattle.reduction_steps.specs.State.{State, Outcome, largest, noted, follow, rowOperation, columnOperation, checked, onRow, onColumn}
 use Rattle.lines.specs.Slice.{entryLimit}
 use Rattle.lines.specs.Matrices.{end, Held}
 use Rattle.lines.specs.Operations.{Fits}
@@ -50,50 +49,51 @@ abbrev pub outcomeOn : Side → Layout → Operation → State → Outcome
 outcomeOn rows W op s = onRow entryLimit (sizesOf W) op s
 outcomeOn columns W op s = onColumn entryLimit (sizesOf W) op s
 
--- the state with the matrix, the side's follower and inverse companion, and those of the other side
-abbrev pub put : Side → Table → Table → Table → Table → Table → State
-put rows a b c d e = record { matrix = a; rowFollower = b; rowInverse = c; columnFollower = d; columnInverse = e }
-put columns a b c d e = record { matrix = a; rowFollower = d; rowInverse = e; columnFollower = b; columnInverse = c }
+-- the state with the matrix, the side's follower and inverse companion, those of the other side, and the peak
+abbrev pub put : Side → Table → Table → Table → Table → Table → ℕ → State
+put rows a b c d e peak = record { matrix = a; rowFollower = b; rowInverse = c; columnFollower = d; columnInverse = e; peak = peak }
+put columns a b c d e peak = record { matrix = a; rowFollower = d; rowInverse = e; columnFollower = b; columnInverse = c; peak = peak }
 
 pub state-put :
-    (x : Side) (W : Layout) (w : List ℤ)
-    → stateOf W w ≡ put x (linesOf (W .matrix) w) (linesOf (follower x W) w) (linesOf (undone x W) w) (linesOf (follower (across x) W) w) (linesOf (undone (across x) W) w)
-unfolding stateOf
-state-put rows W w = refl
-state-put columns W w = refl
+    (x : Side) (W : Layout) (peak : ℕ) (w : List ℤ)
+    → stateOf W peak w ≡ put x (linesOf (W .matrix) w) (linesOf (follower x W) w) (linesOf (undone x W) w) (linesOf (follower (across x) W) w) (linesOf (undone (across x) W) w) peak
+state-put rows W peak w = refl
+state-put columns W peak w = refl
+
+pub noted-put :
+    (x : Side) (a b c d e : Table) (peak : ℕ) → noted (put x a b c d e peak) ≡ put x a b c d e (max peak (largest (put x a b c d e peak)))
+noted-put rows a b c d e peak = refl
+noted-put columns a b c d e peak = refl
 
 pub outcome-put :
-    (x : Side) (W : Layout) (op : Operation) (w : List ℤ)
-    → outcomeOn x W op (stateOf W w)
-    ≡ checked entryLimit (put x
+    (x : Side) (W : Layout) (op : Operation) (peak : ℕ) (w : List ℤ)
+    → outcomeOn x W op (stateOf W peak w)
+    ≡ checked entryLimit (noted (put x
     (table (W .matrix .lines) (W .matrix .width) (onSide x op (entry (linesOf (W .matrix) w))))
     (follow (count x W) (follower x W .width) op (linesOf (follower x W) w))
     (follow (count x W) (undone x W .width) (inverse op) (linesOf (undone x W) w))
     (linesOf (follower (across x) W) w)
-    (linesOf (undone (across x) W) w))
-unfolding stateOf onRow onColumn rowOperation columnOperation
-outcome-put rows W op w = refl
-outcome-put columns W op w = refl
+    (linesOf (undone (across x) W) w)
+    peak))
+unfolding onRow onColumn rowOperation columnOperation
+outcome-put rows W op peak w = refl
+outcome-put columns W op peak w = refl
 
--- one table beyond the limit is enough
-pub within-put :
-    (x : Side) (a b c d e : Table) → tableWithin entryLimit a && (tableWithin entryLimit b && tableWithin entryLimit c) ≡ false
-    → within entryLimit (put x a b c d e) ≡ false
-unfolding within
-within-put rows a b c d e h = go (tableWithin entryLimit a) (tableWithin entryLimit b) (tableWithin entryLimit c) (tableWithin entryLimit d && tableWithin entryLimit e) h
-  where
-    go : (p q r t : Bool) → p && (q && r) ≡ false → p && (q && (r && t)) ≡ false
-    go false q r t h = refl
-    go true false r t h = refl
-    go true true false t h = refl
-    go true true true t h = absurd (false≢true (sym h))
-within-put columns a b c d e h = go (tableWithin entryLimit a) (tableWithin entryLimit d) (tableWithin entryLimit e) (tableWithin entryLimit b) (tableWithin entryLimit c) h
-  where
-    go : (p t u q r : Bool) → p && (q && r) ≡ false → p && (t && (u && (q && r))) ≡ false
-    go false t u q r h = refl
-    go true false u q r h = refl
-    go true true false q r h = refl
-    go true true true q r h = h
+-- the largest entry of a state, whatever its peak
+pub record Largest (a b c n : ℕ) : Type 0 where
+  pub matrix : a ≤ n
+  pub follower : b ≤ n
+  pub undone : c ≤ n
+
+pub largest-put : (x : Side) (a b c d e : Table) (peak : ℕ) → Largest (tableLargest a) (tableLargest b) (tableLargest c) (largest (put x a b c d e peak))
+unfolding largest
+largest-put rows a b c d e peak = record { matrix = omega arith; follower = omega arith; undone = omega arith }
+largest-put columns a b c d e peak = record { matrix = omega arith; follower = omega arith; undone = omega arith }
+
+pub largest-peak : (x : Side) (a b c d e : Table) (p q : ℕ) → largest (put x a b c d e p) ≡ largest (put x a b c d e q)
+unfolding largest
+largest-peak rows a b c d e p q = refl
+largest-peak columns a b c d e p q = refl
 
 -- ---- how the matrices lie
 

@@ -3,6 +3,7 @@
 use mathlib.Core.Path.{_≡_, refl, sym, ap, _∙_}
 use mathlib.Core.List.{List}
 use Prim.Native.Nat.{ℕ, _<_}
+use native.Mathlib.Nat as NatL
 use native.Mathlib.Decide.{ℕ-discrete}
 use lib.IntN.{ℤ, pos, negℤ}
 use Rattle.integers.specs.Ring.{zero-mul, add-zero}
@@ -12,7 +13,7 @@ use Rattle.matrices.specs.Operation.{Operation, subtract, swap, negate, onRows,
 use Rattle.matrices.specs.OperationLaws.{onRows-subtract-at, onRows-subtract-other, onRows-swap-first, onRows-swap-other}
 use lib.ListN.{length}
 use Rattle.reduction_steps.specs.State.{made, onRow, onColumn}
-use Rattle.lines.specs.Slice.{entryLimit, Small}
+use Rattle.lines.specs.Slice.{entryLimit, Under}
 use Rattle.lines.specs.Matrices.{contents, Holds}
 use Rattle.lines.specs.Operations.{Fits}
 use Rattle.lines.specs.declared.matrix.Matrix.{Matrix}
@@ -54,26 +55,34 @@ identity-inverse (swap i k) e = e
 identity-inverse (negate k) e = e
 
 -- a slice holds what it holds
-holds-same : (M : Matrix) (w : List ℤ) (A : theory.Matrix) → Small w → ((a b : ℕ) → A a b ≡ contents M w a b) → Holds M w A w
-holds-same M w A s e = record { same-length = refl; on = record { at = λ a b x y. sym (e a b) }; off = λ p o. refl; small = s }
+holds-same :
+    (M : Matrix) (w : List ℤ) (A : theory.Matrix) {peak : ℕ} → Under peak w → ((a b : ℕ) → A a b ≡ contents M w a b) → Holds M w A peak (record { peak = peak }) w
+holds-same M w A {peak} s e = record {
+  same-length = refl;
+  on = record { at = λ a b x y. sym (e a b) };
+  off = λ p o. refl;
+  under = s;
+  above = NatL.le-refl peak;
+  least = λ L l h. l;
+}
 
-pub unchanged : (t : Task) → Small (t .slice) → Identity (t .operation) → (a : Written) → Comes t (Done a) (t .slice)
-unchanged t s e a =
+pub unchanged : (t : Task) → Under (t .peak) (t .slice) → Identity (t .operation) → Comes t (Done (record { peak = t .peak })) (t .slice)
+unchanged t s e =
     let x = t .side in let op = t .operation in let W = t .layout in let w = t .slice in
-    ends x op W w (t .laid) (t .fits .within)
+    ends x op W (t .peak) w (t .laid) (t .fits .within)
     (holds-same (W .matrix) w (onSide x op (contents (W .matrix) w)) s (onSide-identity x op e (contents (W .matrix) w)))
     (holds-same (follower x W) w (onRows op (contents (follower x W) w)) s (onRows-identity op e (contents (follower x W) w)))
-    (Done a)
+    (Done (record { peak = t .peak }))
     (holds-same (undone x W) w (onRows (inverse op) (contents (undone x W) w)) s (onRows-identity (inverse op) (identity-inverse op e) (contents (undone x W) w)))
 
 -- ---- what the passes need: no operation is called where it would change nothing
 
-module _ (W : Layout) (w : List ℤ) (laid : Laid (length w) W) (small : Small w) (op : Operation) (identity : Identity op) where
-  pub rows-unchanged : Fits (W .matrix .lines) op → onRow entryLimit (sizesOf W) op (stateOf W w) ≡ made (stateOf W w)
-  rows-unchanged fits = sym (unchanged (record { side = rows; operation = op; layout = W; slice = w; laid = laid; fits = fits }) small identity (record {}) .outcome)
+module _ (W : Layout) (peak : ℕ) (w : List ℤ) (laid : Laid (length w) W) (under : Under peak w) (op : Operation) (identity : Identity op) where
+  pub rows-unchanged : Fits (W .matrix .lines) op → onRow entryLimit (sizesOf W) op (stateOf W peak w) ≡ made (stateOf W peak w)
+  rows-unchanged fits = sym (unchanged (record { side = rows; operation = op; layout = W; peak = peak; slice = w; laid = laid; fits = fits }) under identity .outcome)
 
-  pub columns-unchanged : Fits (W .matrix .width) op → onColumn entryLimit (sizesOf W) op (stateOf W w) ≡ made (stateOf W w)
-  columns-unchanged fits = sym (unchanged (record { side = columns; operation = op; layout = W; slice = w; laid = laid; fits = fits }) small identity (record {}) .outcome)
+  pub columns-unchanged : Fits (W .matrix .width) op → onColumn entryLimit (sizesOf W) op (stateOf W peak w) ≡ made (stateOf W peak w)
+  columns-unchanged fits = sym (unchanged (record { side = columns; operation = op; layout = W; peak = peak; slice = w; laid = laid; fits = fits }) under identity .outcome)
 
 -- an exchange of two of n lines
 pub swap-fits : {n : ℕ} (i k : ℕ) → (i < n) × (k < n) → Fits n (swap i k)

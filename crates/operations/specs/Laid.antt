@@ -6,7 +6,7 @@ use lib.IntN.{ℤ}
 use Rattle.matrices.specs.Operation.{Operation, onRows, inverse}
 use Rattle.reduction_steps.specs.Table.{Table, table}
 use Rattle.reduction_steps.specs.State.{Sizes, State, Outcome, made, tooWide}
-use Rattle.lines.specs.Slice.{Small}
+use Rattle.lines.specs.Slice.{Under}
 use Rattle.lines.specs.Matrices.{end, contents, Became}
 use Rattle.lines.specs.declared.matrix.Matrix.{Matrix}
 use Rattle.lines.specs.declared.line.Written.{Written}
@@ -43,30 +43,36 @@ sizesOf W =
 unfoldable pub linesOf : Matrix → List ℤ → Table
 linesOf M w = table (M .lines) (M .width) (contents M w)
 
--- the state that the slice w holds
-unfoldable pub stateOf : Layout → List ℤ → State
-stateOf W w =
+-- the state that the slice w holds, with the peak so far
+abbrev pub stateOf : Layout → ℕ → List ℤ → State
+stateOf W peak w =
     record {
       matrix = linesOf (W .matrix) w;
       rowFollower = linesOf (W .«row_follower») w;
       rowInverse = linesOf (W .«row_inverse») w;
       columnFollower = linesOf (W .«column_follower») w;
       columnInverse = linesOf (W .«column_inverse») w;
+      peak = peak;
     }
 
--- what an operation has come to: the state that it made, or too wide
-abbrev pub outcomeOf : Effect → State → Outcome
-outcomeOf (Done x) s = made s
-outcomeOf TooWide s = tooWide
+-- what an operation has come to: the state that it made, with the peak that it answered, or too wide
+abbrev pub outcomeOf : Layout → Effect → List ℤ → Outcome
+outcomeOf W (Done x) w′ = made (stateOf W (x .peak) w′)
+outcomeOf W TooWide w′ = tooWide
+
+-- every entry of the slice lies within the peak that it answered
+abbrev pub UnderDone : Effect → List ℤ → Type 0
+UnderDone (Done x) w′ = Under (x .peak) w′
+UnderDone TooWide w′ = Unit {0}
 
 -- the operation's outcome o is the one answered, and the slice holds the state that it made
 pub record Operated (W : Layout) (o : Outcome) (r : Effect) (w′ : List ℤ) : Type 0 where
-  pub outcome : outcomeOf r (stateOf W w′) ≡ o
-  pub small : Small w′
+  pub outcome : outcomeOf W r w′ ≡ o
+  pub under : UnderDone r w′
 
 -- a follower F undergoes the operation and an inverse companion U its inverse: F goes too wide, or U comes to r after it
-pub data Followed (F U : Matrix) (op : Operation) (w : List ℤ) : Effect → List ℤ → Type 0 where
-  stopped : {w′ : List ℤ} → Became F w (onRows op (contents F w)) TooWide w′ → Followed F U op w TooWide w′
+pub data Followed (F U : Matrix) (op : Operation) (peak : ℕ) (w : List ℤ) : Effect → List ℤ → Type 0 where
+  stopped : {w′ : List ℤ} → Became F w (onRows op (contents F w)) peak TooWide w′ → Followed F U op peak w TooWide w′
   followed :
-      {x : Written} {w₁ : List ℤ} → Became F w (onRows op (contents F w)) (Done x) w₁ → (r : Effect) {w′ : List ℤ} →
-      Became U w₁ (onRows (inverse op) (contents U w₁)) r w′ → Followed F U op w r w′
+      {x : Written} {w₁ : List ℤ} → Became F w (onRows op (contents F w)) peak (Done x) w₁ → (r : Effect) {w′ : List ℤ} →
+      Became U w₁ (onRows (inverse op) (contents U w₁)) (x .peak) r w′ → Followed F U op peak w r w′

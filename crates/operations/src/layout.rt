@@ -4,7 +4,7 @@ ghost use Prim.Native.Nat.{_+_, _*_, _<_, _≤_, max};
 ghost use lib.ListN.{length};
 ghost use Rattle.matrices.specs.Operation.{swap, inverse as undoing};
 ghost use Rattle.reduction_steps.specs.State.{onRow, onColumn};
-ghost use Rattle.lines.specs.Slice.{entryLimit, Small};
+ghost use Rattle.lines.specs.Slice.{entryLimit, Under};
 ghost use Rattle.lines.specs.Operations.{operationOf, Fits, Alone};
 ghost use Rattle.lines.specs.Matrices.{Held};
 ghost use Rattle.operations.specs.Laid.{Laid, sizesOf, stateOf, Operated, Followed};
@@ -113,69 +113,90 @@ impl Layout {
     }
 }
 
-// Does the operation to a follower, then its inverse to an inverse companion.
-fn follow(follower: Matrix, inverse: Matrix, w: &mut [i32], op: Operation) -> Effect
-    requires { ⌜ Held (length (now w)) follower × Held (length (now w)) inverse × Small (now w) ⌝ }
+// Does the operation to a follower, then its inverse to an inverse companion. Where both are absent nothing is called.
+fn follow(follower: Matrix, inverse: Matrix, w: &mut [i32], op: Operation, peak: u64) -> Effect
+    requires { ⌜ Held (length (now w)) follower × Held (length (now w)) inverse × Under peak (now w) ⌝ }
     requires { ⌜ Fits (follower .lines) (operationOf op) × Fits (inverse .lines) (undoing (operationOf op)) ⌝ }
-    ensures { λ r. ⌜ Followed follower inverse (operationOf op) (now (w .entry)) r (now (w .exit)) ⌝ }
+    ensures { λ r. ⌜ Followed follower inverse (operationOf op) peak (now (w .entry)) r (now (w .exit)) ⌝ }
 {
+    if follower.width == 0 {
+        if inverse.width == 0 {
+            return Effect::Done(Written { peak });
+        }
+    }
     let undone = op.inverse();
-    let Effect::Done(_) = follower.on_lines(w, op) else {
+    let Effect::Done(first) = follower.on_lines(w, op, peak) else {
         return Effect::TooWide;
     };
-    inverse.on_lines(w, undone)
+    let Effect::Done(second) = inverse.on_lines(w, undone, first.peak) else {
+        return Effect::TooWide;
+    };
+    Effect::Done(second)
 }
 
 impl Layout {
     // Does the operation to the rows of the matrix, and so to its companions.
-    pub fn on_rows(self, w: &mut [i32], op: Operation) -> Effect
+    pub fn on_rows(self, w: &mut [i32], op: Operation, peak: u64) -> Effect
         requires { ⌜ Laid (length (now w)) self ⌝ }
-        requires { ⌜ Small (now w) ⌝ }
+        requires { ⌜ Under peak (now w) ⌝ }
         requires { ⌜ Fits (self .matrix .lines) (operationOf op) ⌝ }
-        ensures { λ r. ⌜ Operated self (onRow entryLimit (sizesOf self) (operationOf op) (stateOf self (now (w .entry)))) r (now (w .exit)) ⌝ }
+        ensures { λ r. ⌜ Operated self (onRow entryLimit (sizesOf self) (operationOf op) (stateOf self peak (now (w .entry)))) r (now (w .exit)) ⌝ }
     {
-        let Effect::Done(_) = self.matrix.on_lines(w, op) else {
+        let Effect::Done(first) = self.matrix.on_lines(w, op, peak) else {
             return Effect::TooWide;
         };
-        follow(self.row_follower, self.row_inverse, w, op)
+        let Effect::Done(second) = follow(self.row_follower, self.row_inverse, w, op, first.peak)
+        else {
+            return Effect::TooWide;
+        };
+        Effect::Done(second)
     }
 
     // The same on columns. Where column k is subtracted, its one nonzero entry stands in row k: the matrix changes in that row alone.
-    pub fn on_columns(self, w: &mut [i32], op: Operation) -> Effect
+    pub fn on_columns(self, w: &mut [i32], op: Operation, peak: u64) -> Effect
         requires { ⌜ Laid (length (now w)) self ⌝ }
-        requires { ⌜ Small (now w) ⌝ }
+        requires { ⌜ Under peak (now w) ⌝ }
         requires { ⌜ Fits (self .matrix .width) (operationOf op) × Alone (self .matrix) (now w) (operationOf op) ⌝ }
-        ensures { λ r. ⌜ Operated self (onColumn entryLimit (sizesOf self) (operationOf op) (stateOf self (now (w .entry)))) r (now (w .exit)) ⌝ }
+        ensures { λ r. ⌜ Operated self (onColumn entryLimit (sizesOf self) (operationOf op) (stateOf self peak (now (w .entry)))) r (now (w .exit)) ⌝ }
     {
-        let Effect::Done(_) = self.matrix.on_places(w, op) else {
+        let Effect::Done(first) = self.matrix.on_places(w, op, peak) else {
             return Effect::TooWide;
         };
-        follow(self.column_follower, self.column_inverse, w, op)
+        let Effect::Done(second) = follow(
+            self.column_follower,
+            self.column_inverse,
+            w,
+            op,
+            first.peak,
+        ) else {
+            return Effect::TooWide;
+        };
+        Effect::Done(second)
     }
 
     // Exchanges rows i and k. A row is not exchanged with itself.
-    pub fn swap_rows(self, w: &mut [i32], i: usize, k: usize) -> Effect
+    pub fn swap_rows(self, w: &mut [i32], i: usize, k: usize, peak: u64) -> Effect
         requires { ⌜ Laid (length (now w)) self ⌝ }
-        requires { ⌜ Small (now w) ⌝ }
+        requires { ⌜ Under peak (now w) ⌝ }
         requires { ⌜ (i < self .matrix .lines) × (k < self .matrix .lines) ⌝ }
-        ensures { λ r. ⌜ Operated self (onRow entryLimit (sizesOf self) (swap i k) (stateOf self (now (w .entry)))) r (now (w .exit)) ⌝ }
+        ensures { λ r. ⌜ Operated self (onRow entryLimit (sizesOf self) (swap i k) (stateOf self peak (now (w .entry)))) r (now (w .exit)) ⌝ }
     {
         if i == k {
-            return Effect::Done(Written {});
+            return Effect::Done(Written { peak });
         }
-        self.on_rows(w, Operation::Swap(i, k))
+        self.on_rows(w, Operation::Swap(i, k), peak)
     }
 
     // The same on columns.
-    pub fn swap_columns(self, w: &mut [i32], j: usize, k: usize) -> Effect
+    pub fn swap_columns(self, w: &mut [i32], j: usize, k: usize, peak: u64) -> Effect
         requires { ⌜ Laid (length (now w)) self ⌝ }
-        requires { ⌜ Small (now w) ⌝ }
+        requires { ⌜ Under peak (now w) ⌝ }
         requires { ⌜ (j < self .matrix .width) × (k < self .matrix .width) ⌝ }
-        ensures { λ r. ⌜ Operated self (onColumn entryLimit (sizesOf self) (swap j k) (stateOf self (now (w .entry)))) r (now (w .exit)) ⌝ }
+        ensures { λ r. ⌜ Operated self (onColumn entryLimit (sizesOf self) (swap j k) (stateOf self peak (now (w .entry)))) r (now (w .exit)) ⌝ }
     {
         if j == k {
-            return Effect::Done(Written {});
+            return Effect::Done(Written { peak });
         }
-        self.on_columns(w, Operation::Swap(j, k))
+        self.on_columns(w, Operation::Swap(j, k), peak)
     }
 }

@@ -12,7 +12,7 @@ use Rattle.matrices.specs.Operation.{swap, negate}
 use Rattle.reduction_steps.specs.Table.{entry}
 use Rattle.reduction_steps.specs.State.{Sizes, State, tooWide, made, andThen, onRow, onColumn}
 use Rattle.reduction_steps.specs.Step.{positive, bring}
-use Rattle.lines.specs.Slice.{Small}
+use Rattle.lines.specs.Slice.{Under}
 use Rattle.lines.specs.Matrices.{contents}
 use Rattle.words.specs.Read.{read}
 use Rattle.operations.specs.Laid.{stateOf}
@@ -52,12 +52,12 @@ sign-taken (pos n) e = absurd (omega (arith, ltb-true n 0 e))
 sign-taken (negsuc n) e = refl
 
 -- x holds the pivot of the slice w
-module _ (limit : ℕ) (z : Sizes) (W : Layout) (k : ℕ) (w : List ℤ) (small : Small w) (row : k < W .matrix .lines) (column : k < W .matrix .width) {x : ℤ} (x-is : x ≡ contents (W .matrix) w k k) where
-  read-pivot : entry (stateOf W w .matrix) k k ≡ read w64 x
-  read-pivot = entry-state W w k k row column ∙ sym (read-entry (W .matrix) small k k x x-is)
+module _ (limit : ℕ) (z : Sizes) (W : Layout) (k : ℕ) {peak : ℕ} (w : List ℤ) (under : Under peak w) (row : k < W .matrix .lines) (column : k < W .matrix .width) {x : ℤ} (x-is : x ≡ contents (W .matrix) w k k) where
+  read-pivot : entry (stateOf W peak w .matrix) k k ≡ read w64 x
+  read-pivot = entry-state W w k k row column ∙ sym (read-entry (W .matrix) under k k x x-is)
 
-  pub positive-left : ltZ (read w64 x) (pos 0) ≡ false → positive limit z k (stateOf W w) ≡ made (stateOf W w)
-  positive-left e = positive-stays limit z k (stateOf W w) (ap nonNeg read-pivot ∙ sign-left (read w64 x) e)
+  pub positive-left : ltZ (read w64 x) (pos 0) ≡ false → positive limit z k (stateOf W peak w) ≡ made (stateOf W peak w)
+  positive-left e = positive-stays limit z k (stateOf W peak w) (ap nonNeg read-pivot ∙ sign-left (read w64 x) e)
 
-  pub positive-taken : ltZ (read w64 x) (pos 0) ≡ true → positive limit z k (stateOf W w) ≡ onRow limit z (negate k) (stateOf W w)
-  positive-taken e = positive-negates limit z k (stateOf W w) (ap nonNeg read-pivot ∙ sign-taken (read w64 x) e)
+  pub positive-taken : ltZ (read w64 x) (pos 0) ≡ true → positive limit z k (stateOf W peak w) ≡ onRow limit z (negate k) (stateOf W peak w)
+  positive-taken e = positive-negates limit z k (stateOf W peak w) (ap nonNeg read-pivot ∙ sign-taken (read w64 x) e)

@@ -1,41 +1,39 @@
--- The state that a slice holds: entry-state, shaped-state, within-state, held-matrix, laid-kept. operated-done, operated-wide: what an operation
+-- The state that a slice holds: entry-state, shaped-state, held-matrix, laid-kept. operated-done, operated-under, operated-wide: what an operation
 -- came to. rowsDone-moves: a stage's operations keep its finished rows.
 use mathlib.Core.Path.{_≡_, refl, sym, _∙_, ap, subst}
-use mathlib.Core.Bool.{true}
 use mathlib.Core.List.{List}
-use Prim.Native.Nat.{ℕ, _+_, _<_}
+use Prim.Native.Nat.{ℕ, _<_}
 use native.Mathlib.Omega.{arith}
 use lib.ListN.{length}
 use lib.IntN.{ℤ}
 use Rattle.matrices.specs.Matrix as theory
-use Rattle.reduction_steps.specs.Table.{table, entry, tableWithin}
-use Rattle.reduction_steps.specs.State.{Sizes, State, Outcome, made, tooWide, within}
-use Rattle.reduction_laws.specs.Tables.{entry-table, table-entry, tableWithin-table}
-use Rattle.reduction_laws.specs.Shape.{Shaped, shaped-rows, shaped-columns, matrix-rows, matrix-columns, within-iff}
+use Rattle.reduction_steps.specs.Table.{table, entry}
+use Rattle.reduction_steps.specs.State.{Sizes, State, Outcome, made, tooWide}
+use Rattle.reduction_laws.specs.Tables.{entry-table, table-entry}
+use Rattle.reduction_laws.specs.Shape.{Shaped, shaped-rows, shaped-columns, matrix-rows, matrix-columns}
 use Rattle.reduction_laws.specs.Moves.{Moves, Keeps, moves-keep}
 use Rattle.reduction_laws.specs.StageLaws as stage-laws
-use Rattle.lines.specs.Slice.{entryLimit, at, lineAt, Small}
+use Rattle.lines.specs.Slice.{Under}
 use Rattle.lines.specs.Matrices.{Held, contents}
-use Rattle.lines.specs.declared.matrix.Matrix.{Matrix}
 use Rattle.lines.specs.declared.line.Written.{Written}
 use Rattle.lines.specs.declared.line.Effect.{Effect}
 use Rattle.lines.specs.declared.line.Effect.the-variants.{Done, TooWide}
-use Rattle.operations.specs.Laid.{Laid, sizesOf, linesOf, stateOf, outcomeOf, Operated}
+use Rattle.operations.specs.Laid.{Laid, sizesOf, linesOf, stateOf, outcomeOf, UnderDone, Operated}
 use Rattle.operations.specs.declared.layout.Layout.{Layout}
 
 -- ---- the state of a slice
 
-pub entry-state : (W : Layout) (w : List ℤ) (i j : ℕ) → i < W .matrix .lines → j < W .matrix .width → entry (stateOf W w .matrix) i j ≡ contents (W .matrix) w i j
-unfolding stateOf linesOf
+pub entry-state : (W : Layout) (w : List ℤ) (i j : ℕ) → i < W .matrix .lines → j < W .matrix .width → entry (linesOf (W .matrix) w) i j ≡ contents (W .matrix) w i j
+unfolding linesOf
 entry-state W w i j a b = entry-table (W .matrix .lines) (W .matrix .width) (contents (W .matrix) w) i j a b
 
 -- a table is the table of its own entries, with its number of lines written in another way
 table-lines : {m m′ : ℕ} → m ≡ m′ → (n : ℕ) (A : theory.Matrix) → table m n A ≡ table m′ n (entry (table m n A))
 table-lines {m} e n A = sym (table-entry m n A) ∙ ap (λ (x : ℕ). table x n (entry (table m n A))) e
 
-pub shaped-state : {n : ℕ} {W : Layout} (w : List ℤ) → Laid n W → Shaped (sizesOf W) (stateOf W w)
-unfolding stateOf linesOf
-shaped-state {n} {W} w h = record {
+pub shaped-state : {n : ℕ} {W : Layout} (peak : ℕ) (w : List ℤ) → Laid n W → Shaped (sizesOf W) (stateOf W peak w)
+unfolding linesOf
+shaped-state {n} {W} peak w h = record {
   matrix = table-lines refl (W .matrix .width) (contents (W .matrix) w);
   rowFollower = table-lines (h .row-follower-lines) (W .«row_follower» .width) (contents (W .«row_follower») w);
   rowInverse = table-lines (h .row-inverse-lines) (W .«row_inverse» .width) (contents (W .«row_inverse») w);
@@ -47,31 +45,19 @@ shaped-state {n} {W} w h = record {
 pub laid-kept : {W : Layout} {n : ℕ} (w′ : List ℤ) → Laid n W → length w′ ≡ n → Laid (length w′) W
 laid-kept {W} w′ h l = subst (λ (n : ℕ). Laid n W) (sym l) h
 
-pub within-state : (W : Layout) (w : List ℤ) → Small w → within entryLimit (stateOf W w) ≡ true
-unfolding stateOf linesOf
-within-state W w h =
-    within-iff entryLimit (stateOf W w) .1
-    (record {
-      matrix = narrow (W .matrix);
-      rowFollower = narrow (W .«row_follower»);
-      rowInverse = narrow (W .«row_inverse»);
-      columnFollower = narrow (W .«column_follower»);
-      columnInverse = narrow (W .«column_inverse»);
-    })
-  where
-    narrow : (M : Matrix) → tableWithin entryLimit (table (M .lines) (M .width) (contents M w)) ≡ true
-    narrow M = tableWithin-table entryLimit (M .lines) (M .width) (contents M w) .1 (λ i j _ _. h .bound (lineAt (M .at) (M .width) i + j))
-
 pub held-matrix : {n : ℕ} {W : Layout} → Laid n W → Held n (W .matrix)
 held-matrix h = record { ends = omega (arith, h .after-matrix, h .after-row-inverse, h .after-row-follower, h .after-column-follower, h .after-column-inverse) }
 
 -- ---- what an operation came to
 
-pub operated-done : {W : Layout} {o : Outcome} {r : Effect} {a : Written} {w′ : List ℤ} → Operated W o r w′ → r ≡ Done a → o ≡ made (stateOf W w′)
-operated-done {W} {o} {r} {a} {w′} h e = sym (h .outcome) ∙ ap (λ (x : Effect). outcomeOf x (stateOf W w′)) e
+pub operated-done : {W : Layout} {o : Outcome} {r : Effect} {a : Written} {w′ : List ℤ} → Operated W o r w′ → r ≡ Done a → o ≡ made (stateOf W (a .peak) w′)
+operated-done {W} {o} {r} {a} {w′} h e = sym (h .outcome) ∙ ap (λ (x : Effect). outcomeOf W x w′) e
+
+pub operated-under : {W : Layout} {o : Outcome} {r : Effect} {a : Written} {w′ : List ℤ} → Operated W o r w′ → r ≡ Done a → Under (a .peak) w′
+operated-under {w′} h e = subst (λ (x : Effect). UnderDone x w′) e (h .under)
 
 pub operated-wide : {W : Layout} {o : Outcome} {r : Effect} {w′ : List ℤ} → Operated W o r w′ → r ≡ TooWide → o ≡ tooWide
-operated-wide {W} {o} {r} {w′} h e = sym (h .outcome) ∙ ap (λ (x : Effect). outcomeOf x (stateOf W w′)) e
+operated-wide {W} {o} {r} {w′} h e = sym (h .outcome) ∙ ap (λ (x : Effect). outcomeOf W x w′) e
 
 -- ---- what a stage's operations keep
 

@@ -1,7 +1,7 @@
 // Step b. An operation that goes too wide ends the call there: the slice is cleared.
 ghost use Prim.Native.Nat.{_<_};
 ghost use lib.ListN.{length};
-ghost use Rattle.lines.specs.Slice.{Small};
+ghost use Rattle.lines.specs.Slice.{Under};
 ghost use Rattle.operations.specs.Laid.{Laid};
 ghost use Rattle.passes.specs.Answer.{bringOf, Passed};
 use crate::pass::Pass;
@@ -12,26 +12,27 @@ use operations::layout::Layout;
 use refusal::Refusal;
 
 // Swaps the entry at (i, j) to place (k, k), and negates row k where that is negative.
-pub fn bring_pivot(layout: Layout, w: &mut [i32], k: usize, i: usize, j: usize) -> Pass
+pub fn bring_pivot(layout: Layout, w: &mut [i32], k: usize, i: usize, j: usize, peak: u64) -> Pass
     requires { ⌜ Laid (length (now w)) layout ⌝ }
-    requires { ⌜ Small (now w) ⌝ }
+    requires { ⌜ Under peak (now w) ⌝ }
     requires { ⌜ (k < layout .matrix .lines) × (k < layout .matrix .width) × (i < layout .matrix .lines) × (j < layout .matrix .width) ⌝ }
-    ensures { λ r. ⌜ Passed layout (bringOf layout k i j (now (w .entry))) (length (now (w .entry))) r (now (w .exit)) ⌝ }
+    ensures { λ r. ⌜ Passed layout (bringOf layout k i j peak (now (w .entry))) (length (now (w .entry))) r (now (w .exit)) ⌝ }
 {
-    let Effect::Done(_) = layout.swap_rows(w, i, k) else {
+    let Effect::Done(rows) = layout.swap_rows(w, i, k, peak) else {
         clear(w);
         return Pass::Refused(Refusal::TooWide);
     };
-    let Effect::Done(_) = layout.swap_columns(w, j, k) else {
+    let Effect::Done(columns) = layout.swap_columns(w, j, k, rows.peak) else {
         clear(w);
         return Pass::Refused(Refusal::TooWide);
     };
     let m = layout.matrix;
     if m.entry(w, k, k) < 0 {
-        let Effect::Done(_) = layout.on_rows(w, Operation::Negate(k)) else {
+        let Effect::Done(negated) = layout.on_rows(w, Operation::Negate(k), columns.peak) else {
             clear(w);
             return Pass::Refused(Refusal::TooWide);
         };
+        return Pass::Made(negated.peak);
     }
-    Pass::Made
+    Pass::Made(columns.peak)
 }

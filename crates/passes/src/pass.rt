@@ -11,17 +11,18 @@ use operations::quotient::quotient;
 use refusal::Refusal;
 
 pub enum Pass {
-    Made,
+    Made(u64),
     Refused(Refusal),
 }
 
 // Step c: for each lower row in rising order, subtracts quotient times row k.
-pub fn clear_column(layout: Layout, w: &mut [i32], k: usize) -> Pass
-    requires { ⌜ Placed layout k (now w) ⌝ }
-    ensures { λ r. ⌜ Passed layout (rowPassOf layout k (now (w .entry))) (length (now (w .entry))) r (now (w .exit)) ⌝ }
+pub fn clear_column(layout: Layout, w: &mut [i32], k: usize, peak: u64) -> Pass
+    requires { ⌜ Placed layout k peak (now w) ⌝ }
+    ensures { λ r. ⌜ Passed layout (rowPassOf layout k peak (now (w .entry))) (length (now (w .entry))) r (now (w .exit)) ⌝ }
 {
     let m = layout.matrix;
     let rows = m.lines;
+    let mut largest = peak;
     let mut i = k + 1;
     while i < rows {
         let q = quotient(m.entry(w, i, k), m.entry(w, k, k));
@@ -29,30 +30,34 @@ pub fn clear_column(layout: Layout, w: &mut [i32], k: usize) -> Pass
             i = i + 1;
             continue;
         }
-        let Effect::Done(_) = layout.on_rows(w, Operation::Subtract(i, k, q)) else {
+        let Effect::Done(written) = layout.on_rows(w, Operation::Subtract(i, k, q), largest) else {
             clear(w);
             return Pass::Refused(Refusal::TooWide);
         };
+        largest = written.peak;
         i = i + 1;
     }
-    Pass::Made
+    Pass::Made(largest)
 }
 
 // Step d: for each later column in rising order, subtracts quotient times column k, whose one nonzero entry is the pivot.
-pub fn clear_row(layout: Layout, w: &mut [i32], k: usize) -> Pass
-    requires { ⌜ ColumnClear layout k (now w) ⌝ }
-    ensures { λ r. ⌜ Passed layout (columnPassOf layout k (now (w .entry))) (length (now (w .entry))) r (now (w .exit)) ⌝ }
+pub fn clear_row(layout: Layout, w: &mut [i32], k: usize, peak: u64) -> Pass
+    requires { ⌜ ColumnClear layout k peak (now w) ⌝ }
+    ensures { λ r. ⌜ Passed layout (columnPassOf layout k peak (now (w .entry))) (length (now (w .entry))) r (now (w .exit)) ⌝ }
 {
     let m = layout.matrix;
     let columns = m.width;
+    let mut largest = peak;
     let mut j = first_nonzero(w, m.line(k), k + 1, columns);
     while j < columns {
         let q = quotient(m.entry(w, k, j), m.entry(w, k, k));
-        let Effect::Done(_) = layout.on_columns(w, Operation::Subtract(j, k, q)) else {
+        let Effect::Done(written) = layout.on_columns(w, Operation::Subtract(j, k, q), largest)
+        else {
             clear(w);
             return Pass::Refused(Refusal::TooWide);
         };
+        largest = written.peak;
         j = first_nonzero(w, m.line(k), j + 1, columns);
     }
-    Pass::Made
+    Pass::Made(largest)
 }

@@ -16,12 +16,12 @@ use Rattle.complexes.specs.Cell.{without, same, rises, precedes, listed}
 use Rattle.complexes.specs.Boundary.{sign, coefficient, countBelow, boundary}
 use Rattle.sheet_format.specs.Layout.{start}
 use Rattle.sheet_format.specs.Check.{countField, offsetField, cellOf, cellsOf, sectionsOf, chainCells, some, verticesDoNotRise, cellsDoNotRise, faceMissing, refusal}
-use Rattle.reduction_steps.specs.Table.{table, rowWithin, tableWithin}
-use Rattle.reduction_steps.specs.State.{follow, rowOperation, columnOperation, within, checked, andThen, onRow, onColumn}
+use Rattle.reduction_steps.specs.Table.{table, rowLargest, tableLargest, tableWithin}
+use Rattle.reduction_steps.specs.State.{largest, follow, rowOperation, columnOperation, within, checked, andThen, onRow, onColumn}
 use Rattle.reduction_steps.specs.Pivot.{better, alongRow, downRows, release1, pivotRule}
 use Rattle.reduction_steps.specs.Step.{columnKeeps, rowKeeps, rowIndivisible, firstIndivisible, positive, bring, quotient, rowPass, columnPass, next, step, run, reduce}
 use Rattle.reports.specs.Reductions.{tooWide, reduced, firstStart, product, secondStart, afterSecond, second, afterFirst, reductions}
-use Rattle.reports.specs.Report.{Counts, reported, columnsOf, torsionCount, reportList, coordinateAt, coordinateList}
+use Rattle.reports.specs.Report.{Counts, reported, columnsOf, torsionCount, halvings, bitsOf, reportList, coordinateAt, coordinateList}
 use Rattle.reports.specs.Call.{Called, done, coefficientExceeds, boundaryNotZero, callChecks, chainChecks, finished, reductionsOf, reportCall, coordinateCall}
 use Rattle.reports.specs.Text.{digits, decimal, spaced, generatorLines, dimensionText}
 use Rattle.reports.specs.WideEnd.{inFirst, inSecond, endOfSecond, endOfProduct, endOfFirst, end, endsWide, end-wide}
@@ -32,7 +32,7 @@ pub reductions-plane : reductionsOf pivotRule (chainCells sheet) 1 ≡ reduced 1
 unfolding reductionsOf reductions firstStart afterFirst second product secondStart afterSecond countBelow boundary coefficient sign
     countField cellOf cellsOf sectionsOf chainCells without same start
     reduce run step next bring positive quotient rowPass columnPass columnKeeps rowKeeps rowIndivisible firstIndivisible
-    release1 downRows alongRow better onRow onColumn checked andThen within rowOperation columnOperation follow tableWithin rowWithin table
+    release1 downRows alongRow better onRow onColumn checked andThen within largest rowOperation columnOperation follow tableWithin tableLargest rowLargest table
     onRows onColumns inverse identity null mul sum floor divides tabulate
 reductions-plane = refl
 
@@ -42,9 +42,9 @@ reductions-plane = refl
 abbrev pub nines : ℕ → List ℤ
 nines n = replicate n (pos 9)
 
--- b = 0 and t = 1
+-- b = 0, t = 1, and no entry beyond 2, which needs two bits
 abbrev pub counts : Counts
-counts = record { free = 0; torsion = 1 }
+counts = record { free = 0; torsion = 1; peak = 2; bits = 2 }
 
 -- done, these numbers in the output and the other slots untouched, the work slice cleared
 abbrev gives : List ℤ → List ℤ → Called
@@ -60,7 +60,7 @@ pub record PlaneCalls : Type 0 where
 pub plane-calls : PlaneCalls
 unfolding reportCall coordinateCall callChecks chainChecks coefficientExceeds boundaryNotZero finished
     refusal countField offsetField cellOf cellsOf sectionsOf chainCells some verticesDoNotRise cellsDoNotRise faceMissing without same rises precedes listed start
-    countBelow boundary coefficient sign apply sum floor modulo tabulate reportList coordinateList coordinateAt torsionCount columnsOf reported
+    countBelow boundary coefficient sign apply sum floor modulo tabulate reportList coordinateList coordinateAt torsionCount bitsOf halvings columnsOf reported
     dimensionText generatorLines spaced decimal digits
 plane-calls = record {
   report-call = rw reductions-plane;
@@ -79,7 +79,7 @@ pub record PlaneWide : Type 0 where
 pub plane-wide : PlaneWide
 unfolding end endOfFirst endOfProduct endOfSecond firstStart product secondStart countBelow boundary coefficient sign without same
     reduce run step next bring positive quotient rowPass columnPass columnKeeps rowKeeps rowIndivisible firstIndivisible
-    release1 downRows alongRow better onRow onColumn checked andThen within rowOperation columnOperation follow tableWithin rowWithin table
+    release1 downRows alongRow better onRow onColumn checked andThen within largest rowOperation columnOperation follow tableWithin tableLargest rowLargest table
     onRows onColumns inverse identity null mul sum floor divides tabulate
 plane-wide = record { first = refl; second = refl }
 

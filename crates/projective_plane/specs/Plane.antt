@@ -65,6 +65,7 @@ left =
           ∷ [];
       columnFollower = [] ∷ [] ∷ [] ∷ [] ∷ [] ∷ [] ∷ [] ∷ [] ∷ [] ∷ [] ∷ [];
       columnInverse = [] ∷ [] ∷ [] ∷ [] ∷ [] ∷ [] ∷ [] ∷ [] ∷ [] ∷ [] ∷ [];
+      peak = 2;
     }
 
 -- b, t, the orders and the generator

@@ -21,7 +21,7 @@ use Rattle.reduction_laws.specs.Shape.{Shaped}
 use Rattle.reduction_laws.specs.Steps.{step-a-none, step-a-wide, step-a-made, step-c-wide, step-c-made, step-d-wide, step-d-made, step-e-none, step-e-wide, step-e-made}
 use Rattle.reduction_laws.specs.Scans.{FirstRow, firstIndivisible-row}
 use Rattle.reduction_laws.specs.Letters.{ReadyC, ReadyE, AfterA, after-a, AfterC, after-c, after-c-keeps, after-c-clear, AfterD, after-d, after-d-keeps, after-d-clear, AfterE, after-e}
-use Rattle.lines.specs.Slice.{entryLimit, Small}
+use Rattle.lines.specs.Slice.{entryLimit, Under}
 use Rattle.lines.specs.Matrices.{contents}
 use Rattle.refusal.specs.declared.Refusal.{Refusal}
 use Rattle.refusal.specs.declared.Refusal.the-variants as refusal
@@ -40,38 +40,38 @@ use Rattle.reducer.proofs.Measures.{columnCalls, calls-fall, chosen-at,
 
 -- From the machine x the layout has come to letter l with the slice w′, of which P holds. The absolute value to be brought down, which was `bound`, has
 -- fallen by `spent` at least.
-pub record Onward (rule : Rule) (P : Layout → ℕ → List ℤ → Type 0) (size : Layout → ℕ → List ℤ → ℕ) (l : Letter) (W : Layout) (k : ℕ) (x : Machine) (n spent bound : ℕ) (w′ : List ℤ) : Type 0 where
-  pub holds : P W k w′
+pub record Onward (rule : Rule) (P : Layout → ℕ → ℕ → List ℤ → Type 0) (size : Layout → ℕ → List ℤ → ℕ) (l : Letter) (W : Layout) (k : ℕ) (x : Machine) (n spent bound peak′ : ℕ) (w′ : List ℤ) : Type 0 where
+  pub holds : P W k peak′ w′
   pub falls : size W k w′ + spent ≤ bound
-  pub goes : Goes rule W x (at l k (stateOf W w′))
+  pub goes : Goes rule W x (at l k (stateOf W peak′ w′))
   pub same-length : length w′ ≡ n
 
 -- from the choice to the row pass
-abbrev pub ToRows : Rule → Layout → ℕ → List ℤ → List ℤ → Type 0
-ToRows rule W k w w′ = Onward rule Placed pivotSize Letter.c W k (at Letter.a k (stateOf W w)) (length w) 0 (chosenSize rule W k w) w′
+abbrev pub ToRows : Rule → Layout → ℕ → ℕ → List ℤ → ℕ → List ℤ → Type 0
+ToRows rule W k peak w peak′ w′ = Onward rule Placed pivotSize Letter.c W k (at Letter.a k (stateOf W peak w)) (length w) 0 (chosenSize rule W k w) peak′ w′
 
 -- from letter l back to the choice
-abbrev pub ToChoice : Rule → Letter → Layout → ℕ → List ℤ → List ℤ → Type 0
-ToChoice rule l W k w w′ = Onward rule Begun (chosenSize rule) Letter.a W k (at l k (stateOf W w)) (length w) 1 (pivotSize W k w) w′
+abbrev pub ToChoice : Rule → Letter → Layout → ℕ → ℕ → List ℤ → ℕ → List ℤ → Type 0
+ToChoice rule l W k peak w peak′ w′ = Onward rule Begun (chosenSize rule) Letter.a W k (at l k (stateOf W peak w)) (length w) 1 (pivotSize W k w) peak′ w′
 
 -- from letter l to the column pass: from the row pass, or after step e
-abbrev pub ToColumns : Rule → Letter → Layout → ℕ → List ℤ → List ℤ → Type 0
-ToColumns rule l W k w w′ = Onward rule ColumnClear pivotSize Letter.d W k (at l k (stateOf W w)) (length w) 0 (pivotSize W k w) w′
+abbrev pub ToColumns : Rule → Letter → Layout → ℕ → ℕ → List ℤ → ℕ → List ℤ → Type 0
+ToColumns rule l W k peak w peak′ w′ = Onward rule ColumnClear pivotSize Letter.d W k (at l k (stateOf W peak w)) (length w) 0 (pivotSize W k w) peak′ w′
 
 -- a stage that goes on from y ends as one from x that comes to y
 pub stage-after :
     {rule : Rule} (W : Layout) (k rounds′ rounds size′ size : ℕ) (x y : Machine) (n : ℕ) (w : List ℤ) (r : Stage) (w′ : List ℤ) → size′ + rounds ≤ size + rounds′ → Goes rule W x y → length w ≡ n
     → StageEnds rule W k rounds′ size′ y (length w) r w′ → StageEnds rule W k rounds size x n r w′
-stage-after {rule} W k rounds′ rounds size′ size x y n w stage.Cleared w′ b g l e = record {
+stage-after {rule} W k rounds′ rounds size′ size x y n w (stage.Cleared peak) w′ b g l e = record {
   goes = reaches-trans entryLimit (sizesOf W) rule g (e .goes);
   begun = e .begun;
   same-length = e .same-length ∙ l;
 }
-stage-after {rule} W k rounds′ rounds size′ size x y n w stage.Exhausted w′ b g l e = record {
+stage-after {rule} W k rounds′ rounds size′ size x y n w (stage.Exhausted peak) w′ b g l e = record {
   goes = reaches-trans entryLimit (sizesOf W) rule g (e .goes);
-  kept = record { same-length = e .kept .same-length ∙ l; small = e .kept .small };
+  kept = record { same-length = e .kept .same-length ∙ l; under = e .kept .under };
 }
-stage-after {rule} W k rounds′ rounds size′ size x y n w stage.Again w′ b g l e = record {
+stage-after {rule} W k rounds′ rounds size′ size x y n w (stage.Again peak) w′ b g l e = record {
   goes = reaches-trans entryLimit (sizesOf W) rule g (e .goes);
   begun = e .begun;
   falls = omega (arith, e .falls);
@@ -84,24 +84,24 @@ stage-after {rule} W k rounds′ rounds size′ size x y n w (stage.Refused z) w
 
 -- what is spent is the rounds that the callee does not count
 pub onward-ends :
-    {rule : Rule} {P : Layout → ℕ → List ℤ → Type 0} {size : Layout → ℕ → List ℤ → ℕ} {l : Letter} {W : Layout} {k : ℕ} {x : Machine} {n spent bound : ℕ} {w : List ℤ}
-    → Onward rule P size l W k x n spent bound w → (rounds′ rounds : ℕ) → rounds ≤ rounds′ + spent → (r : Stage) (w′ : List ℤ)
-    → StageEnds rule W k rounds′ (size W k w) (at l k (stateOf W w)) (length w) r w′ → StageEnds rule W k rounds bound x n r w′
-onward-ends {rule} {P} {size} {l} {W} {k} {x} {n} {spent} {bound} {w} o rounds′ rounds b r w′ e =
-    stage-after W k rounds′ rounds (size W k w) bound x (at l k (stateOf W w)) n w r w′ (omega (arith, o .falls)) (o .goes) (o .same-length) e
+    {rule : Rule} {P : Layout → ℕ → ℕ → List ℤ → Type 0} {size : Layout → ℕ → List ℤ → ℕ} {l : Letter} {W : Layout} {k : ℕ} {x : Machine} {n spent bound peak : ℕ} {w : List ℤ}
+    → Onward rule P size l W k x n spent bound peak w → (rounds′ rounds : ℕ) → rounds ≤ rounds′ + spent → (r : Stage) (w′ : List ℤ)
+    → StageEnds rule W k rounds′ (size W k w) (at l k (stateOf W peak w)) (length w) r w′ → StageEnds rule W k rounds bound x n r w′
+onward-ends {rule} {P} {size} {l} {W} {k} {x} {n} {spent} {bound} {peak} {w} o rounds′ rounds b r w′ e =
+    stage-after W k rounds′ rounds (size W k w) bound x (at l k (stateOf W peak w)) n w r w′ (omega (arith, o .falls)) (o .goes) (o .same-length) e
 
 -- no round is left, and the stage stays at letter a
-pub again : {rule : Rule} {W : Layout} {k : ℕ} {w : List ℤ} → Begun W k w → (rounds : ℕ) → rounds ≡ 0 → StageAgain rule W k rounds (chosenSize rule W k w) (at Letter.a k (stateOf W w)) (length w) w
-again {rule} {W} {k} {w} h rounds e = record {
-  goes = reaches-refl entryLimit (sizesOf W) rule (at Letter.a k (stateOf W w));
+pub again : {rule : Rule} {W : Layout} {k peak : ℕ} {w : List ℤ} → Begun W k peak w → (rounds : ℕ) → rounds ≡ 0 → StageAgain rule W k rounds (chosenSize rule W k w) (at Letter.a k (stateOf W peak w)) (length w) peak w
+again {rule} {W} {k} {peak} {w} h rounds e = record {
+  goes = reaches-refl entryLimit (sizesOf W) rule (at Letter.a k (stateOf W peak w));
   begun = h;
   falls = omega arith;
   same-length = refl;
 }
 
 -- what a pass answered
-pub passed-made : {W : Layout} {o : Outcome} {n : ℕ} {r : Pass} {w′ : List ℤ} → r ≡ pass.Made → Passed W o n r w′ → PassMade W o n w′
-passed-made {W} {o} {n} {r} {w′} e h = subst (λ (x : Pass). Passed W o n x w′) e h
+pub passed-made : {W : Layout} {o : Outcome} {n : ℕ} {r : Pass} {peak′ : ℕ} {w′ : List ℤ} → r ≡ pass.Made peak′ → Passed W o n r w′ → PassMade W o n peak′ w′
+passed-made {W} {o} {n} {r} {w′ = w′} e h = subst (λ (x : Pass). Passed W o n x w′) e h
 
 -- a pass that went too wide ends the stage
 pub pass-stops :
@@ -113,7 +113,7 @@ pass-stops W x {o} {n} r {y} w′ f e h =
 
 -- ---- letter a
 
-module _ {rule : Rule} (is : IsRule rule) (W : Layout) (k : ℕ) (w : List ℤ) where
+module _ {rule : Rule} (is : IsRule rule) (W : Layout) (k peak : ℕ) (w : List ℤ) where
   -- the rule's choice, read from the slice
   choice-state : rule (W .matrix .lines) (W .matrix .width) k (contents (W .matrix) w) ≡ rule (W .matrix .lines) (W .matrix .width) k (matrixOf W w)
   choice-state = is .block (W .matrix .lines) (W .matrix .width) k (contents (W .matrix) w) (matrixOf W w) (λ i j _ a _ b. sym (entry-state W w i j a b))
@@ -122,44 +122,44 @@ module _ {rule : Rule} (is : IsRule rule) (W : Layout) (k : ℕ) (w : List ℤ) 
   abbrev pub Chosen : Choice → Type 0
   Chosen c = c ≡ rule (W .matrix .lines) (W .matrix .width) k (contents (W .matrix) w)
 
-  pub exhausted : Begun W k w → Chosen none → StageExhausted rule W k (at Letter.a k (stateOf W w)) (length w) w
+  pub exhausted : Begun W k peak w → Chosen none → StageExhausted rule W k (at Letter.a k (stateOf W peak w)) (length w) peak w
   exhausted h e = record {
-    goes = reaches-next entryLimit (sizesOf W) rule (step-a-none entryLimit (sizesOf W) rule k (stateOf W w) (sym choice-state ∙ sym e));
-    kept = record { same-length = refl; small = h .small };
+    goes = reaches-next entryLimit (sizesOf W) rule (step-a-none entryLimit (sizesOf W) rule k (stateOf W peak w) (sym choice-state ∙ sym e));
+    kept = record { same-length = refl; under = h .under };
   }
 
   module _ (i j : ℕ) (e : Chosen (place i j)) where
     pub chosen-least : Least (W .matrix .lines) (W .matrix .width) k (matrixOf W w) i j
     chosen-least = is .chosen (W .matrix .lines) (W .matrix .width) k (matrixOf W w) i j (sym choice-state ∙ sym e)
 
-    pub bring-goes : bringOf W k i j w ≡ tooWide → Goes rule W (at Letter.a k (stateOf W w)) wide
-    bring-goes o = reaches-next entryLimit (sizesOf W) rule (step-a-wide entryLimit (sizesOf W) rule k (stateOf W w) i j (sym choice-state ∙ sym e) o)
+    pub bring-goes : bringOf W k i j peak w ≡ tooWide → Goes rule W (at Letter.a k (stateOf W peak w)) wide
+    bring-goes o = reaches-next entryLimit (sizesOf W) rule (step-a-wide entryLimit (sizesOf W) rule k (stateOf W peak w) i j (sym choice-state ∙ sym e) o)
 
     pub to-rows :
-        {w′ : List ℤ} → Begun W k w → PassMade W (bringOf W k i j w) (length w) w′
-        → ToRows rule W k w w′
-    to-rows {w′} h p = record {
-      holds = record { laid = laid-kept w′ (h .laid) (p .kept .same-length); small = p .kept .small; ready = after .ready; rows-done = rowsDone-moves (after .moves) shaped (h .rows-done) };
+        {peak′ : ℕ} {w′ : List ℤ} → Begun W k peak w → PassMade W (bringOf W k i j peak w) (length w) peak′ w′
+        → ToRows rule W k peak w peak′ w′
+    to-rows {peak′} {w′} h p = record {
+      holds = record { laid = laid-kept w′ (h .laid) (p .kept .same-length); under = p .kept .under; ready = after .ready; rows-done = rowsDone-moves (after .moves) shaped (h .rows-done) };
       falls = omega (arith, after .size, chosen-at is (W .matrix .lines) (W .matrix .width) k (matrixOf W w) i j (sym choice-state ∙ sym e));
-      goes = reaches-next entryLimit (sizesOf W) rule (step-a-made entryLimit (sizesOf W) rule k (stateOf W w) i j (stateOf W w′) (sym choice-state ∙ sym e) (p .outcome));
+      goes = reaches-next entryLimit (sizesOf W) rule (step-a-made entryLimit (sizesOf W) rule k (stateOf W peak w) i j (stateOf W peak′ w′) (sym choice-state ∙ sym e) (p .outcome));
       same-length = p .kept .same-length;
     }
       where
-        shaped : Shaped (sizesOf W) (stateOf W w)
-        shaped = shaped-state w (h .laid)
+        shaped : Shaped (sizesOf W) (stateOf W peak w)
+        shaped = shaped-state peak w (h .laid)
 
-        after : AfterA entryLimit (sizesOf W) k (stateOf W w) (stateOf W w′) (natAbs (matrixOf W w i j))
-        after = after-a entryLimit (sizesOf W) k i j (stateOf W w) (stateOf W w′) shaped chosen-least (p .outcome)
+        after : AfterA entryLimit (sizesOf W) k (stateOf W peak w) (stateOf W peak′ w′) (natAbs (matrixOf W w i j))
+        after = after-a entryLimit (sizesOf W) k i j (stateOf W peak w) (stateOf W peak′ w′) shaped chosen-least (p .outcome)
 
 -- ---- letter c
 
-module _ {rule : Rule} (is : IsRule rule) {W : Layout} {k : ℕ} {w : List ℤ} (h : Placed W k w) where
-  pub rows-go : rowPassOf W k w ≡ tooWide → Goes rule W (at Letter.c k (stateOf W w)) wide
-  rows-go o = reaches-next entryLimit (sizesOf W) rule (step-c-wide entryLimit (sizesOf W) rule k (stateOf W w) o)
+module _ {rule : Rule} (is : IsRule rule) {W : Layout} {k peak : ℕ} {w : List ℤ} (h : Placed W k peak w) where
+  pub rows-go : rowPassOf W k peak w ≡ tooWide → Goes rule W (at Letter.c k (stateOf W peak w)) wide
+  rows-go o = reaches-next entryLimit (sizesOf W) rule (step-c-wide entryLimit (sizesOf W) rule k (stateOf W peak w) o)
 
-  module _ {w′ : List ℤ} (p : PassMade W (rowPassOf W k w) (length w) w′) where
-    after-rows : AfterC entryLimit (sizesOf W) k (stateOf W w) (stateOf W w′)
-    after-rows = after-c entryLimit (sizesOf W) k (stateOf W w) (stateOf W w′) (h .ready) (p .outcome)
+  module _ {peak′ : ℕ} {w′ : List ℤ} (p : PassMade W (rowPassOf W k peak w) (length w) peak′ w′) where
+    after-rows : AfterC entryLimit (sizesOf W) k (stateOf W peak w) (stateOf W peak′ w′)
+    after-rows = after-c entryLimit (sizesOf W) k (stateOf W peak w) (stateOf W peak′ w′) (h .ready) (p .outcome)
 
     rows-laid : Laid (length w′) W
     rows-laid = laid-kept w′ (h .laid) (p .kept .same-length)
@@ -183,26 +183,26 @@ module _ {rule : Rule} (is : IsRule rule) {W : Layout} {k : ℕ} {w : List ℤ} 
         (λ i _ l. entry-state W w′ i k (omega (arith, h .ready .row)) (h .ready .column))
         ∙ sym e
 
-    rows-goes : (b : Bool) → b ≡ columnKeeps (contents (W .matrix) w′) k (W .matrix .lines - suc k) (suc k) → Goes rule W (at Letter.c k (stateOf W w)) (at (elim b [ true ↦ Letter.a | false ↦ Letter.d ]) k (stateOf W w′))
-    rows-goes true e = reaches-next entryLimit (sizesOf W) rule (step-c-made entryLimit (sizesOf W) rule k (stateOf W w) (stateOf W w′) true (p .outcome) (column-test true e))
-    rows-goes false e = reaches-next entryLimit (sizesOf W) rule (step-c-made entryLimit (sizesOf W) rule k (stateOf W w) (stateOf W w′) false (p .outcome) (column-test false e))
+    rows-goes : (b : Bool) → b ≡ columnKeeps (contents (W .matrix) w′) k (W .matrix .lines - suc k) (suc k) → Goes rule W (at Letter.c k (stateOf W peak w)) (at (elim b [ true ↦ Letter.a | false ↦ Letter.d ]) k (stateOf W peak′ w′))
+    rows-goes true e = reaches-next entryLimit (sizesOf W) rule (step-c-made entryLimit (sizesOf W) rule k (stateOf W peak w) (stateOf W peak′ w′) true (p .outcome) (column-test true e))
+    rows-goes false e = reaches-next entryLimit (sizesOf W) rule (step-c-made entryLimit (sizesOf W) rule k (stateOf W peak w) (stateOf W peak′ w′) false (p .outcome) (column-test false e))
 
     pub rows-to-choice :
         true ≡ columnKeeps (contents (W .matrix) w′) k (W .matrix .lines - suc k) (suc k)
-        → ToChoice rule Letter.c W k w w′
+        → ToChoice rule Letter.c W k peak w peak′ w′
     rows-to-choice e = record {
-      holds = record { laid = rows-laid; small = p .kept .small; row-bound = Nat.le-of-lt (h .ready .row); column-bound = Nat.le-of-lt (h .ready .column); rows-done = rows-still-done };
+      holds = record { laid = rows-laid; under = p .kept .under; row-bound = Nat.le-of-lt (h .ready .row); column-bound = Nat.le-of-lt (h .ready .column); rows-done = rows-still-done };
       falls = smaller-chosen is (W .matrix .lines) (W .matrix .width) k (matrixOf W w′) (pivotSize W k w)
-          (after-c-keeps entryLimit (sizesOf W) k (stateOf W w) (stateOf W w′) (h .ready) after-rows (column-test true e));
+          (after-c-keeps entryLimit (sizesOf W) k (stateOf W peak w) (stateOf W peak′ w′) (h .ready) after-rows (column-test true e));
       goes = rows-goes true e;
       same-length = p .kept .same-length;
     }
 
     pub rows-to-columns :
         false ≡ columnKeeps (contents (W .matrix) w′) k (W .matrix .lines - suc k) (suc k)
-        → ToColumns rule Letter.c W k w w′
+        → ToColumns rule Letter.c W k peak w peak′ w′
     rows-to-columns e = record {
-      holds = record { laid = rows-laid; small = p .kept .small; ready = after-c-clear entryLimit (sizesOf W) k (stateOf W w) (stateOf W w′) after-rows (column-test false e); rows-done = rows-still-done };
+      holds = record { laid = rows-laid; under = p .kept .under; ready = after-c-clear entryLimit (sizesOf W) k (stateOf W peak w) (stateOf W peak′ w′) after-rows (column-test false e); rows-done = rows-still-done };
       falls = omega (arith, ap natAbs (after-rows .pivot));
       goes = rows-goes false e;
       same-length = p .kept .same-length;
@@ -211,23 +211,23 @@ module _ {rule : Rule} (is : IsRule rule) {W : Layout} {k : ℕ} {w : List ℤ} 
 -- ---- letter d
 
 -- after a column pass that has cleared row k: letter e
-pub record RowClear (rule : Rule) (W : Layout) (k : ℕ) (w w′ : List ℤ) : Type 0 where
+pub record RowClear (rule : Rule) (W : Layout) (k peak : ℕ) (w : List ℤ) (peak′ : ℕ) (w′ : List ℤ) : Type 0 where
   pub laid : Laid (length w′) W
-  pub small : Small w′
-  pub ready : ReadyE (sizesOf W) k (stateOf W w′)
+  pub under : Under peak′ w′
+  pub ready : ReadyE (sizesOf W) k (stateOf W peak′ w′)
   pub rows-done : RowsDone W k w′
-  pub goes : Goes rule W (at Letter.d k (stateOf W w)) (at Letter.e k (stateOf W w′))
+  pub goes : Goes rule W (at Letter.d k (stateOf W peak w)) (at Letter.e k (stateOf W peak′ w′))
   pub pivot : matrixOf W w′ k k ≡ matrixOf W w k k
   pub divided : (j : ℕ) → k < j → j < W .matrix .width → matrixOf W w k k ∣ℤ matrixOf W w k j
   pub same-length : length w′ ≡ length w
 
-module _ {rule : Rule} (is : IsRule rule) {W : Layout} {k : ℕ} {w : List ℤ} (h : ColumnClear W k w) where
-  pub columns-go : columnPassOf W k w ≡ tooWide → Goes rule W (at Letter.d k (stateOf W w)) wide
-  columns-go o = reaches-next entryLimit (sizesOf W) rule (step-d-wide entryLimit (sizesOf W) rule k (stateOf W w) o)
+module _ {rule : Rule} (is : IsRule rule) {W : Layout} {k peak : ℕ} {w : List ℤ} (h : ColumnClear W k peak w) where
+  pub columns-go : columnPassOf W k peak w ≡ tooWide → Goes rule W (at Letter.d k (stateOf W peak w)) wide
+  columns-go o = reaches-next entryLimit (sizesOf W) rule (step-d-wide entryLimit (sizesOf W) rule k (stateOf W peak w) o)
 
-  module _ {w′ : List ℤ} (p : PassMade W (columnPassOf W k w) (length w) w′) where
-    after-columns : AfterD entryLimit (sizesOf W) k (stateOf W w) (stateOf W w′)
-    after-columns = after-d entryLimit (sizesOf W) k (stateOf W w) (stateOf W w′) (h .ready) (p .outcome)
+  module _ {peak′ : ℕ} {w′ : List ℤ} (p : PassMade W (columnPassOf W k peak w) (length w) peak′ w′) where
+    after-columns : AfterD entryLimit (sizesOf W) k (stateOf W peak w) (stateOf W peak′ w′)
+    after-columns = after-d entryLimit (sizesOf W) k (stateOf W peak w) (stateOf W peak′ w′) (h .ready) (p .outcome)
 
     columns-laid : Laid (length w′) W
     columns-laid = laid-kept w′ (h .laid) (p .kept .same-length)
@@ -243,39 +243,39 @@ module _ {rule : Rule} (is : IsRule rule) {W : Layout} {k : ℕ} {w : List ℤ} 
 
     pub columns-to-choice :
         true ≡ rowKeeps (contents (W .matrix) w′) k (W .matrix .width - suc k) (suc k)
-        → ToChoice rule Letter.d W k w w′
+        → ToChoice rule Letter.d W k peak w peak′ w′
     columns-to-choice e = record {
-      holds = record { laid = columns-laid; small = p .kept .small; row-bound = Nat.le-of-lt (h .ready .ready .row); column-bound = Nat.le-of-lt (h .ready .ready .column); rows-done = columns-rows-done };
+      holds = record { laid = columns-laid; under = p .kept .under; row-bound = Nat.le-of-lt (h .ready .ready .row); column-bound = Nat.le-of-lt (h .ready .ready .column); rows-done = columns-rows-done };
       falls = smaller-chosen is (W .matrix .lines) (W .matrix .width) k (matrixOf W w′) (pivotSize W k w)
-          (after-d-keeps entryLimit (sizesOf W) k (stateOf W w) (stateOf W w′) (h .ready) after-columns (row-test true e));
-      goes = reaches-next entryLimit (sizesOf W) rule (step-d-made entryLimit (sizesOf W) rule k (stateOf W w) (stateOf W w′) true (p .outcome) (row-test true e));
+          (after-d-keeps entryLimit (sizesOf W) k (stateOf W peak w) (stateOf W peak′ w′) (h .ready) after-columns (row-test true e));
+      goes = reaches-next entryLimit (sizesOf W) rule (step-d-made entryLimit (sizesOf W) rule k (stateOf W peak w) (stateOf W peak′ w′) true (p .outcome) (row-test true e));
       same-length = p .kept .same-length;
     }
 
-    pub row-clear : false ≡ rowKeeps (contents (W .matrix) w′) k (W .matrix .width - suc k) (suc k) → RowClear rule W k w w′
+    pub row-clear : false ≡ rowKeeps (contents (W .matrix) w′) k (W .matrix .width - suc k) (suc k) → RowClear rule W k peak w peak′ w′
     row-clear e = record {
       laid = columns-laid;
-      small = p .kept .small;
+      under = p .kept .under;
       ready = ready;
       rows-done = columns-rows-done;
-      goes = reaches-next entryLimit (sizesOf W) rule (step-d-made entryLimit (sizesOf W) rule k (stateOf W w) (stateOf W w′) false (p .outcome) (row-test false e));
+      goes = reaches-next entryLimit (sizesOf W) rule (step-d-made entryLimit (sizesOf W) rule k (stateOf W peak w) (stateOf W peak′ w′) false (p .outcome) (row-test false e));
       pivot = after-columns .pivot;
       divided = λ j a b. dvd-iff-modulo (matrixOf W w k j) (matrixOf W w k k) (h .ready .ready .positive) .1 (sym (after-columns .remainder j a b) ∙ ready .right j a b);
       same-length = p .kept .same-length;
     }
       where
-        ready : ReadyE (sizesOf W) k (stateOf W w′)
-        ready = after-d-clear entryLimit (sizesOf W) k (stateOf W w) (stateOf W w′) after-columns (row-test false e)
+        ready : ReadyE (sizesOf W) k (stateOf W peak′ w′)
+        ready = after-d-clear entryLimit (sizesOf W) k (stateOf W peak w) (stateOf W peak′ w′) after-columns (row-test false e)
 
 -- ---- letter e
 
 -- from the column pass to the column pass after step e, which calls no further one
-pub record ColumnsAgain (rule : Rule) (W : Layout) (k : ℕ) (w w′ : List ℤ) : Type 0 where
-  pub onward : ToColumns rule Letter.d W k w w′
+pub record ColumnsAgain (rule : Rule) (W : Layout) (k peak : ℕ) (w : List ℤ) (peak′ : ℕ) (w′ : List ℤ) : Type 0 where
+  pub onward : ToColumns rule Letter.d W k peak w peak′ w′
   pub calls : columnCalls (W .matrix .width) k (matrixOf W w′) < columnCalls (W .matrix .width) k (matrixOf W w)
 
-module _ {rule : Rule} {W : Layout} {k : ℕ} {w w′ : List ℤ} (h : RowClear rule W k w w′) where
-  ready-pivot : ReadyC (sizesOf W) k (stateOf W w′)
+module _ {rule : Rule} {W : Layout} {k peak : ℕ} {w : List ℤ} {peak′ : ℕ} {w′ : List ℤ} (h : RowClear rule W k peak w peak′ w′) where
+  ready-pivot : ReadyC (sizesOf W) k (stateOf W peak′ w′)
   ready-pivot = h .ready .ready .ready
 
   -- the row that the code finds
@@ -289,12 +289,12 @@ module _ {rule : Rule} {W : Layout} {k : ℕ} {w w′ : List ℤ} (h : RowClear 
       (λ i j _ a _ b. entry-state W w′ i j (omega (arith, ready-pivot .row)) (omega (arith, ready-pivot .column)))
       ∙ sym e
 
-  pub cleared : Found noRow → StageCleared rule W k (at Letter.d k (stateOf W w)) (length w) w′
+  pub cleared : Found noRow → StageCleared rule W k (at Letter.d k (stateOf W peak w)) (length w) peak′ w′
   cleared e = record {
-    goes = reaches-trans entryLimit (sizesOf W) rule (h .goes) (reaches-next entryLimit (sizesOf W) rule (step-e-none entryLimit (sizesOf W) rule k (stateOf W w′) (found-state noRow e)));
+    goes = reaches-trans entryLimit (sizesOf W) rule (h .goes) (reaches-next entryLimit (sizesOf W) rule (step-e-none entryLimit (sizesOf W) rule k (stateOf W peak′ w′) (found-state noRow e)));
     begun = record {
       laid = h .laid;
-      small = h .small;
+      under = h .under;
       row-bound = ready-pivot .row;
       column-bound = ready-pivot .column;
       rows-done = record { zero = λ i j a b l. finished i j a b l (ℕ-discrete i k) };
@@ -316,27 +316,27 @@ module _ {rule : Rule} {W : Layout} {k : ℕ} {w w′ : List ℤ} (h : RowClear 
     pub row-within : i < W .matrix .lines
     row-within = omega (arith, found-row .below, ready-pivot .row)
 
-    add-goes : onRow entryLimit (sizesOf W) (subtract k i (negsuc 0)) (stateOf W w′) ≡ tooWide → Goes rule W (at Letter.d k (stateOf W w)) wide
-    add-goes o = reaches-trans entryLimit (sizesOf W) rule (h .goes) (reaches-next entryLimit (sizesOf W) rule (step-e-wide entryLimit (sizesOf W) rule k (stateOf W w′) i (found-state (row i) e) o))
+    add-goes : onRow entryLimit (sizesOf W) (subtract k i (negsuc 0)) (stateOf W peak′ w′) ≡ tooWide → Goes rule W (at Letter.d k (stateOf W peak w)) wide
+    add-goes o = reaches-trans entryLimit (sizesOf W) rule (h .goes) (reaches-next entryLimit (sizesOf W) rule (step-e-wide entryLimit (sizesOf W) rule k (stateOf W peak′ w′) i (found-state (row i) e) o))
 
     -- the addition went too wide, and the slice was cleared
     pub add-stops :
-        (u : List ℤ) {w″ : List ℤ} → onRow entryLimit (sizesOf W) (subtract k i (negsuc 0)) (stateOf W w′) ≡ tooWide → w″ ≡ replicate (length u) (pos 0) → length u ≡ length w′
-        → StageRefused rule W (at Letter.d k (stateOf W w)) (length w) refusal.TooWide w″
+        (u : List ℤ) {w″ : List ℤ} → onRow entryLimit (sizesOf W) (subtract k i (negsuc 0)) (stateOf W peak′ w′) ≡ tooWide → w″ ≡ replicate (length u) (pos 0) → length u ≡ length w′
+        → StageRefused rule W (at Letter.d k (stateOf W peak w)) (length w) refusal.TooWide w″
     add-stops u o z l = record { goes = add-goes o; cleared = record { number = refl; zeros = z ∙ ap (λ (n : ℕ). replicate n (pos 0)) (l ∙ h .same-length) } }
 
     pub columns-again :
-        {w″ : List ℤ} → onRow entryLimit (sizesOf W) (subtract k i (negsuc 0)) (stateOf W w′) ≡ made (stateOf W w″) → Small w″ → length w″ ≡ length w′
-        → ColumnsAgain rule W k w w″
-    columns-again {w″} o s l = record {
+        {peak″ : ℕ} {w″ : List ℤ} → onRow entryLimit (sizesOf W) (subtract k i (negsuc 0)) (stateOf W peak′ w′) ≡ made (stateOf W peak″ w″) → Under peak″ w″ → length w″ ≡ length w′
+        → ColumnsAgain rule W k peak w peak″ w″
+    columns-again {peak″} {w″} o s l = record {
       onward = record {
-        holds = record { laid = laid-kept w″ (h .laid) l; small = s; ready = after .ready; rows-done = rowsDone-moves (after .moves) (ready-pivot .shaped) (h .rows-done) };
+        holds = record { laid = laid-kept w″ (h .laid) l; under = s; ready = after .ready; rows-done = rowsDone-moves (after .moves) (ready-pivot .shaped) (h .rows-done) };
         falls = omega (arith, ap natAbs (after .pivot ∙ h .pivot));
-        goes = reaches-trans entryLimit (sizesOf W) rule (h .goes) (reaches-next entryLimit (sizesOf W) rule (step-e-made entryLimit (sizesOf W) rule k (stateOf W w′) i (stateOf W w″) (found-state (row i) e) o));
+        goes = reaches-trans entryLimit (sizesOf W) rule (h .goes) (reaches-next entryLimit (sizesOf W) rule (step-e-made entryLimit (sizesOf W) rule k (stateOf W peak′ w′) i (stateOf W peak″ w″) (found-state (row i) e) o));
         same-length = l ∙ h .same-length;
       };
       calls = calls-fall (W .matrix .width) k (matrixOf W w) (matrixOf W w″) (ready-pivot .column) (h .divided) (after .remains);
     }
       where
-        after : AfterE entryLimit (sizesOf W) k (stateOf W w′) (stateOf W w″)
-        after = after-e entryLimit (sizesOf W) k i (stateOf W w′) (stateOf W w″) (h .ready) (found-state (row i) e) o
+        after : AfterE entryLimit (sizesOf W) k (stateOf W peak′ w′) (stateOf W peak″ w″)
+        after = after-e entryLimit (sizesOf W) k i (stateOf W peak′ w′) (stateOf W peak″ w″) (h .ready) (found-state (row i) e) o

@@ -1,7 +1,7 @@
 // The reduction from stage 0 to its rank.
 ghost use lib.ListN.{length};
 ghost use Rattle.reduction_steps.specs.Pivot.{pivotRule};
-ghost use Rattle.lines.specs.Slice.{Small};
+ghost use Rattle.lines.specs.Slice.{Under};
 ghost use Rattle.operations.specs.Laid.{Laid};
 ghost use Rattle.reducer.specs.Answer.{reductionOf, Reduces};
 use crate::stage::ROUNDS;
@@ -10,24 +10,28 @@ use crate::stage::choose_pivot;
 use operations::layout::Layout;
 use refusal::Refusal;
 
-// Done with the rank, or refused.
+// Done with the rank and the peak, or refused.
 pub enum Reduction {
-    Done(usize),
+    Done(usize, u64),
     Refused(Refusal),
 }
 
-// Reduces the matrix, and its companions with it, by the pivot rule.
-pub fn reduce_matrix(layout: Layout, w: &mut [i32]) -> Reduction
+// Reduces the matrix, and its companions with it, by the pivot rule. It is handed the peak so far.
+pub fn reduce_matrix(layout: Layout, w: &mut [i32], peak: u64) -> Reduction
     requires { ⌜ Laid (length (now w)) layout ⌝ }
-    requires { ⌜ Small (now w) ⌝ }
-    ensures { λ r. ⌜ Reduces layout (reductionOf pivotRule layout (now (w .entry))) (length (now (w .entry))) r (now (w .exit)) ⌝ }
+    requires { ⌜ Under peak (now w) ⌝ }
+    ensures { λ r. ⌜ Reduces layout (reductionOf pivotRule layout peak (now (w .entry))) (length (now (w .entry))) r (now (w .exit)) ⌝ }
 {
+    let mut largest = peak;
     let mut k: usize = 0;
     loop {
-        match choose_pivot(layout, w, k, ROUNDS) {
-            Stage::Cleared => k = k + 1,
-            Stage::Again => {}
-            Stage::Exhausted => return Reduction::Done(k),
+        match choose_pivot(layout, w, k, ROUNDS, largest) {
+            Stage::Cleared(reached) => {
+                k = k + 1;
+                largest = reached;
+            }
+            Stage::Again(reached) => largest = reached,
+            Stage::Exhausted(reached) => return Reduction::Done(k, reached),
             Stage::Refused(refusal) => return Reduction::Refused(refusal),
         }
     }

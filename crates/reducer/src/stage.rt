@@ -26,62 +26,62 @@ use refusal::Refusal;
 pub const ROUNDS: usize = 8;
 
 // Cleared: the stage is over and k rises by one. Exhausted: there is no pivot, and the rank is k. Again: no round is left, and the stage goes on from
-// its choice.
+// its choice. Each holds the peak.
 pub enum Stage {
-    Cleared,
-    Exhausted,
-    Again,
+    Cleared(u64),
+    Exhausted(u64),
+    Again(u64),
     Refused(Refusal),
 }
 
 // Steps a and b, where a round is left.
-pub fn choose_pivot(layout: Layout, w: &mut [i32], k: usize, rounds: usize) -> Stage
-    requires { ⌜ Begun layout k (now w) ⌝ }
-    ensures { λ r. ⌜ ChoiceEnds pivotRule layout k rounds (now (w .entry)) r (now (w .exit)) ⌝ }
+pub fn choose_pivot(layout: Layout, w: &mut [i32], k: usize, rounds: usize, peak: u64) -> Stage
+    requires { ⌜ Begun layout k peak (now w) ⌝ }
+    ensures { λ r. ⌜ ChoiceEnds pivotRule layout k rounds peak (now (w .entry)) r (now (w .exit)) ⌝ }
 {
     if rounds == 0 {
-        return Stage::Again;
+        return Stage::Again(peak);
     }
     let Pivot::At(i, j) = find_pivot(layout.matrix, w, k) else {
-        return Stage::Exhausted;
+        return Stage::Exhausted(peak);
     };
-    let Pass::Made = bring_pivot(layout, w, k, i, j) else {
+    let Pass::Made(brought) = bring_pivot(layout, w, k, i, j, peak) else {
         return Stage::Refused(Refusal::TooWide);
     };
-    row_pass(layout, w, k, rounds - 1)
+    row_pass(layout, w, k, rounds - 1, brought)
 }
 
 // Step c.
-fn row_pass(layout: Layout, w: &mut [i32], k: usize, rounds: usize) -> Stage
-    requires { ⌜ Placed layout k (now w) ⌝ }
-    ensures { λ r. ⌜ PassEnds pivotRule steps.c layout k rounds (now (w .entry)) r (now (w .exit)) ⌝ }
+fn row_pass(layout: Layout, w: &mut [i32], k: usize, rounds: usize, peak: u64) -> Stage
+    requires { ⌜ Placed layout k peak (now w) ⌝ }
+    ensures { λ r. ⌜ PassEnds pivotRule steps.c layout k rounds peak (now (w .entry)) r (now (w .exit)) ⌝ }
 {
-    let Pass::Made = clear_column(layout, w, k) else {
+    let Pass::Made(cleared) = clear_column(layout, w, k, peak) else {
         return Stage::Refused(Refusal::TooWide);
     };
     if column_keeps(layout.matrix, w, k) {
-        return choose_pivot(layout, w, k, rounds);
+        return choose_pivot(layout, w, k, rounds, cleared);
     }
-    column_pass(layout, w, k, rounds)
+    column_pass(layout, w, k, rounds, cleared)
 }
 
 // Steps d and e.
-fn column_pass(layout: Layout, w: &mut [i32], k: usize, rounds: usize) -> Stage
-    requires { ⌜ ColumnClear layout k (now w) ⌝ }
-    ensures { λ r. ⌜ PassEnds pivotRule steps.d layout k rounds (now (w .entry)) r (now (w .exit)) ⌝ }
+fn column_pass(layout: Layout, w: &mut [i32], k: usize, rounds: usize, peak: u64) -> Stage
+    requires { ⌜ ColumnClear layout k peak (now w) ⌝ }
+    ensures { λ r. ⌜ PassEnds pivotRule steps.d layout k rounds peak (now (w .entry)) r (now (w .exit)) ⌝ }
 {
-    let Pass::Made = clear_row(layout, w, k) else {
+    let Pass::Made(cleared) = clear_row(layout, w, k, peak) else {
         return Stage::Refused(Refusal::TooWide);
     };
     if row_keeps(layout.matrix, w, k) {
-        return choose_pivot(layout, w, k, rounds);
+        return choose_pivot(layout, w, k, rounds, cleared);
     }
     let Indivisible::Row(i) = first_indivisible(layout.matrix, w, k) else {
-        return Stage::Cleared;
+        return Stage::Cleared(cleared);
     };
-    let Effect::Done(_) = layout.on_rows(w, Operation::Subtract(k, i, -1)) else {
+    let Effect::Done(added) = layout.on_rows(w, Operation::Subtract(k, i, -1), cleared) else {
         clear(w);
         return Stage::Refused(Refusal::TooWide);
     };
-    column_pass(layout, w, k, rounds)
+    column_pass(layout, w, k, rounds, added.peak)
 }

@@ -17,6 +17,7 @@ use crate::layout::lay_out;
 use crate::print::print_reduced;
 use libc::STDIN_FILENO;
 use libc::STDOUT_FILENO;
+use lines::matrix::Matrix;
 use reducer::reduction::Reduction;
 use reducer::reduction::reduce_matrix;
 
@@ -34,8 +35,8 @@ fn answer(rows: usize, columns: usize, companions: u8, entries: &[u8]) -> bool
         return false;
     }
     write_identities(layout, &mut w);
-    match reduce_matrix(layout, &mut w) {
-        Reduction::Done(rank) => print_reduced(rank, asked, layout, &w),
+    match reduce_matrix(layout, &mut w, Matrix::ENTRY_LIMIT as u64) {
+        Reduction::Done(rank, _) => print_reduced(rank, asked, layout, &w),
         Reduction::Refused(_) => {
             io::write_all(STDOUT_FILENO, b"T\n");
         }

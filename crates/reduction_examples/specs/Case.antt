@@ -6,7 +6,7 @@ use lib.Dec.{T}
 use lib.IntN.{ℤ, pos, negℤ}
 use Rattle.matrices.specs.Matrix.{identity}
 use Rattle.reduction_steps.specs.Table.{Table, table}
-use Rattle.reduction_steps.specs.State.{Sizes, State}
+use Rattle.reduction_steps.specs.State.{Sizes, State, noted}
 use Rattle.reduction_steps.specs.Pivot.{release1}
 use Rattle.reduction_steps.specs.Step.{Machine, reduce}
 use Rattle.reduction_examples.specs.Same.{sameMachine, sameMachine-eq}
@@ -47,20 +47,21 @@ withColumns m n = record { rows = m; columns = n; rowFollower = 0; rowInverse = 
 abbrev pub alone : ℕ → ℕ → Sizes
 alone m n = record { rows = m; columns = n; rowFollower = 0; rowInverse = 0; columnFollower = 0; columnInverse = 0 }
 
--- a matrix whose companions, of these sizes, are identities
-abbrev pub identities : Sizes → Table → State
-identities z A = record {
+-- a matrix whose companions, of these sizes, are identities, and the peak
+abbrev pub identities : Sizes → Table → ℕ → State
+identities z A n = record {
   matrix = A;
   rowFollower = table (z .rows) (z .rowFollower) identity;
   rowInverse = table (z .rows) (z .rowInverse) identity;
   columnFollower = table (z .columns) (z .columnFollower) identity;
   columnInverse = table (z .columns) (z .columnInverse) identity;
+  peak = n;
 }
 
--- a case that starts so
+-- a case that starts so, with the peak of its own entries
 abbrev pub fromIdentities : ℕ → Sizes → Table → Machine → Case
-fromIdentities limit z A expected = record { limit = limit; sizes = z; start = identities z A; expected = expected }
+fromIdentities limit z A expected = record { limit = limit; sizes = z; start = noted (identities z A 0); expected = expected }
 
--- m rows and n columns without companions
-abbrev pub bare : ℕ → ℕ → Table → State
-bare m n A = identities (alone m n) A
+-- m rows and n columns without companions, and the peak
+abbrev pub bare : ℕ → ℕ → Table → ℕ → State
+bare m n A peak = identities (alone m n) A peak

@@ -10,13 +10,13 @@ limits =
     -- at the limit
     fromIdentities 20 (alone 2 2)
     ((pos 1 ∷ pos 1 ∷ []) ∷ (minus 1 ∷ pos 19 ∷ []) ∷ [])
-    (done 2 (bare 2 2 ((pos 1 ∷ pos 0 ∷ []) ∷ (pos 0 ∷ pos 20 ∷ []) ∷ [])))
+    (done 2 (bare 2 2 ((pos 1 ∷ pos 0 ∷ []) ∷ (pos 0 ∷ pos 20 ∷ []) ∷ []) 20))
     -- beyond the limit in the matrix
     ∷ fromIdentities 20 (alone 2 2) ((pos 1 ∷ pos 1 ∷ []) ∷ (minus 1 ∷ pos 20 ∷ []) ∷ []) wide
     -- at the limit below 0
     ∷ fromIdentities 20 (alone 2 2)
     ((pos 1 ∷ pos 1 ∷ []) ∷ (pos 1 ∷ minus 19 ∷ []) ∷ [])
-    (done 2 (bare 2 2 ((pos 1 ∷ pos 0 ∷ []) ∷ (pos 0 ∷ pos 20 ∷ []) ∷ [])))
+    (done 2 (bare 2 2 ((pos 1 ∷ pos 0 ∷ []) ∷ (pos 0 ∷ pos 20 ∷ []) ∷ []) 20))
     -- beyond the limit below 0
     ∷ fromIdentities 20 (alone 2 2) ((pos 1 ∷ pos 1 ∷ []) ∷ (pos 1 ∷ minus 20 ∷ []) ∷ []) wide
     -- beyond the limit on the way alone
@@ -34,6 +34,7 @@ limits =
       rowInverse = (pos 9 ∷ pos 6 ∷ minus 7 ∷ []) ∷ (pos 1 ∷ pos 1 ∷ minus 2 ∷ []) ∷ (pos 3 ∷ pos 2 ∷ minus 2 ∷ []) ∷ [];
       columnFollower = (pos 1 ∷ []) ∷ [];
       columnInverse = (pos 1 ∷ []) ∷ [];
+      peak = 9;
     }))
     -- beyond the limit in the inverse of the row follower
     ∷ fromIdentities 9 (record { rows = 4; columns = 1; rowFollower = 0; rowInverse = 4; columnFollower = 0; columnInverse = 0 })
@@ -48,6 +49,7 @@ limits =
       rowInverse = [] ∷ [] ∷ [] ∷ [] ∷ [];
       columnFollower = (pos 1 ∷ []) ∷ [];
       columnInverse = (pos 1 ∷ []) ∷ [];
+      peak = 6;
     }))
     -- beyond the limit in the column follower
     ∷ fromIdentities 9 (record { rows = 2; columns = 4; rowFollower = 0; rowInverse = 0; columnFollower = 4; columnInverse = 0 })
@@ -62,6 +64,7 @@ limits =
       rowInverse = (minus 1 ∷ pos 0 ∷ []) ∷ (pos 0 ∷ minus 1 ∷ []) ∷ [];
       columnFollower = [] ∷ [] ∷ [] ∷ [] ∷ [];
       columnInverse = (pos 1 ∷ minus 9 ∷ minus 7 ∷ pos 0 ∷ []) ∷ (pos 0 ∷ pos 7 ∷ pos 0 ∷ pos 6 ∷ []) ∷ (pos 0 ∷ pos 0 ∷ pos 1 ∷ pos 0 ∷ []) ∷ (pos 0 ∷ pos 1 ∷ pos 0 ∷ pos 1 ∷ []) ∷ [];
+      peak = 9;
     }))
     -- beyond the limit in the inverse of the column follower
     ∷ fromIdentities 9 (record { rows = 1; columns = 4; rowFollower = 0; rowInverse = 0; columnFollower = 0; columnInverse = 4 })
@@ -76,5 +79,6 @@ limits =
       rowInverse = (pos 1 ∷ []) ∷ [];
       columnFollower = (pos 0 ∷ pos 1 ∷ pos 2 ∷ pos 0 ∷ []) ∷ (pos 0 ∷ minus 5 ∷ minus 9 ∷ pos 0 ∷ []) ∷ (pos 1 ∷ minus 4 ∷ minus 9 ∷ pos 0 ∷ []) ∷ (pos 0 ∷ minus 4 ∷ minus 6 ∷ pos 1 ∷ []) ∷ [];
       columnInverse = [] ∷ [] ∷ [] ∷ [] ∷ [];
+      peak = 9;
     }))
     ∷ []

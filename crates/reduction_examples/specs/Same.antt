@@ -17,7 +17,8 @@ sameState s t =
     sameTable (s .matrix) (t .matrix)
     && (sameTable (s .rowFollower) (t .rowFollower)
     && (sameTable (s .rowInverse) (t .rowInverse)
-    && (sameTable (s .columnFollower) (t .columnFollower) && sameTable (s .columnInverse) (t .columnInverse))))
+    && (sameTable (s .columnFollower) (t .columnFollower)
+    && (sameTable (s .columnInverse) (t .columnInverse) && eqb (s .peak) (t .peak)))))
 
 -- both ended, and alike
 unfoldable pub sameMachine : Machine → Machine → Bool
@@ -41,13 +42,15 @@ sameState-eq s t h =
     let (matrix, h₁) = both (sameTable (s .matrix) (t .matrix)) _ h in
     let (rowFollower, h₂) = both (sameTable (s .rowFollower) (t .rowFollower)) _ h₁ in
     let (rowInverse, h₃) = both (sameTable (s .rowInverse) (t .rowInverse)) _ h₂ in
-    let (columnFollower, columnInverse) = both (sameTable (s .columnFollower) (t .columnFollower)) _ h₃ in
+    let (columnFollower, h₄) = both (sameTable (s .columnFollower) (t .columnFollower)) _ h₃ in
+    let (columnInverse, peak) = both (sameTable (s .columnInverse) (t .columnInverse)) _ h₄ in
     λ i. record {
       matrix = sameTable-eq (s .matrix) (t .matrix) matrix i;
       rowFollower = sameTable-eq (s .rowFollower) (t .rowFollower) rowFollower i;
       rowInverse = sameTable-eq (s .rowInverse) (t .rowInverse) rowInverse i;
       columnFollower = sameTable-eq (s .columnFollower) (t .columnFollower) columnFollower i;
       columnInverse = sameTable-eq (s .columnInverse) (t .columnInverse) columnInverse i;
+      peak = eqb→eq (s .peak) (t .peak) peak i;
     }
 
 pub sameMachine-eq : (x y : Machine) → T (sameMachine x y) → x ≡ y

@@ -1,4 +1,4 @@
--- Laws of the reduction: it ends, and it leaves a Smith normal form with right companions.
+-- Laws of the reduction: it ends, it leaves a Smith normal form with right companions, and at which other entry limits it is done as well.
 pub mod Tables
 pub mod Run
 pub mod Steps
@@ -6,6 +6,7 @@ pub mod StageLaws
 pub mod Shape
 pub mod Scans
 pub mod Moves
+pub mod Peaks
 pub mod Pass
 pub mod Done
 pub mod Led
@@ -17,4 +18,6 @@ pub mod Views
 pub mod Reached
 pub mod Descent
 pub mod Ends
+pub mod OtherLimit
+pub mod LeastLimit
 pub mod SmithForm

@@ -1,19 +1,22 @@
 -- Tables of the right sizes: `Shaped`, kept by every operation (shaped-rows, shaped-columns); what the matrix holds after an
--- operation (matrix-rows, matrix-columns); within-iff: the test of the limit is that of each table.
+-- operation (matrix-rows, matrix-columns); largest-iff: the largest absolute value of an entry is at most the limit where each table lies within it;
+-- within-iff: so with the test of the limit.
 use mathlib.Core.Path.{_≡_, sym, _∙_, subst}
 use mathlib.Core.Logic.{_↔_}
-use mathlib.Core.Bool.{Bool, true, _&&_}
-use Prim.Native.Nat.{ℕ, _≤_, _<_, zero-le}
+use mathlib.Core.Bool.{true}
+use Prim.Native.Nat.{ℕ, _≤_, _<_, zero-le, max}
+use native.Mathlib.Nat.{max-le}
 use native.Mathlib.Omega.{arith}
 use native.Mathlib.Decide.{decLt}
+use borrow.Author.Tests.{leb-true, le-leb}
 use lib.IntN.{pos, natAbs}
 use Rattle.matrices.specs.Matrix.{Matrix, transpose}
 use Rattle.matrices.specs.Product.{matrix-ext}
 use Rattle.matrices.specs.Operation.{Operation, onRows, onColumns, inverse}
 use Rattle.matrices.specs.Within.{Within}
-use Rattle.reduction_steps.specs.Table.{Table, entry, table, tableWithin}
-use Rattle.reduction_steps.specs.State.{Sizes, State, rowOperation, columnOperation, follow, within}
-use Rattle.reduction_laws.specs.Tables.{entry-table, entry-table-below, entry-table-right, table-entry, tableWithin-iff, and-left, and-right}
+use Rattle.reduction_steps.specs.Table.{Table, entry, table, tableLargest, tableWithin}
+use Rattle.reduction_steps.specs.State.{Sizes, State, rowOperation, columnOperation, follow, largest, within}
+use Rattle.reduction_laws.specs.Tables.{entry-table, entry-table-below, entry-table-right, table-entry, tableWithin-le, tableWithin-iff}
 use Rattle.reduction_laws.specs.StageLaws.{From-zero, onRows-beyond, onRows-zero}
 
 -- every table of the state is the table of its own entries, at its size
@@ -103,42 +106,47 @@ pub record AllWithin (limit : ℕ) (s : State) : Type 0 where
   pub columnFollower : tableWithin limit (s .columnFollower) ≡ true
   pub columnInverse : tableWithin limit (s .columnInverse) ≡ true
 
-pub within-iff : (limit : ℕ) (s : State) → (within limit s ≡ true) ↔ AllWithin limit s
-unfolding within
-within-iff limit s = (forth, λ h. cc)
+pub largest-iff : (limit : ℕ) (s : State) → (largest s ≤ limit) ↔ AllWithin limit s
+unfolding largest
+largest-iff limit s = (forth, back)
   where
-    M : Bool
-    M = tableWithin limit (s .matrix)
+    M : ℕ
+    M = tableLargest (s .matrix)
 
-    R : Bool
-    R = tableWithin limit (s .rowFollower)
+    R : ℕ
+    R = tableLargest (s .rowFollower)
 
-    I : Bool
-    I = tableWithin limit (s .rowInverse)
+    I : ℕ
+    I = tableLargest (s .rowInverse)
 
-    C : Bool
-    C = tableWithin limit (s .columnFollower)
+    C : ℕ
+    C = tableLargest (s .columnFollower)
 
-    J : Bool
-    J = tableWithin limit (s .columnInverse)
+    J : ℕ
+    J = tableLargest (s .columnInverse)
 
-    forth : within limit s ≡ true → AllWithin limit s
-    forth e = record {
-      matrix = and-left M (R && (I && (C && J))) e;
-      rowFollower = and-left R (I && (C && J)) after-M;
-      rowInverse = and-left I (C && J) after-R;
-      columnFollower = and-left C J after-I;
-      columnInverse = and-right C J after-I;
+    forth : max M (max R (max I (max C J))) ≤ limit → AllWithin limit s
+    forth h = record {
+      matrix = tableWithin-le limit (s .matrix) .1 (omega arith);
+      rowFollower = tableWithin-le limit (s .rowFollower) .1 (omega arith);
+      rowInverse = tableWithin-le limit (s .rowInverse) .1 (omega arith);
+      columnFollower = tableWithin-le limit (s .columnFollower) .1 (omega arith);
+      columnInverse = tableWithin-le limit (s .columnInverse) .1 (omega arith);
     }
-      where
-        after-M : R && (I && (C && J)) ≡ true
-        after-M = and-right M (R && (I && (C && J))) e
 
-        after-R : I && (C && J) ≡ true
-        after-R = and-right R (I && (C && J)) after-M
+    back : AllWithin limit s → max M (max R (max I (max C J))) ≤ limit
+    back h =
+        max-le (tableWithin-le limit (s .matrix) .0 (h .matrix))
+        (max-le (tableWithin-le limit (s .rowFollower) .0 (h .rowFollower))
+        (max-le (tableWithin-le limit (s .rowInverse) .0 (h .rowInverse))
+        (max-le (tableWithin-le limit (s .columnFollower) .0 (h .columnFollower)) (tableWithin-le limit (s .columnInverse) .0 (h .columnInverse)))))
 
-        after-I : C && J ≡ true
-        after-I = and-right I (C && J) after-R
+pub within-le : (limit : ℕ) (s : State) → (within limit s ≡ true) ↔ (largest s ≤ limit)
+unfolding within
+within-le limit s = (leb-true (largest s) limit, le-leb (largest s) limit)
+
+pub within-iff : (limit : ℕ) (s : State) → (within limit s ≡ true) ↔ AllWithin limit s
+within-iff limit s = (λ e. largest-iff limit s .0 (within-le limit s .0 e), λ h. within-le limit s .1 (largest-iff limit s .1 h))
 
 -- every entry of the matrix lies within the limit
 pub within-entry : (limit : ℕ) (s : State) → within limit s ≡ true → (i j : ℕ) → natAbs (entry (s .matrix) i j) ≤ limit

@@ -21,6 +21,7 @@ use Rattle.reduction_steps.specs.State.{Sizes, State, within}
 use Rattle.reduction_steps.specs.Pivot.{Rule, IsRule}
 use Rattle.reduction_steps.specs.Step.{done, enough, reduce}
 use Rattle.reduction_laws.specs.Shape.{Shaped, Bounded, shaped-bounded}
+use Rattle.reduction_laws.specs.Moves.{Moves}
 use Rattle.reduction_laws.specs.Leading.{Leading}
 use Rattle.reduction_laws.specs.Stage.{Finished}
 use Rattle.reduction_laws.specs.Tracked.{Tracked}
@@ -43,6 +44,7 @@ pub record Reduced (limit : ℕ) (z : Sizes) (s : State) (r : ℕ) (t : State) :
   pub bound : r ≤ min (z .rows) (z .columns)
   pub shaped : Shaped z t
   pub within : within limit t ≡ true
+  pub moves : Moves limit z 0 s t
   pub rowFollower : Eq (z .rows) (z .rowFollower) (entry (t .rowFollower)) (mul (z .rows) U (entry (s .rowFollower)))
   pub rowInverse : Eq (z .rowInverse) (z .rows) (transpose (entry (t .rowInverse))) (mul (z .rows) (transpose (entry (s .rowInverse))) Ui)
   pub columnFollower : Eq (z .columnFollower) (z .columns) (transpose (entry (t .columnFollower))) (mul (z .columns) (transpose (entry (s .columnFollower))) C)
@@ -118,6 +120,7 @@ finished-reduced {limit} {z} {s} {t} {r} h = record {
   bound = omega (arith, h .stage .rows-bound, h .stage .columns-bound);
   shaped = h .stage .shaped;
   within = h .stage .within;
+  moves = h .stage .moves;
   rowFollower = x .rowFollower;
   rowInverse = x .rowInverse;
   columnFollower = x .columnFollower;

@@ -11,10 +11,10 @@ use Rattle.reduction_steps.specs.State.{Sizes, State, within}
 use Rattle.reduction_steps.specs.Step.{noRow}
 use Rattle.reduction_laws.specs.Steps.{indivisibleRow}
 use Rattle.reduction_laws.specs.Scans.{firstIndivisible-none}
-use Rattle.reduction_laws.specs.StageLaws.{Divisible}
+use Rattle.reduction_laws.specs.StageLaws.{From-zero, Divisible}
 use Rattle.reduction_laws.specs.Letters.{ReadyC, ReadyE}
 use Rattle.reduction_laws.specs.Shape.{Shaped, shaped-rows, shaped-columns, matrix-rows, matrix-columns}
-use Rattle.reduction_laws.specs.Moves.{Moves, Keeps, moves-keep}
+use Rattle.reduction_laws.specs.Moves.{Moves, stay, rows, columns, Keeps, moves-keep}
 use Rattle.reduction_laws.specs.Tracked.{Tracked, tracked-refl, tracked-rows, tracked-columns}
 use Rattle.reduction_laws.specs.Leading.{Leading, leading-zero, leading-rows, leading-columns, leading-suc}
 
@@ -23,17 +23,19 @@ module _ (limit : ℕ) (z : Sizes) (s₀ : State) (k : ℕ) where
   pub record Stage (s : State) : Type 0 where
     pub shaped : Shaped z s
     pub within : within limit s ≡ true
+    pub moves : Moves limit z 0 s₀ s
     pub tracked : Tracked z s₀ s
     pub leading : Leading (z .rows) (z .columns) k (entry (s .matrix))
     pub rows-bound : k ≤ z .rows
     pub columns-bound : k ≤ z .columns
 
   -- a state with the matrix A, made from one in stage k
-  stays : {s t : State} {A : Matrix} → Stage s → Shaped z t → within limit t ≡ true → Tracked z s₀ t → entry (t .matrix) ≡ A
+  stays : {s t : State} {A : Matrix} → Stage s → Shaped z t → within limit t ≡ true → Moves limit z 0 s₀ t → Tracked z s₀ t → entry (t .matrix) ≡ A
       → Leading (z .rows) (z .columns) k A → Stage t
-  stays p h w tracked is leading = record {
+  stays p h w moves tracked is leading = record {
     shaped = h;
     within = w;
+    moves = moves;
     tracked = tracked;
     leading = subst (λ (A : Matrix). Leading (z .rows) (z .columns) k A) (sym is) leading;
     rows-bound = p .rows-bound;
@@ -43,21 +45,32 @@ module _ (limit : ℕ) (z : Sizes) (s₀ : State) (k : ℕ) where
   stage-keeps : Keeps limit z k Stage
   stage-keeps = record {
     onRows = λ op t f w h p.
-        stays p (shaped-rows op (p .shaped)) h (tracked-rows op (p .tracked) w) (matrix-rows op (p .shaped) w) (leading-rows op f w (p .leading));
+        stays p (shaped-rows op (p .shaped)) h (rows op (From-zero op) w h (p .moves)) (tracked-rows op (p .tracked) w)
+        (matrix-rows op (p .shaped) w) (leading-rows op f w (p .leading));
     onColumns = λ op t f w h p.
-        stays p (shaped-columns op (p .shaped)) h (tracked-columns op (p .tracked) w) (matrix-columns op (p .shaped) w) (leading-columns op f w (p .leading));
+        stays p (shaped-columns op (p .shaped)) h (columns op (From-zero op) w h (p .moves)) (tracked-columns op (p .tracked) w)
+        (matrix-columns op (p .shaped) w) (leading-columns op f w (p .leading));
   }
 
   pub stage-moves : {s t : State} → Moves limit z k s t → Stage s → Stage t
   stage-moves p h = moves-keep limit z k stage-keeps p h
 
 pub stage-start : (limit : ℕ) (z : Sizes) (s : State) → Shaped z s → within limit s ≡ true → Stage limit z s 0 s
-stage-start limit z s h w = record { shaped = h; within = w; tracked = tracked-refl z s; leading = leading-zero (z .rows) (z .columns) (entry (s .matrix)); rows-bound = zero-le; columns-bound = zero-le }
+stage-start limit z s h w = record {
+  shaped = h;
+  within = w;
+  moves = stay;
+  tracked = tracked-refl z s;
+  leading = leading-zero (z .rows) (z .columns) (entry (s .matrix));
+  rows-bound = zero-le;
+  columns-bound = zero-le;
+}
 
 pub stage-next : {limit : ℕ} {z : Sizes} {s₀ : State} {k : ℕ} {s : State} → Stage limit z s₀ k s → ReadyE z k s → indivisibleRow z k s ≡ noRow → Stage limit z s₀ (suc k) s
 stage-next {limit} {z} {s₀} {k} {s} stage h e = record {
   shaped = stage .shaped;
   within = stage .within;
+  moves = stage .moves;
   tracked = stage .tracked;
   leading = leading-suc (c .row) (c .column) (stage .leading) (c .positive) (h .ready .below) (h .right) divisible;
   rows-bound = c .row;

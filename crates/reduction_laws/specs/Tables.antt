@@ -1,21 +1,20 @@
--- Laws of tables: entry-table (on the range), entry-table-below and entry-table-right (0 outside), table-ext, table-entry,
--- and tableWithin-iff: the test of the limit holds where every entry lies within it.
+-- Laws of tables: entry-table (on the range), entry-table-below and entry-table-right (0 outside), table-ext, table-entry;
+-- tableLargest-iff: the largest absolute value is at most L where every entry lies within L; tableWithin-iff: so with the test of the limit.
 use mathlib.Core.Path.{_≡_, refl, _∙_, ap}
 use mathlib.Core.Logic.{_↔_}
-use mathlib.Core.Bool.{Bool, true, false, _&&_, false≢true}
+use mathlib.Core.Bool.{Bool, true, false}
 use mathlib.Core.List.{List, [], _∷_}
 use Prim.Native.Nat.{ℕ, zero, suc, _≤_, _<_, zero-le}
-use native.Mathlib.Nat.{not-le-of-lt}
+use native.Mathlib.Nat.{not-le-of-lt, le-trans, max-le, le-max-left, le-max-right}
 use native.Mathlib.Omega.{arith}
 use native.Mathlib.Decide.{decLt}
 use borrow.Author.Tests.{leb-true, le-leb}
-use lib.Dec.{leb}
 use lib.IntN.{ℤ, pos, natAbs}
 use lib.ListN.{getD}
 use Rattle.lists.specs.Tabulate.{tabulate}
 use Rattle.lists.specs.TabulateLaws.{getD-tabulate, getD-tabulate-beyond, tabulate-ext}
 use Rattle.matrices.specs.Matrix.{Matrix, Eq}
-use Rattle.reduction_steps.specs.Table.{Table, entry, table, rowWithin, tableWithin}
+use Rattle.reduction_steps.specs.Table.{Table, entry, table, rowLargest, tableLargest, tableWithin}
 
 -- ---- entries
 
@@ -54,63 +53,70 @@ Eq-table m n A = record { at = entry-table m n A }
 pub table-entry : (m n : ℕ) (A : Matrix) → table m n (entry (table m n A)) ≡ table m n A
 table-entry m n A = table-ext (Eq-table m n A)
 
--- ---- the test of the limit
+-- ---- the largest absolute value of an entry
 
-pub and-left : (s t : Bool) → s && t ≡ true → s ≡ true
-and-left true t e = refl
-and-left false t e = e
+row-below : (L : ℕ) (r : List ℤ) → rowLargest r ≤ L → (j : ℕ) → natAbs (getD r j (pos 0)) ≤ L
+unfolding rowLargest
+row-below L [] h j = zero-le
+row-below L (x ∷ r) h zero = le-trans (le-max-left (natAbs x) (rowLargest r)) h
+row-below L (x ∷ r) h (suc j) = row-below L r (le-trans (le-max-right (natAbs x) (rowLargest r)) h) j
 
-pub and-right : (s t : Bool) → s && t ≡ true → t ≡ true
-and-right true t e = e
-and-right false t e = absurd (false≢true e)
+below-row : (L : ℕ) (r : List ℤ) → ((j : ℕ) → natAbs (getD r j (pos 0)) ≤ L) → rowLargest r ≤ L
+unfolding rowLargest
+below-row L [] h = zero-le
+below-row L (x ∷ r) h = max-le (h 0) (below-row L r (λ j. h (suc j)))
 
-both : {s t : Bool} → s ≡ true → t ≡ true → s && t ≡ true
-both e f = cc
+table-below : (L : ℕ) (T : Table) → tableLargest T ≤ L → (i j : ℕ) → natAbs (entry T i j) ≤ L
+unfolding tableLargest
+table-below L [] h i j = zero-le
+table-below L (r ∷ T) h zero j = row-below L r (le-trans (le-max-left (rowLargest r) (tableLargest T)) h) j
+table-below L (r ∷ T) h (suc i) j = table-below L T (le-trans (le-max-right (rowLargest r) (tableLargest T)) h) i j
 
-row-within : (limit : ℕ) (r : List ℤ) → rowWithin limit r ≡ true → (j : ℕ) → natAbs (getD r j (pos 0)) ≤ limit
-unfolding rowWithin
-row-within limit [] e j = zero-le
-row-within limit (x ∷ r) e zero = leb-true (natAbs x) limit (and-left (leb (natAbs x) limit) (rowWithin limit r) e)
-row-within limit (x ∷ r) e (suc j) = row-within limit r (and-right (leb (natAbs x) limit) (rowWithin limit r) e) j
+below-table : (L : ℕ) (T : Table) → ((i j : ℕ) → natAbs (entry T i j) ≤ L) → tableLargest T ≤ L
+unfolding tableLargest
+below-table L [] h = zero-le
+below-table L (r ∷ T) h = max-le (below-row L r (λ j. h 0 j)) (below-table L T (λ i j. h (suc i) j))
 
-within-row : (limit : ℕ) (r : List ℤ) → ((j : ℕ) → natAbs (getD r j (pos 0)) ≤ limit) → rowWithin limit r ≡ true
-unfolding rowWithin
-within-row limit [] h = refl
-within-row limit (x ∷ r) h = both (le-leb (natAbs x) limit (h zero)) (within-row limit r (λ j. h (suc j)))
-
-table-within : (limit : ℕ) (T : Table) → tableWithin limit T ≡ true → (i j : ℕ) → natAbs (entry T i j) ≤ limit
-unfolding tableWithin
-table-within limit [] e i j = zero-le
-table-within limit (r ∷ T) e zero j = row-within limit r (and-left (rowWithin limit r) (tableWithin limit T) e) j
-table-within limit (r ∷ T) e (suc i) j = table-within limit T (and-right (rowWithin limit r) (tableWithin limit T) e) i j
-
-within-table : (limit : ℕ) (T : Table) → ((i j : ℕ) → natAbs (entry T i j) ≤ limit) → tableWithin limit T ≡ true
-unfolding tableWithin
-within-table limit [] h = refl
-within-table limit (r ∷ T) h = both (within-row limit r (λ j. h zero j)) (within-table limit T (λ i j. h (suc i) j))
-
-pub tableWithin-iff : (limit : ℕ) (T : Table) → (tableWithin limit T ≡ true) ↔ ((i j : ℕ) → natAbs (entry T i j) ≤ limit)
-tableWithin-iff limit T = (table-within limit T, within-table limit T)
+-- it is at most L where every entry lies within L
+pub tableLargest-iff : (L : ℕ) (T : Table) → (tableLargest T ≤ L) ↔ ((i j : ℕ) → natAbs (entry T i j) ≤ L)
+tableLargest-iff L T = (table-below L T, below-table L T)
 
 -- the table of a matrix: the entries in the range decide
-pub tableWithin-table : (limit m n : ℕ) (A : Matrix) → (tableWithin limit (table m n A) ≡ true) ↔ ((i j : ℕ) → i < m → j < n → natAbs (A i j) ≤ limit)
-tableWithin-table limit m n A = (forth, back)
+pub tableLargest-table : (L m n : ℕ) (A : Matrix) → (tableLargest (table m n A) ≤ L) ↔ ((i j : ℕ) → i < m → j < n → natAbs (A i j) ≤ L)
+tableLargest-table L m n A = (forth, back)
   where
-    forth : tableWithin limit (table m n A) ≡ true → (i j : ℕ) → i < m → j < n → natAbs (A i j) ≤ limit
-    forth e i j a b = rw (entry-table m n A i j a b) at (table-within limit (table m n A) e i j)
+    forth : tableLargest (table m n A) ≤ L → (i j : ℕ) → i < m → j < n → natAbs (A i j) ≤ L
+    forth h i j a b = rw (entry-table m n A i j a b) at (tableLargest-iff L (table m n A) .0 h i j)
 
-    at-entry : ((i j : ℕ) → i < m → j < n → natAbs (A i j) ≤ limit) → (i j : ℕ) → Dec (i < m) → Dec (j < n) → natAbs (entry (table m n A) i j) ≤ limit
+    at-entry : ((i j : ℕ) → i < m → j < n → natAbs (A i j) ≤ L) → (i j : ℕ) → Dec (i < m) → Dec (j < n) → natAbs (entry (table m n A) i j) ≤ L
     at-entry h i j (yes a) (yes b) = rw (entry-table m n A i j a b) (h i j a b)
     at-entry h i j (no a) t = rw (entry-table-below m n A i j (omega arith)) zero-le
     at-entry h i j (yes a) (no b) = rw (entry-table-right m n A i j (omega arith)) zero-le
 
-    back : ((i j : ℕ) → i < m → j < n → natAbs (A i j) ≤ limit) → tableWithin limit (table m n A) ≡ true
-    back h = within-table limit (table m n A) (λ i j. at-entry h i j (decLt i m) (decLt j n))
+    back : ((i j : ℕ) → i < m → j < n → natAbs (A i j) ≤ L) → tableLargest (table m n A) ≤ L
+    back h = tableLargest-iff L (table m n A) .1 (λ i j. at-entry h i j (decLt i m) (decLt j n))
+
+-- ---- the test of the limit
+
+pub tableWithin-le : (limit : ℕ) (T : Table) → (tableWithin limit T ≡ true) ↔ (tableLargest T ≤ limit)
+unfolding tableWithin
+tableWithin-le limit T = (leb-true (tableLargest T) limit, le-leb (tableLargest T) limit)
+
+pub tableWithin-iff : (limit : ℕ) (T : Table) → (tableWithin limit T ≡ true) ↔ ((i j : ℕ) → natAbs (entry T i j) ≤ limit)
+tableWithin-iff limit T =
+    (λ e. tableLargest-iff limit T .0 (tableWithin-le limit T .0 e), λ h. tableWithin-le limit T .1 (tableLargest-iff limit T .1 h))
+
+-- the table of a matrix: the entries in the range decide
+pub tableWithin-table : (limit m n : ℕ) (A : Matrix) → (tableWithin limit (table m n A) ≡ true) ↔ ((i j : ℕ) → i < m → j < n → natAbs (A i j) ≤ limit)
+tableWithin-table limit m n A = (
+  λ e. tableLargest-table limit m n A .0 (tableWithin-le limit (table m n A) .0 e),
+  λ h. tableWithin-le limit (table m n A) .1 (tableLargest-table limit m n A .1 h),
+)
 
 -- one entry beyond the limit makes the test fail
 pub tableWithin-false : (limit : ℕ) (T : Table) (i j : ℕ) → limit < natAbs (entry T i j) → tableWithin limit T ≡ false
 tableWithin-false limit T i j h = go (tableWithin limit T) refl
   where
     go : (t : Bool) → tableWithin limit T ≡ t → t ≡ false
-    go true e = absurd (not-le-of-lt h (table-within limit T e i j))
+    go true e = absurd (not-le-of-lt h (tableWithin-iff limit T .0 e i j))
     go false e = refl

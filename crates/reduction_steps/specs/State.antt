@@ -1,8 +1,9 @@
 -- What a reduction works on: a matrix and its companions, and an operation with the check of the entry limit. Document 01, "The reduction".
-use mathlib.Core.Bool.{Bool, cond, _&&_}
-use Prim.Native.Nat.{ℕ}
+use mathlib.Core.Bool.{Bool, cond}
+use Prim.Native.Nat.{ℕ, max}
+use lib.Dec.{leb}
 use Rattle.matrices.specs.Operation.{Operation, onRows, onColumns, inverse}
-use Rattle.reduction_steps.specs.Table.{Table, entry, table, tableWithin}
+use Rattle.reduction_steps.specs.Table.{Table, entry, table, tableLargest}
 
 -- The rows and columns of the matrix, and the length of a line of each companion. A companion that is absent has lines of length 0.
 pub record Sizes : Type 0 where
@@ -15,13 +16,33 @@ pub record Sizes : Type 0 where
 
 -- The matrix, by rows. Its companions: one that undergoes the row operations, by rows (Q in document 01); one whose columns undergo their inverses, by
 -- columns (G); one that undergoes the column operations, by columns (V); one whose rows undergo their inverses, by rows (the inverse of V). In a
--- companion by columns, line i is column i.
+-- companion by columns, line i is column i. The peak: the largest absolute value that an entry of these has had so far.
 pub record State : Type 0 where
   pub matrix : Table
   pub rowFollower : Table
   pub rowInverse : Table
   pub columnFollower : Table
   pub columnInverse : Table
+  pub peak : ℕ
+
+-- the largest absolute value of an entry of the matrix and its companions
+unfoldable pub largest : State → ℕ
+largest s =
+    max (tableLargest (s .matrix))
+    (max (tableLargest (s .rowFollower))
+    (max (tableLargest (s .rowInverse)) (max (tableLargest (s .columnFollower)) (tableLargest (s .columnInverse)))))
+
+-- the peak takes in the entries that stand there now
+abbrev pub noted : State → State
+noted s =
+    record {
+      matrix = s .matrix;
+      rowFollower = s .rowFollower;
+      rowInverse = s .rowInverse;
+      columnFollower = s .columnFollower;
+      columnInverse = s .columnInverse;
+      peak = max (s .peak) (largest s);
+    }
 
 -- a companion's lines, so many and so long, after an operation on them
 unfoldable pub follow : ℕ → ℕ → Operation → Table → Table
@@ -30,31 +51,30 @@ follow lines long op T = table lines long (onRows op (entry T))
 -- an operation on the rows of the matrix
 unfoldable pub rowOperation : Sizes → Operation → State → State
 rowOperation z op s =
-    record {
+    noted (record {
       matrix = table (z .rows) (z .columns) (onRows op (entry (s .matrix)));
       rowFollower = follow (z .rows) (z .rowFollower) op (s .rowFollower);
       rowInverse = follow (z .rows) (z .rowInverse) (inverse op) (s .rowInverse);
       columnFollower = s .columnFollower;
       columnInverse = s .columnInverse;
-    }
+      peak = s .peak;
+    })
 
 -- an operation on the columns of the matrix
 unfoldable pub columnOperation : Sizes → Operation → State → State
 columnOperation z op s =
-    record {
+    noted (record {
       matrix = table (z .rows) (z .columns) (onColumns op (entry (s .matrix)));
       rowFollower = s .rowFollower;
       rowInverse = s .rowInverse;
       columnFollower = follow (z .columns) (z .columnFollower) op (s .columnFollower);
       columnInverse = follow (z .columns) (z .columnInverse) (inverse op) (s .columnInverse);
-    }
+      peak = s .peak;
+    })
 
 -- every entry of the matrix and of its companions lies within the limit
 unfoldable pub within : ℕ → State → Bool
-within limit s =
-    tableWithin limit (s .matrix)
-    && (tableWithin limit (s .rowFollower)
-    && (tableWithin limit (s .rowInverse) && (tableWithin limit (s .columnFollower) && tableWithin limit (s .columnInverse))))
+within limit s = leb (largest s) limit
 
 -- what an operation answers
 pub data Outcome : Type 0 where

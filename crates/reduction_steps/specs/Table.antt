@@ -1,7 +1,7 @@
 -- A matrix as the list of its rows.
-use mathlib.Core.Bool.{Bool, true, _&&_}
+use mathlib.Core.Bool.{Bool}
 use mathlib.Core.List.{List, [], _∷_}
-use Prim.Native.Nat.{ℕ}
+use Prim.Native.Nat.{ℕ, max}
 use lib.Dec.{leb}
 use lib.IntN.{ℤ, pos, natAbs}
 use lib.ListN.{getD}
@@ -19,11 +19,15 @@ entry T i j = getD (getD T i []) j (pos 0)
 unfoldable pub table : ℕ → ℕ → Matrix → Table
 table m n A = tabulate m (λ i. tabulate n (λ j. A i j))
 
--- every entry lies within the limit either way from zero
-unfoldable pub rowWithin : ℕ → List ℤ → Bool
-rowWithin limit [] = true
-rowWithin limit (x ∷ r) = leb (natAbs x) limit && rowWithin limit r
+-- the largest absolute value of an entry, 0 where there is none
+unfoldable pub rowLargest : List ℤ → ℕ
+rowLargest [] = 0
+rowLargest (x ∷ r) = max (natAbs x) (rowLargest r)
 
+unfoldable pub tableLargest : Table → ℕ
+tableLargest [] = 0
+tableLargest (r ∷ T) = max (rowLargest r) (tableLargest T)
+
+-- every entry lies within the limit either way from zero
 unfoldable pub tableWithin : ℕ → Table → Bool
-tableWithin limit [] = true
-tableWithin limit (r ∷ T) = rowWithin limit r && tableWithin limit T
+tableWithin limit T = leb (tableLargest T) limit

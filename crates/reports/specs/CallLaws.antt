@@ -8,7 +8,7 @@ use native.Mathlib.Nat.{suc-ne-zero}
 use lib.IntN.{ℤ}
 use Rattle.reduction_steps.specs.State.{State}
 use Rattle.reports.specs.Reductions.{Reductions, tooWide, reduced}
-use Rattle.reports.specs.Report.{Counts, freeRank, torsionCount, countsOf}
+use Rattle.reports.specs.Report.{Counts, freeRank, torsionCount, bitsOf, countsOf}
 use Rattle.reports.specs.Call.{Answer, done, refused, Called, orRefused, finished, written, cleared}
 
 -- done is not refused
@@ -36,6 +36,15 @@ pub record ReducedWith (R : Reductions) (counts : Counts) : Type 0 where
   pub reductions : R ≡ reduced rows rank state
   pub free : counts .free ≡ freeRank rows rank
   pub torsion : counts .torsion ≡ torsionCount rank state
+  pub peak : counts .peak ≡ state .peak
+  pub bits : counts .bits ≡ bitsOf (state .peak)
+
+-- the counts are those of what the reductions leave
+pub counted-is : {R : Reductions} {counts : Counts} (c : ReducedWith R counts) → counts ≡ countsOf (c .rows) (c .rank) (c .state)
+counted-is {R} {counts} c = same
+  where
+    same : record { free = counts .free; torsion = counts .torsion; peak = counts .peak; bits = counts .bits } ≡ countsOf (c .rows) (c .rank) (c .state)
+    same = cc (c .free, c .torsion, c .peak, c .bits)
 
 -- nothing was refused, and the two reductions are done
 pub record CallDone (before : ℕ) (R : Reductions) (counts : Counts) : Type 0 where
@@ -55,7 +64,7 @@ unfolding finished
 call-done (suc n) R left output work counts e = absurd (refused≢done e)
 call-done zero tooWide left output work counts e = absurd (refused≢done e)
 call-done zero (reduced s r x) left output work counts e =
-    record { passes = refl; counted = record { rows = s; rank = r; state = x; reductions = refl; free = cc; torsion = cc } }
+    record { passes = refl; counted = record { rows = s; rank = r; state = x; reductions = refl; free = cc; torsion = cc; peak = cc; bits = cc } }
 
 pub call-refused : (before : ℕ) (R : Reductions) (left : ℕ → ℕ → State → List ℤ) (output work : List ℤ) (k : ℕ)
     → call before R left output work .answer ≡ refused k → CallRefused before R k

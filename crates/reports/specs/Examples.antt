@@ -1,6 +1,6 @@
 -- The program's text and the host calls' bytes on sheets of document 01, through both reductions, and where these go too wide.
 --     examples          every sheet of `textCases` gives its text; every call of `hostCases` gives its number and leaves its bytes; an edge
---                       goes too wide in the first reduction and in the product
+--                       goes too wide in the first reduction and in the product, and has its peak in the first reduction
 --     largest-number    a host call on 4294967295 chains where there are no cells is done
 --     edge-wide         the edge's two reductions are too wide
 use mathlib.Core.Bool.{Bool, _&&_}
@@ -22,11 +22,11 @@ use Rattle.complexes.specs.Boundary.{sign, coefficient, countBelow, boundary}
 use Rattle.sheet_format.specs.Layout.{start}
 use Rattle.sheet_format.specs.Check.{countField, offsetField, cellOf, cellsOf, sectionsOf, chainCells, some, verticesDoNotRise, cellsDoNotRise, faceMissing, refusal}
 use Rattle.sheet_format.specs.Starred.{hollowTriangle, edgeSections}
-use Rattle.reduction_steps.specs.Table.{table, rowWithin, tableWithin}
-use Rattle.reduction_steps.specs.State.{follow, rowOperation, columnOperation, within, checked, andThen, onRow, onColumn}
+use Rattle.reduction_steps.specs.Table.{table, rowLargest, tableLargest, tableWithin}
+use Rattle.reduction_steps.specs.State.{largest, follow, rowOperation, columnOperation, within, checked, andThen, onRow, onColumn}
 use Rattle.reduction_steps.specs.Pivot.{better, alongRow, downRows, release1}
 use Rattle.reduction_steps.specs.Step.{columnKeeps, rowKeeps, rowIndivisible, firstIndivisible, positive, bring, quotient, rowPass, columnPass, next, step, run, reduce}
-use Rattle.reports.specs.Reductions.{tooWide, firstStart, product, secondStart, afterSecond, second, afterFirst, reductions}
+use Rattle.reports.specs.Reductions.{tooWide, reduced, firstStart, product, secondStart, afterSecond, second, afterFirst, reductions}
 use Rattle.reports.specs.Report.{reported, columnsOf, torsionCount, reportList, coordinateAt, coordinateList}
 use Rattle.reports.specs.Call.{coefficientExceeds, boundaryNotZero, callChecks, chainChecks, reductionsOf}
 use Rattle.reports.specs.Text.{digits, decimal, spaced, generatorLines, dimensionText, dimensionsText, textFor, programText}
@@ -78,19 +78,22 @@ pub record Examples : Type 0 where
   pub wideInFirst : end release1 0 edgeSections 1 ≡ inFirst
   pub wideInProduct : end release1 0 edgeSections 0 ≡ inProduct
   pub notWide : end release1 1 edgeSections 1 ≡ atEnd
+  -- the second reduction has no entries: the peak is that of the first
+  pub peakOfFirst : reductions release1 1 edgeSections 1
+      ≡ reduced 0 0 (record { matrix = []; rowFollower = []; rowInverse = []; columnFollower = []; columnInverse = []; peak = 1 })
 
 pub examples : Examples
 unfolding every sameList sameBytes textGood hostGood called sameCalled end endOfFirst endOfProduct endOfSecond
     refusal countField offsetField cellOf cellsOf sectionsOf chainCells some verticesDoNotRise cellsDoNotRise faceMissing without same rises precedes listed start
     reductionsOf reductions firstStart afterFirst second product secondStart afterSecond countBelow boundary coefficient sign
     reduce run step next bring positive quotient rowPass columnPass columnKeeps rowKeeps rowIndivisible firstIndivisible
-    release1 downRows alongRow better onRow onColumn checked andThen within rowOperation columnOperation follow tableWithin rowWithin table
+    release1 downRows alongRow better onRow onColumn checked andThen within largest rowOperation columnOperation follow tableWithin tableLargest rowLargest table
     onRows onColumns inverse identity null mul apply sum floor modulo divides tabulate reported torsionCount
     programText textFor dimensionsText dimensionText generatorLines spaced decimal digits
     hostReport hostCoordinates callChecks chainChecks coefficientExceeds boundaryNotZero
     hostCoordinateLists chainsChecks cyclesChecks splices splice
     chainFrom otherLength coefficientAt finishedWith numbersBytes numberBytes lowBytes reportList coordinateList coordinateAt columnsOf
-examples = record { texts = tt; hosts = tt; wideInFirst = refl; wideInProduct = refl; notWide = refl }
+examples = record { texts = tt; hosts = tt; wideInFirst = refl; wideInProduct = refl; notWide = refl; peakOfFirst = refl }
 
 -- where there are no cells, as many chains as the host call can be asked for are done
 pub largest-number : hostCoordinateLists hollowTriangle 2 4294967295 [] (replicate 5 9) ≡ record { number = 0; output = replicate 5 9 }
@@ -98,7 +101,7 @@ unfolding hostCoordinateLists chainsChecks cyclesChecks splices callChecks finis
     refusal countField offsetField cellOf cellsOf sectionsOf chainCells some verticesDoNotRise cellsDoNotRise faceMissing without same rises precedes listed start
     reductionsOf reductions firstStart afterFirst second product secondStart afterSecond countBelow boundary coefficient sign
     reduce run step next columnKeeps rowKeeps rowIndivisible firstIndivisible
-    release1 downRows alongRow better within tableWithin rowWithin table identity mul sum tabulate
+    release1 downRows alongRow better within largest tableWithin tableLargest rowLargest table identity mul sum tabulate
 largest-number = host-no-cells hollowTriangle 2 refl 4294967295 [] (replicate 5 9)
 
 -- the edge's reductions at the limit 0 are too wide

@@ -1,8 +1,9 @@
--- The report and the coordinates of a dimension as definitions: document 01, "The reduction" and "The report and the coordinates"; document 02, Note 1.
+-- The report and the coordinates of a dimension as definitions: document 01, "The reduction" and "The report and the coordinates"; document 02, Notes 1 and 4.
 -- The files named `Laws` say what the definitions come to: the answers of a call, and the lengths and places of the numbers.
 -- `LimitExamples`, `ReportExamples` and `Examples` hold them to numbers and bytes; `TextCases` and `HostCases` are tables of `Examples`.
 pub mod Reductions
 pub mod Report
+pub mod BitsLaws
 pub mod Call
 pub mod Text
 pub mod Host

@@ -10,7 +10,7 @@ use Rattle.lists.specs.Same.{every}
 use Rattle.complexes.specs.Cell.{without, same, rises, precedes, listed}
 use Rattle.sheet_format.specs.Layout.{cellBytes, sectionBytes, sectionsBytes, start, headerBytes, layout}
 use Rattle.sheet_format.specs.Check.{countField, offsetField, cellOf, cellsOf, sectionsOf, chainCells, some, countExceeds, verticesDoNotRise, cellsDoNotRise, faceMissing, refusal}
-use Rattle.reduction_steps.specs.Table.{rowWithin, tableWithin}
+use Rattle.reduction_steps.specs.Table.{rowLargest, tableLargest, tableWithin}
 use Rattle.reports.specs.Call.{coefficientExceeds}
 use Rattle.limits.specs.Limits.{libraryLimit, hostLimit, entryLimit, coefficientLimit}
 
@@ -49,5 +49,5 @@ tests =
 pub limit-examples : T (every (λ x. x) tests)
 unfolding every vertices tabulate layout headerBytes start sectionsBytes sectionBytes cellBytes
     refusal countField offsetField cellOf cellsOf sectionsOf chainCells some verticesDoNotRise cellsDoNotRise faceMissing without same rises precedes listed
-    tableWithin rowWithin coefficientExceeds
+    tableWithin tableLargest rowLargest coefficientExceeds
 limit-examples = tt

@@ -1,4 +1,4 @@
--- The two reductions of a dimension p: document 01, "The reduction".
+-- The two reductions of a dimension p: document 01, "The reduction"; the peak of both, document 02, Note 4.
 use mathlib.Core.Bool.{true, false}
 use Prim.Native.Nat.{ℕ, suc, _-_}
 use lib.ListN.{drop}
@@ -6,7 +6,7 @@ use Rattle.matrices.specs.Matrix.{mul, identity, null}
 use Rattle.complexes.specs.Complex.{Sections, count}
 use Rattle.complexes.specs.Boundary.{countBelow, boundary}
 use Rattle.reduction_steps.specs.Table.{Table, entry, table, tableWithin}
-use Rattle.reduction_steps.specs.State.{Sizes, State}
+use Rattle.reduction_steps.specs.State.{Sizes, State, noted}
 use Rattle.reduction_steps.specs.Pivot.{Rule}
 use Rattle.reduction_steps.specs.Step.{Machine, at, done, wide, reduce}
 
@@ -29,13 +29,14 @@ firstSizes K p =
 
 unfoldable pub firstStart : Sections → ℕ → State
 firstStart K p =
-    record {
+    noted (record {
       matrix = table (countBelow K p) (count K p) (boundary K p);
       rowFollower = absent (countBelow K p);
       rowInverse = absent (countBelow K p);
       columnFollower = table (count K p) (count K p) identity;
       columnInverse = table (count K p) (count K p) identity;
-    }
+      peak = 0;
+    })
 
 -- ---- the second: with rank r, Q is the rows of the inverse from r on and G the columns of V from r on; the matrix is Q times that of p + 1
 
@@ -56,13 +57,14 @@ product K p r s = table (count K p - r) (count K (suc p)) (mul (count K p) (entr
 
 unfoldable pub secondStart : Sections → ℕ → ℕ → State → State
 secondStart K p r s =
-    record {
+    noted (record {
       matrix = product K p r s;
       rowFollower = drop r (s .columnInverse);
       rowInverse = drop r (s .columnFollower);
       columnFollower = absent (count K (suc p));
       columnInverse = absent (count K (suc p));
-    }
+      peak = s .peak;
+    })
 
 -- What the two come to: too wide, or the number of rows of Q, the rank of the second reduction and what it leaves.
 pub data Reductions : Type 0 where

@@ -1,11 +1,11 @@
--- What the two reductions of a dimension come to, step by step: reductions-done, reductions-wide-first, reductions-wide-product,
--- reductions-second.
+-- What the two reductions of a dimension come to, step by step: first-wide, product-wide, after-second, second-wide, reductions-done. The peak takes in
+-- the entries at either start: first-peak, second-peak.
 use mathlib.Core.Path.{_≡_, refl, sym, _∙_, ap, subst}
 use mathlib.Core.Bool.{Bool, true, false}
-use Prim.Native.Nat.{ℕ, _-_}
+use Prim.Native.Nat.{ℕ, _-_, max}
 use Rattle.complexes.specs.Complex.{Sections, count}
 use Rattle.reduction_steps.specs.Table.{tableWithin}
-use Rattle.reduction_steps.specs.State.{State}
+use Rattle.reduction_steps.specs.State.{State, largest}
 use Rattle.reduction_steps.specs.Pivot.{Rule}
 use Rattle.reduction_steps.specs.Step.{Machine, at, done, wide, reduce}
 use Rattle.reports.specs.Reductions.{Reductions, tooWide, reduced, firstSizes, firstStart, secondSizes, secondStart, product, afterSecond, second, afterFirst, reductions}
@@ -17,6 +17,18 @@ tooWide≢reduced e = subst Wide e tt
     Wide : Reductions → Type 0
     Wide tooWide = Unit {0}
     Wide (reduced s r x) = ⊥
+
+-- ---- the peak at either start
+
+pub first-peak : (K : Sections) (p : ℕ) → firstStart K p .peak ≡ max 0 (largest (firstStart K p))
+unfolding firstStart largest
+first-peak K p = refl
+
+pub second-peak : (K : Sections) (p r : ℕ) (s : State) → secondStart K p r s .peak ≡ max (s .peak) (largest (secondStart K p r s))
+unfolding secondStart largest
+second-peak K p r s = refl
+
+-- ---- what they come to
 
 module _ (rule : Rule) (limit : ℕ) (K : Sections) (p : ℕ) where
   -- both reductions are done: s rows of Q, the second of rank r leaves x

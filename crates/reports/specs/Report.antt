@@ -1,7 +1,7 @@
--- The report and the coordinates that the two reductions give: document 01, "The report and the coordinates".
+-- The report and the coordinates that the two reductions give: document 01, "The report and the coordinates"; document 02, Note 4.
 use mathlib.Core.Bool.{cond}
 use mathlib.Core.List.{List, [], _∷_, _++_, map}
-use Prim.Native.Nat.{ℕ, zero, suc, _-_}
+use Prim.Native.Nat.{ℕ, zero, suc, _-_, _/_}
 use lib.Dec.{eqb}
 use lib.ListN.{length, getD}
 use lib.IntN.{ℤ, pos, natAbs}
@@ -36,13 +36,25 @@ freeRank s r = s - r
 unfoldable pub torsionCount : ℕ → State → ℕ
 torsionCount r x = length (reported (kind x) r)
 
--- the report's counts
+-- how often n can be halved, rounded down, until it is 0, of at most `most` times
+unfoldable pub halvings : ℕ → ℕ → ℕ
+halvings zero n = 0
+halvings (suc most) zero = 0
+halvings (suc most) (suc n) = suc (halvings most (suc n / 2))
+
+-- the number of bits that n needs, 0 for 0: each halving takes one bit away, and n halvings are enough
+unfoldable pub bitsOf : ℕ → ℕ
+bitsOf n = halvings n n
+
+-- the report's counts, the largest absolute value that an entry of the two reductions has had, and the number of bits that it needs
 pub record Counts : Type 0 where
   pub free : ℕ
   pub torsion : ℕ
+  pub peak : ℕ
+  pub bits : ℕ
 
 abbrev pub countsOf : ℕ → ℕ → State → Counts
-countsOf s r x = record { free = freeRank s r; torsion = torsionCount r x }
+countsOf s r x = record { free = freeRank s r; torsion = torsionCount r x; peak = x .peak; bits = bitsOf (x .peak) }
 
 -- b, t, the t orders in rising place, then the columns of G for the orders and after them the free ones
 unfoldable pub reportList : ℕ → ℕ → ℕ → State → List ℤ

@@ -1,6 +1,6 @@
--- What is made of two reductions with orders: the report, the coordinates, the text. The kinds are 1, 2, 6 and free.
+-- What is made of two reductions with orders: the counts, the report, the coordinates, the text. The kinds are 1, 2, 6 and free.
 --     report-examples    the numbers and the bytes, in document 01's order
-use mathlib.Core.List.{[], _∷_}
+use mathlib.Core.List.{[], _∷_, map}
 use mathlib.Core.Path.{_≡_, refl}
 use Prim.Native.Nat.{ℕ}
 use lib.IntN.{ℤ, pos, negℤ}
@@ -10,13 +10,13 @@ use Rattle.matrices.specs.Sum.{sum}
 use Rattle.matrices.specs.Vector.{apply}
 use Rattle.reduction_steps.specs.State.{State}
 use Rattle.reports.specs.Reductions.{tooWide, reduced}
-use Rattle.reports.specs.Report.{reported, columnsOf, torsionCount, reportList, coordinateAt, coordinateList}
+use Rattle.reports.specs.Report.{reported, columnsOf, torsionCount, halvings, bitsOf, countsOf, reportList, coordinateAt, coordinateList}
 use Rattle.reports.specs.Text.{digits, decimal, spaced, generatorLines, dimensionText}
 
 abbrev minus : ℕ → ℤ
 minus n = negℤ (pos n)
 
--- four rows of Q, three pivots; column 1 of G is (-12, 1, 0, 0)
+-- four rows of Q, three pivots; column 1 of G is (-12, 1, 0, 0); an entry has been 40 or -40
 abbrev pub left : State
 left =
     record {
@@ -40,9 +40,14 @@ left =
           ∷ [];
       columnFollower = [] ∷ [] ∷ [] ∷ [];
       columnInverse = [] ∷ [] ∷ [] ∷ [];
+      peak = 40;
     }
 
 pub record ReportExamples : Type 0 where
+  -- the numbers of bits: 1048575 is the entry limit, 2 to the power 20 less 1
+  pub bits : map bitsOf (0 ∷ 1 ∷ 2 ∷ 3 ∷ 4 ∷ 40 ∷ 63 ∷ 64 ∷ 1048575 ∷ 1048576 ∷ []) ≡ 0 ∷ 1 ∷ 2 ∷ 2 ∷ 3 ∷ 6 ∷ 6 ∷ 7 ∷ 20 ∷ 21 ∷ []
+  -- b, t, the peak and its bits
+  pub counts : countsOf 4 3 left ≡ record { free = 1; torsion = 2; peak = 40; bits = 6 }
   -- b, t, the orders, then the columns of G for the orders and the free one
   pub report : reportList 4 4 3 left
       ≡ pos 1 ∷ pos 2
@@ -66,6 +71,6 @@ pub record ReportExamples : Type 0 where
   pub wide : dimensionText 1 4 tooWide ≡ 82 ∷ 32 ∷ 49 ∷ 51 ∷ 10 ∷ []
 
 pub report-examples : ReportExamples
-unfolding reportList coordinateList coordinateAt torsionCount columnsOf reported dimensionText generatorLines spaced decimal digits
+unfolding reportList coordinateList coordinateAt torsionCount bitsOf halvings columnsOf reported dimensionText generatorLines spaced decimal digits
     apply sum floor modulo tabulate
-report-examples = record { report = refl; coordinates = refl; multiples = refl; text = refl; wide = refl }
+report-examples = record { bits = refl; counts = refl; report = refl; coordinates = refl; multiples = refl; text = refl; wide = refl }

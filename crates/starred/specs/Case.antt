@@ -53,9 +53,9 @@ good-eq c t = sameCalled-eq (outcome (c .call)) (c .expected) t
 abbrev pub minus : ℕ → ℤ
 minus n = negℤ (pos n)
 
--- b and t
-abbrev pub counts : ℕ → ℕ → Counts
-counts b t = record { free = b; torsion = t }
+-- b, t, the peak and its bits
+abbrev pub counts : ℕ → ℕ → ℕ → ℕ → Counts
+counts b t peak bits = record { free = b; torsion = t; peak = peak; bits = bits }
 
 -- n slots as they are lent: a slot that is left untouched shows
 abbrev pub nines : ℕ → List ℤ

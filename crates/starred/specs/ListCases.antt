@@ -23,27 +23,27 @@ listCases =
     -- two chains: their lists stand three slots apart, and the slots between and past them are untouched
     record {
       call = record { sheet = hollowTriangle; dimension = 1; request = listsOf 2 (backwards ++ twice); output = nines 8; work = nines 27 };
-      expected = record { answer = done (counts 1 0); output = minus 1 ∷ pos 9 ∷ pos 9 ∷ pos 2 ∷ nines 4; work = zeros 27 };
+      expected = record { answer = done (counts 1 0 1 1); output = minus 1 ∷ pos 9 ∷ pos 9 ∷ pos 2 ∷ nines 4; work = zeros 27 };
     }
     -- two vertices to a chain
     ∷ record {
       call = record { sheet = edgeSheet; dimension = 0; request = listsOf 3 (pos 4 ∷ pos 3 ∷ pos 0 ∷ pos 0 ∷ minus 1 ∷ pos 0 ∷ []); output = nines 6; work = nines 10 };
-      expected = record { answer = done (counts 1 0); output = pos 7 ∷ pos 9 ∷ pos 0 ∷ pos 9 ∷ minus 1 ∷ pos 9 ∷ []; work = zeros 10 };
+      expected = record { answer = done (counts 1 0 1 1); output = pos 7 ∷ pos 9 ∷ pos 0 ∷ pos 9 ∷ minus 1 ∷ pos 9 ∷ []; work = zeros 10 };
     }
     -- the filled triangle: two empty lists
     ∷ record {
       call = record { sheet = filledTriangle; dimension = 1; request = listsOf 2 (backwards ++ twice); output = nines 6; work = nines 27 };
-      expected = record { answer = done (counts 0 0); output = nines 6; work = zeros 27 };
+      expected = record { answer = done (counts 0 0 1 1); output = nines 6; work = zeros 27 };
     }
     -- no chains: done, with the counts
     ∷ record {
       call = record { sheet = hollowTriangle; dimension = 1; request = listsOf 0 []; output = nines 2; work = nines 27 };
-      expected = record { answer = done (counts 1 0); output = nines 2; work = zeros 27 };
+      expected = record { answer = done (counts 1 0 1 1); output = nines 2; work = zeros 27 };
     }
     -- no cells: any number of chains, with no coefficients
     ∷ record {
       call = record { sheet = hollowTriangle; dimension = 2; request = listsOf 9 []; output = nines 2; work = nines 3 };
-      expected = record { answer = done (counts 0 0); output = nines 2; work = zeros 3 };
+      expected = record { answer = done (counts 0 0 0 0); output = nines 2; work = zeros 3 };
     }
     ∷ refuses 10 (record { sheet = hollowTriangle; dimension = 2; request = listsOf 9 (pos 1 ∷ []); output = nines 2; work = nines 3 })
     -- no chains, and still 7 to 10

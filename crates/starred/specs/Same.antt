@@ -14,7 +14,7 @@ unfoldable pub sameSlice : List ℤ → List ℤ → Bool
 sameSlice = sameList sameNumber
 
 unfoldable pub sameCounts : Counts → Counts → Bool
-sameCounts x y = eqb (x .free) (y .free) && eqb (x .torsion) (y .torsion)
+sameCounts x y = eqb (x .free) (y .free) && (eqb (x .torsion) (y .torsion) && (eqb (x .peak) (y .peak) && eqb (x .bits) (y .bits)))
 
 unfoldable pub sameAnswer : Answer → Answer → Bool
 sameAnswer (done x) (done y) = sameCounts x y
@@ -34,8 +34,15 @@ sameSlice-eq xs ys t = sameList-eq sameNumber sameNumber-eq xs ys t
 sameCounts-eq : (x y : Counts) → T (sameCounts x y) → x ≡ y
 unfolding sameCounts
 sameCounts-eq x y h =
-    let (free, torsion) = both (eqb (x .free) (y .free)) _ h in
-    λ i. record { free = eqb→eq (x .free) (y .free) free i; torsion = eqb→eq (x .torsion) (y .torsion) torsion i }
+    let (free, h₁) = both (eqb (x .free) (y .free)) _ h in
+    let (torsion, h₂) = both (eqb (x .torsion) (y .torsion)) _ h₁ in
+    let (peak, bits) = both (eqb (x .peak) (y .peak)) _ h₂ in
+    λ i. record {
+      free = eqb→eq (x .free) (y .free) free i;
+      torsion = eqb→eq (x .torsion) (y .torsion) torsion i;
+      peak = eqb→eq (x .peak) (y .peak) peak i;
+      bits = eqb→eq (x .bits) (y .bits) bits i;
+    }
 
 sameAnswer-eq : (x y : Answer) → T (sameAnswer x y) → x ≡ y
 unfolding sameAnswer

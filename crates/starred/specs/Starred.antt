@@ -18,12 +18,12 @@ use Rattle.limits.specs.Limits.{libraryLimit}
 use Rattle.sheet_format.specs.Starred.{hollowTriangle}
 use Rattle.sheet_format.specs.Check.{countField, offsetField, cellOf, cellsOf, sectionsOf, chainCells, some, verticesDoNotRise, cellsDoNotRise, faceMissing, refusal}
 use Rattle.lists.specs.Same.{every, sameNumber, sameList}
-use Rattle.reduction_steps.specs.Table.{table, rowWithin, tableWithin}
-use Rattle.reduction_steps.specs.State.{follow, rowOperation, columnOperation, within, checked, andThen, onRow, onColumn}
+use Rattle.reduction_steps.specs.Table.{table, rowLargest, tableLargest, tableWithin}
+use Rattle.reduction_steps.specs.State.{largest, follow, rowOperation, columnOperation, within, checked, andThen, onRow, onColumn}
 use Rattle.reduction_steps.specs.Pivot.{better, alongRow, downRows, release1}
 use Rattle.reduction_steps.specs.Step.{columnKeeps, rowKeeps, rowIndivisible, firstIndivisible, positive, bring, quotient, rowPass, columnPass, next, step, run, reduce}
 use Rattle.reports.specs.Reductions.{firstStart, product, secondStart, afterSecond, second, afterFirst, reductions}
-use Rattle.reports.specs.Report.{reported, columnsOf, torsionCount, reportList, coordinateAt, coordinateList}
+use Rattle.reports.specs.Report.{reported, columnsOf, torsionCount, halvings, bitsOf, reportList, coordinateAt, coordinateList}
 use Rattle.reports.specs.Call.{done, coefficientExceeds, boundaryNotZero, callChecks, chainChecks, finished, reductionsOf, reportCall, coordinateCall}
 use Rattle.reports.specs.Lists.{cyclesChecks, chainsChecks, coordinateListsCall}
 use Rattle.reports.specs.ListsLaws.{no-cells}
@@ -43,17 +43,17 @@ unfolding every good sameCalled sameAnswer sameCounts sameSlice sameList sameNum
     refusal countField offsetField cellOf cellsOf sectionsOf chainCells some verticesDoNotRise cellsDoNotRise faceMissing without same rises precedes listed start
     reductions firstStart afterFirst second product secondStart afterSecond countBelow boundary coefficient sign
     reduce run step next bring positive quotient rowPass columnPass columnKeeps rowKeeps rowIndivisible firstIndivisible
-    release1 downRows alongRow better onRow onColumn checked andThen within rowOperation columnOperation follow tableWithin rowWithin table
+    release1 downRows alongRow better onRow onColumn checked andThen within largest rowOperation columnOperation follow tableWithin tableLargest rowLargest table
     onRows onColumns inverse identity null mul apply sum floor modulo divides tabulate
-    reportList coordinateList coordinateAt torsionCount columnsOf reported
+    reportList coordinateList coordinateAt torsionCount bitsOf halvings columnsOf reported
     coordinateListsCall chainsChecks cyclesChecks splices splice
 starred-sheets-and-calls = tt
 
 pub largest-number : coordinateListsCall libraryLimit hollowTriangle 2 18446744073709551615 [] (nines 2) (nines 3)
-    ≡ record { answer = done (counts 0 0); output = nines 2; work = zeros 3 }
+    ≡ record { answer = done (counts 0 0 0 0); output = nines 2; work = zeros 3 }
 unfolding coordinateListsCall callChecks chainsChecks cyclesChecks splices reductionsOf finished
     refusal countField offsetField cellOf cellsOf sectionsOf chainCells some verticesDoNotRise cellsDoNotRise faceMissing without same rises precedes listed start
     reductions firstStart afterFirst second product secondStart afterSecond countBelow boundary coefficient sign
     reduce run step next columnKeeps rowKeeps rowIndivisible firstIndivisible
-    release1 downRows alongRow better within tableWithin rowWithin table identity mul sum tabulate torsionCount reported
+    release1 downRows alongRow better within largest tableWithin tableLargest rowLargest table identity mul sum tabulate torsionCount bitsOf halvings reported
 largest-number = no-cells hollowTriangle 2 refl libraryLimit 18446744073709551615 [] (nines 2) (nines 3)

@@ -1,6 +1,7 @@
--- x - q * y, where x and y are entries and q is the number that a word holds, as the machine computes it: `product-fits`, `less-fits`, `read-less`.
+-- x - q * y, where x and y are entries and q is the number that a word holds, as the machine computes it: `product-fits`, `less-fits`, `read-less`,
+-- `less-small`.
 use mathlib.Core.Path.{_≡_, _∙_}
-use Prim.Native.Nat.{_*_, _≤_}
+use Prim.Native.Nat.{_*_, _^_, _<_, _≤_}
 use native.Mathlib.Nat as NatL
 use native.Mathlib.Omega.{arith}
 use lib.IntN.{ℤ, natAbs, _-ℤ_, _*ℤ_}
@@ -30,8 +31,14 @@ module _ (x q y : ℤ) (x-small : natAbs x ≤ entryLimit) (q-small : natAbs q �
   less-is : less x q y ≡ x -ℤ q *ℤ y
   less-is = rw (cast-is x (entry-fits x x-small), toZ-ofZ product-fits, product-is)
 
+  small-difference : natAbs (x -ℤ q *ℤ y) < 2 ^ 63
+  small-difference = omega (arith, small-product, natAbs-sub x (q *ℤ y))
+
   pub less-fits : SFits w64 (less x q y)
-  less-fits = rw less-is (sfits-below w64 (x -ℤ q *ℤ y) (omega (arith, small-product, natAbs-sub x (q *ℤ y))))
+  less-fits = rw less-is (sfits-below w64 (x -ℤ q *ℤ y) small-difference)
 
   pub read-less : read w64 (less x q y) ≡ x -ℤ q *ℤ y
   read-less = toZ-ofZ less-fits ∙ less-is
+
+  pub less-small : natAbs (read w64 (less x q y)) < 2 ^ 63
+  less-small = rw read-less small-difference

@@ -8,7 +8,9 @@ use lib.Signed.{_≤ℤ_}
 use Rattle.lists.specs.Tabulate.{tabulate}
 use Rattle.lists.specs.Splice.{splice}
 use Rattle.reduction_steps.specs.Table.{entry}
-use Rattle.reports.specs.Report.{freeRank, torsionCount, reportList, coordinateList}
+use Rattle.reduction_steps.specs.State.{State}
+use Rattle.reports.specs.Report as report
+use Rattle.reports.specs.Report.{countsOf, reportList, coordinateList}
 use Rattle.reports.specs.Call.{written}
 use Rattle.reports.specs.Lists.{chainAt}
 use Rattle.limits.specs.Limits.{libraryLimit, coefficientLimit}
@@ -36,6 +38,24 @@ pub record WrittenFrom (from : ℕ) (numbers slice : List ℤ) (r : ℕ) (slice�
 pub record CopiedLine (M : Matrix) (w : List ℤ) (i from : ℕ) (slice slice′ : List ℤ) : Type 0 where
   pub is : slice′ ≡ splice from (tabulate (M .width) (contents M w i)) slice
 
+-- the state that the two reductions leave
+abbrev pub stateIn : Reduced → List ℤ → State
+stateIn x w = stateOf (x .layout) (x .peak) w
+
+-- what the counts are read from
+pub record CanCount (x : Reduced) (w : List ℤ) : Type 0 where
+  pub laid : Laid (length w) (x .layout)
+  pub kinds : Kinds (x .layout .matrix) w
+  pub rank-below : x .rank ≤ x .layout .matrix .lines
+
+-- counts as those of the report's definition
+abbrev pub countsIn : Counts → report.Counts
+countsIn r = record { free = r .free; torsion = r .torsion; peak = r .peak; bits = r .bits }
+
+-- r are the report's counts
+abbrev pub Counted : Reduced → List ℤ → Counts → Type 0
+Counted x w r = countsIn r ≡ countsOf (x .layout .matrix .lines) (x .rank) (stateIn x w)
+
 -- what the report is written from: no kind is negative, Q has no more rows than there are cells, and there is room for the report
 pub record CanReport (x : Reduced) (w : List ℤ) (m : ℕ) : Type 0 where
   pub laid : Laid (length w) (x .layout)
@@ -45,19 +65,8 @@ pub record CanReport (x : Reduced) (w : List ℤ) (m : ℕ) : Type 0 where
   pub room : 2 + x .rank + x .layout .matrix .lines * x .layout .«row_inverse» .width ≤ m
 
 pub record WroteReport (x : Reduced) (w slice : List ℤ) (r : Counts) (slice′ : List ℤ) : Type 0 where
-  pub free : r .free ≡ freeRank (x .layout .matrix .lines) (x .rank)
-  pub torsion : r .torsion ≡ torsionCount (x .rank) (stateOf (x .layout) w)
-  pub is : slice′ ≡ written (reportList (x .layout .«row_inverse» .width) (x .layout .matrix .lines) (x .rank) (stateOf (x .layout) w)) slice
-
--- what the counts are read from
-pub record CanCount (x : Reduced) (w : List ℤ) : Type 0 where
-  pub laid : Laid (length w) (x .layout)
-  pub kinds : Kinds (x .layout .matrix) w
-  pub rank-below : x .rank ≤ x .layout .matrix .lines
-
-pub record Counted (x : Reduced) (w : List ℤ) (r : Counts) : Type 0 where
-  pub free : r .free ≡ freeRank (x .layout .matrix .lines) (x .rank)
-  pub torsion : r .torsion ≡ torsionCount (x .rank) (stateOf (x .layout) w)
+  pub counts : Counted x w r
+  pub is : slice′ ≡ written (reportList (x .layout .«row_inverse» .width) (x .layout .matrix .lines) (x .rank) (stateIn x w)) slice
 
 -- what the coordinates are written from: no kind is negative, there is room for them from slot `from` on, and the chain is one of the dimension
 pub record CanCoordinate (x : Reduced) (w z : List ℤ) (from m : ℕ) : Type 0 where
@@ -71,7 +80,7 @@ pub record CanCoordinate (x : Reduced) (w z : List ℤ) (from m : ℕ) : Type 0 
 
 -- the coordinates of the chain z
 abbrev pub coordinatesOf : Reduced → List ℤ → List ℤ → List ℤ
-coordinatesOf x w z = coordinateList (x .layout .«row_follower» .width) (x .layout .matrix .lines) (stateOf (x .layout) w) z
+coordinatesOf x w z = coordinateList (x .layout .«row_follower» .width) (x .layout .matrix .lines) (stateIn x w) z
 
 -- what the coordinates of many chains are written from
 pub record CanList (x : Reduced) (w : List ℤ) (cells number : ℕ) (chains : List ℤ) (m : ℕ) : Type 0 where

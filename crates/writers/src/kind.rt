@@ -5,6 +5,7 @@ ghost use lib.ListN.{length};
 ghost use Rattle.lines.specs.Matrices.{Held};
 ghost use Rattle.reports.specs.Report.{reported};
 ghost use Rattle.writers.specs.Written.{kindIn, Kinds, CanCount, Counted};
+use crate::headroom::bits;
 use crate::reduced::Counts;
 use crate::reduced::Reduced;
 use lines::matrix::Matrix;
@@ -40,8 +41,11 @@ pub fn counts(reduced: Reduced, w: &[i32]) -> Counts
 {
     let m = reduced.layout.matrix;
     let rank = reduced.rank;
+    let peak = reduced.peak;
     Counts {
         free: m.lines - rank,
         torsion: reported_count(m, w, rank),
+        peak,
+        bits: bits(peak),
     }
 }

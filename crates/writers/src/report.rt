@@ -7,8 +7,8 @@ ghost use Rattle.lines.specs.Matrices.{Held};
 ghost use Rattle.reports.specs.Report.{reported, columnsOf};
 ghost use Rattle.operations.specs.Laid.{linesOf};
 ghost use Rattle.writers.specs.Written.{kindIn, Kinds, WrittenFrom, CopiedLine, CanReport, WroteReport};
+use crate::kind::counts;
 use crate::kind::kind;
-use crate::kind::reported_count;
 use crate::reduced::Counts;
 use crate::reduced::Reduced;
 use lines::matrix::Matrix;
@@ -82,11 +82,10 @@ pub fn write_report(reduced: Reduced, w: &[i32], report: &mut [i64]) -> Counts
     let m = reduced.layout.matrix;
     let g = reduced.layout.row_inverse;
     let rank = reduced.rank;
-    let torsion = reported_count(m, w, rank);
-    let free = m.lines - rank;
-    report[0] = free as i64;
-    report[1] = torsion as i64;
+    let counted = counts(reduced, w);
+    report[0] = counted.free as i64;
+    report[1] = counted.torsion as i64;
     let next = write_orders(m, w, rank, report, 2);
     write_generators(m, g, w, report, next);
-    Counts { free, torsion }
+    counted
 }

@@ -7,6 +7,7 @@ use lib.ListN.{length, replicate}
 use lib.IntN.{ℤ, pos, natAbs}
 use borrow.Author.Needs.{needs}
 use Rattle.lines.specs.Slice.{entryLimit, at, Small}
+use Rattle.lines.proofs.Peaks.{small-under}
 use Rattle.operations.specs.Laid.{Laid}
 use Rattle.reduction_cases.specs.Layout.{slots}
 use Rattle.reduction_cases.proofs.answer.Statement.{statement}
@@ -30,11 +31,11 @@ reduce-matrix-requires c κs =
     let laid = read .before .before .lay-out in
     let size : length (written .write-identities .last .1 .0) ≡ slots =
     omega (arith, written .write-identities .kept .1 .0, read .read-entries .kept .1 .0) in
-    (subst (λ (n : ℕ). Laid n (laid .result)) (sym size) (laid .ensures .laid), written .write-identities .ensures)
+    (subst (λ (n : ℕ). Laid n (laid .result)) (sym size) (laid .ensures .laid), small-under (written .write-identities .ensures))
 
 pub answer-spec : {M : Type 1} → statement M
 answer-spec =
     tie.close
     (tie.spec (λ c κs. search needs) (λ c κs. search needs) (λ c. search needs) read-entries-requires (λ c. search needs) (λ c. search needs)
-    (λ c κs. search needs) (λ c. search needs) reduce-matrix-requires (λ c. search needs) (λ c. search needs) (λ c κs. search needs)
+    (λ c κs. search needs) (λ c. search needs) (λ c. search needs) reduce-matrix-requires (λ c. search needs) (λ c. search needs) (λ c κs. search needs)
     (λ c. search needs) (λ c. search needs) (λ c κs. search needs) (λ c. search needs) (λ c. search needs))

@@ -8,14 +8,15 @@ use Rattle.matrices.specs.Matrix as theory
 use Rattle.complexes.specs.Boundary.{boundary}
 use Rattle.sheet_format.specs.Layout.{top}
 use Rattle.sheet_format.specs.Check.{chainCells}
-use Rattle.lines.specs.Matrices.{contents, Holds}
+use Rattle.lines.specs.Matrices.{contents}
+use Rattle.boundaries.specs.Filled.{MatrixFilled}
 use Rattle.boundaries.proofs.Columns.{leftOf, columns-none, columns-next, columns-more, columns-all}
 use Rattle.boundaries.proofs.fill.fill_boundary.Statement.{statement}
 use Rattle.boundaries.proofs.fill.fill_boundary.Tie as tie
 
 abbrev Inv-loop : tie.InvT-loop
 Inv-loop s p m w₀ places₀ j₀ columns w places j =
-    (j ≤ m .width) × Holds m w₀ (leftOf j (boundary (chainCells s) (suc p)) (contents m w₀)) w × (length places ≡ suc top)
+    (j ≤ m .width) × MatrixFilled m w₀ (leftOf j (boundary (chainCells s) (suc p)) (contents m w₀)) w × (length places ≡ suc top)
 
 abbrev μ-loop : tie.MeasureT-loop
 μ-loop s p m w₀ places₀ j₀ columns w places j = m .width - j
@@ -23,7 +24,7 @@ abbrev μ-loop : tie.MeasureT-loop
 loop-holds : tie.Need-loop-holds Inv-loop μ-loop
 loop-holds c =
     let args = c .before .args in
-    (omega arith, columns-none (args .m) (args .w .now) (boundary (chainCells (args .s .now)) (suc (args .p))) (c .before .pre .1 .1 .1), refl)
+    (omega arith, columns-none (args .m) (args .w .now) (boundary (chainCells (args .s .now)) (suc (args .p))), refl)
 
 -- the boundary matrix, and what the slice held at first
 abbrev whole : tie.Start Inv-loop μ-loop → theory.Matrix
@@ -39,8 +40,8 @@ fill-column-requires c κs =
       (
         (start .pre .1 .0 .0, start .pre .1 .0 .1, below),
         (
-          (record { ends = omega (arith, start .pre .1 .1 .0 .ends, head .inv .1 .same-length) }, head .inv .1 .small),
-          λ i l. columns-next (whole start) (old start) (head .j) (head .inv .1) i l below ∙ start .pre .1 .1 .2 .at i (head .j) l below,
+          record { ends = omega (arith, start .pre .1 .1 .0 .ends, head .inv .1 .same-length) },
+          λ i l. columns-next (whole start) (old start) (head .j) (head .inv .1) i l below ∙ start .pre .1 .1 .1 .at i (head .j) l below,
         ),
       ),
     )

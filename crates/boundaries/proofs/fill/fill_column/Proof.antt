@@ -11,15 +11,14 @@ use Rattle.integers.specs.Ring.{zero-add}
 use Rattle.matrices.specs.Matrix.{null}
 use Rattle.complexes.specs.Complex.{count, cell, Complex}
 use Rattle.complexes.specs.Boundary.{sign, boundary}
-use Rattle.complexes.specs.CoefficientLaws.{natAbs-sign}
 use Rattle.sheet_format.specs.Layout.{top}
 use Rattle.sheet_format.specs.Check.{sectionsOf, chainCells}
 use Rattle.limits.specs.Limits.{libraryLimit}
-use Rattle.lines.specs.Slice.{lineAt, Small}
+use Rattle.lines.specs.Slice.{lineAt}
 use Rattle.lines.specs.Matrices.{Held, contents}
 use Rattle.lines.specs.declared.matrix.Matrix.{Matrix}
 use Rattle.faces.specs.Face.{IsFace}
-use Rattle.boundaries.specs.Column.{ColumnFilled}
+use Rattle.boundaries.specs.Filled.{ColumnFilled}
 use Rattle.faces.proofs.Sheet.{complex}
 use Rattle.faces.proofs.Column.{entry, part-none, part-face, part-other, part-fresh, part-all}
 use Rattle.boundaries.proofs.Store.{Place, place-inside, entry-set, column-set}
@@ -35,7 +34,6 @@ record Given (b : List ℕ) (p : ℕ) (M : Matrix) (w₀ : List ℤ) (j : ℕ) :
   columns : M .width ≡ count (sectionsOf b) (suc p)
   below : j < M .width
   held : Held (length w₀) M
-  small : Small w₀
   zero : (i : ℕ) → i < M .lines → contents M w₀ i j ≡ null i j
 
 record Invariant (b : List ℕ) (p : ℕ) (M : Matrix) (w₀ : List ℤ) (j : ℕ) (w : List ℤ) (t : ℕ) : Type 0 where
@@ -55,7 +53,6 @@ module _ {b : List ℕ} {p : ℕ} {M : Matrix} {w₀ : List ℤ} {j : ℕ} (give
       on = λ i l. given .zero i l ∙ sym (part-none (cell (sectionsOf b) (suc p) j) (cell (sectionsOf b) p i));
       beside = λ i k l m d. refl;
       off = λ i o. refl;
-      small = given .small;
     };
   }
 
@@ -67,7 +64,7 @@ module _ {b : List ℕ} {p : ℕ} {M : Matrix} {w₀ : List ℤ} {j : ℕ} (give
     more : t < p + 2 → {r place : ℕ} → IsFace b p j t r → Place M (length w₀) r j place → Invariant b p M w₀ j (set w place (sign t)) (t + 1)
     more l {r} {place} face e = record {
       within = omega arith;
-      so-far = column-set (entry-set e w (sign t) (inv .so-far .same-length) (inv .so-far .small) (omega (arith, natAbs-sign t)))
+      so-far = column-set (entry-set e w (sign t) (inv .so-far .same-length))
           (λ i k. entry b p k (t + 1) i) on (inv .so-far) (λ a k d. part-other b (given .sheet) p j cell-below t r face a (omega (arith, given .lines)) d)
           (given .below);
     }
@@ -84,7 +81,6 @@ module _ {b : List ℕ} {p : ℕ} {M : Matrix} {w₀ : List ℤ} {j : ℕ} (give
       on = λ i l. inv .so-far .on i l ∙ ap (λ (n : ℕ). entry b p j n i) all ∙ sym (part-all b (given .sheet) p j cell-below i);
       beside = inv .so-far .beside;
       off = inv .so-far .off;
-      small = inv .so-far .small;
     }
       where
         all : t ≡ suc (suc p)
@@ -107,8 +103,7 @@ given c =
       lines = pre .1 .0 .0;
       columns = pre .1 .0 .1;
       below = pre .1 .0 .2;
-      held = pre .1 .1 .0 .0;
-      small = pre .1 .1 .0 .1;
+      held = pre .1 .1 .0;
       zero = pre .1 .1 .1;
     }
 

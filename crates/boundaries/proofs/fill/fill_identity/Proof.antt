@@ -10,27 +10,26 @@ use lib.ListN.{length, set}
 use lib.IntN.{ℤ, pos}
 use Rattle.matrices.specs.Matrix.{Eq, identity, null}
 use Rattle.matrices.specs.Product.{identity-at, identity-other}
-use Rattle.lines.specs.Slice.{Small}
-use Rattle.lines.specs.Matrices.{contents, Holds}
+use Rattle.lines.specs.Matrices.{contents}
 use Rattle.lines.specs.declared.matrix.Matrix.{Matrix}
 use Rattle.lines.proofs.Operations.{upTo, upTo-below, upTo-from}
-use Rattle.boundaries.proofs.Store.{Place, place-inside, entry-set, holds-set}
+use Rattle.boundaries.specs.Filled.{MatrixFilled}
+use Rattle.boundaries.proofs.Store.{Place, place-inside, entry-set, matrix-set}
 use Rattle.boundaries.proofs.fill.fill_identity.Statement.{statement}
 use Rattle.boundaries.proofs.fill.fill_identity.Tie as tie
 
 -- the lines below i are those of the identity
 record Invariant (M : Matrix) (w₀ : List ℤ) (w : List ℤ) (i : ℕ) : Type 0 where
   below : i ≤ M .lines
-  so-far : Holds M w₀ (upTo i identity (contents M w₀)) w
+  so-far : MatrixFilled M w₀ (upTo i identity (contents M w₀)) w
 
-begun : (M : Matrix) (w₀ : List ℤ) → Small w₀ → Invariant M w₀ w₀ 0
-begun M w₀ s = record {
+begun : (M : Matrix) (w₀ : List ℤ) → Invariant M w₀ w₀ 0
+begun M w₀ = record {
   below = omega arith;
   so-far = record {
     same-length = refl;
     on = record { at = λ a b k l. sym (upTo-from 0 identity (contents M w₀) a b (omega arith)) };
     off = λ k o. refl;
-    small = s;
   };
 }
 
@@ -39,7 +38,7 @@ module _ {M : Matrix} {w₀ w : List ℤ} {i : ℕ} (inv : Invariant M w₀ w i)
   unfolding null
   more zero place e = record {
     below = omega (arith, e .line);
-    so-far = holds-set (entry-set e w (pos 1) (inv .so-far .same-length) (inv .so-far .small) (omega arith)) (upTo (i + 1) identity (contents M w₀))
+    so-far = matrix-set (entry-set e w (pos 1) (inv .so-far .same-length)) (upTo (i + 1) identity (contents M w₀))
         (upTo-below (i + 1) identity (contents M w₀) i i (omega arith) ∙ identity-at i)
         (inv .so-far)
         (λ a b k l o. pick a b k l o (ℕ-discrete a i) (decLt a i));
@@ -57,12 +56,11 @@ module _ {M : Matrix} {w₀ w : List ℤ} {i : ℕ} (inv : Invariant M w₀ w i)
           ∙ identity-other a b (λ h. d (omega arith))
           ∙ sym (upTo-from i identity (contents M w₀) a b (omega arith) ∙ zero .at a b k l)
 
-  ended : M .lines ≤ i → Holds M w₀ identity w
+  ended : M .lines ≤ i → MatrixFilled M w₀ identity w
   ended done = record {
     same-length = inv .so-far .same-length;
     on = record { at = λ a b k l. inv .so-far .on .at a b k l ∙ upTo-below i identity (contents M w₀) a b (omega arith) };
     off = inv .so-far .off;
-    small = inv .so-far .small;
   }
 
 abbrev Inv-loop : tie.InvT-loop
@@ -72,7 +70,7 @@ abbrev μ-loop : tie.MeasureT-loop
 μ-loop m w₀ i₀ lines w i = m .lines - i
 
 loop-holds : tie.Need-loop-holds Inv-loop μ-loop
-loop-holds c = begun (c .args .m) (c .args .w .now) (c .pre .1)
+loop-holds c = begun (c .args .m) (c .args .w .now)
 
 entry-place : (c : tie.After-line Inv-loop μ-loop) →
     let args = c .before .before .before .args in
@@ -82,7 +80,7 @@ entry-place c =
     record {
       held = start .pre .0;
       line = c .before .loop-test .taken;
-      column = omega (arith, c .before .loop-test .taken, start .pre .2);
+      column = omega (arith, c .before .loop-test .taken, start .pre .1);
       is = omega (arith, c .line .ensures);
     }
 
@@ -97,7 +95,7 @@ slice-set-of-w c = omega (arith, place-inside (entry-place c), c .before .before
 
 loop-again : tie.Need-loop-again Inv-loop μ-loop
 loop-again c =
-    more (c .before .before .loop .inv) (c .before .before .before .pre .3) (c .line .result + c .before .before .loop .i) (entry-place c)
+    more (c .before .before .loop .inv) (c .before .before .before .pre .2) (c .line .result + c .before .before .loop .i) (entry-place c)
 
 same-length : tie.Need-same-length Inv-loop μ-loop
 same-length c = c .before .loop .inv .so-far .same-length

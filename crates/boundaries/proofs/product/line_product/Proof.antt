@@ -12,21 +12,15 @@ use lib.IntN.{ℤ, pos, natAbs, _+ℤ_, _*ℤ_}
 use mir.Syntax.{w32, w64}
 use mir.Val.{SFits, toZ}
 use Rattle.sheet_format.specs.Layout.{top}
-use Rattle.integers.specs.Order.{natAbs-mul}
 use Rattle.matrices.specs.Sum.{sum}
 use Rattle.complexes.specs.Boundary.{sign}
-use Rattle.complexes.specs.CoefficientLaws.{natAbs-sign}
 use Rattle.lines.specs.Slice.{entryLimit, at, Small}
 use Rattle.words.specs.Read.{read, read-entry, entry-fits, cast-fits}
 use Rattle.words.specs.Sum.{term-fits, sum-fits, sum-is}
-use Rattle.matrices.specs.SumLaws.{natAbs-sum}
 use Rattle.faces.proofs.Signs.{sign-unit}
+use Rattle.boundaries.proofs.Products.{signed, signed-sum-small}
 use Rattle.boundaries.proofs.product.line_product.Statement.{statement}
 use Rattle.boundaries.proofs.product.line_product.Tie as tie
-
--- term number t
-abbrev signed : List ℤ → ℕ → List ℕ → ℕ → ℤ
-signed w line places t = at w (line + getD places t 0) *ℤ sign t
 
 record Invariant (w : List ℤ) (line : ℕ) (places : List ℕ) (faces t : ℕ) (total : ℤ) : Type 0 where
   so-far : t ≤ faces → total ≡ sum t (signed w line places)
@@ -43,12 +37,8 @@ module _ {w : List ℤ} {line : ℕ} {places : List ℕ} {faces t : ℕ} {total 
   read-small : natAbs (read w32 x) ≤ entryLimit
   read-small = rw (read-entry x x-small) x-small
 
-  signed-small : (k : ℕ) → natAbs (signed w line places k) ≤ entryLimit
-  signed-small k =
-      rw (natAbs-mul (at w (line + getD places k 0)) (sign k), natAbs-sign k) (omega (arith, small .bound (line + getD places k 0)))
-
   total-small : natAbs total ≤ 2 ^ 33
-  total-small = rw (inv .so-far (NatL.le-of-lt more)) (omega (arith, natAbs-sum t (signed w line places) entryLimit (λ k l. signed-small k)))
+  total-small = rw (inv .so-far (NatL.le-of-lt more)) (signed-sum-small w line places t small (NatL.le-trans (NatL.le-of-lt more) few))
 
   cast-word : SFits w64 (read w32 x)
   cast-word = cast-fits x (entry-fits x x-small)

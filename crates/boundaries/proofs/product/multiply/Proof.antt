@@ -1,8 +1,9 @@
--- `product::multiply` meets its contract. The invariant: the columns passed are those of the product. The measure is how many are left.
--- Assumes nothing.
-use mathlib.Core.Path.{_≡_, refl, subst, _∙_}
+-- `product::multiply` meets its contract. The invariant: the columns passed are those of the product, and the peak so far is the largest of their
+-- entries and the one handed over. The measure is how many are left. Assumes nothing.
+use mathlib.Core.Path.{_≡_, refl, sym, subst, _∙_}
 use mathlib.Core.List.{List}
 use Prim.Native.Nat.{ℕ, suc, _+_, _-_, _<_, _≤_}
+use native.Mathlib.Nat as NatL
 use native.Mathlib.Omega.{arith}
 use lib.ListN.{length}
 use lib.IntN.{ℤ, natAbs}
@@ -12,23 +13,51 @@ use Rattle.complexes.specs.Boundary.{boundary}
 use Rattle.sheet_format.specs.Layout.{top}
 use Rattle.sheet_format.specs.Check.{sectionsOf, chainCells}
 use Rattle.sheet_format.specs.SheetLaws.{count-chainCells, countField-below}
-use Rattle.lines.specs.Slice.{entryLimit}
+use Rattle.lines.specs.Slice.{entryLimit, Under}
 use Rattle.lines.specs.Matrices.{contents, end, Holds, Exceeds}
 use Rattle.lines.specs.declared.matrix.Matrix.{Matrix}
+use Rattle.lines.specs.declared.line.Written.{Written}
 use Rattle.lines.specs.declared.line.Effect.{Effect}
 use Rattle.lines.specs.declared.line.Effect.the-variants.{Done, TooWide}
+use Rattle.lines.proofs.Peaks.{written}
 use Rattle.limits.specs.Limits.{libraryLimit}
 use Rattle.faces.specs.Face.{AreFaces}
 use Rattle.faces.proofs.Sheet.{complex}
-use Rattle.boundaries.specs.Column.{atPlaces, ColumnFilled, ColumnExceeds, ColumnBecame}
+use Rattle.boundaries.specs.Filled.{MatrixFilled}
+use Rattle.boundaries.specs.Column.{atPlaces, ColumnHolds, ColumnExceeds, ColumnBecame}
 use Rattle.boundaries.proofs.Columns.{leftOf, columns-none, columns-more, columns-all}
 use Rattle.boundaries.proofs.Products.{product, contents-kept, product-entry}
 use Rattle.boundaries.proofs.product.multiply.Statement.{statement}
 use Rattle.boundaries.proofs.product.multiply.Tie as tie
 
-record Invariant (K : Sections) (p : ℕ) (q M : Matrix) (w₀ : List ℤ) (w : List ℤ) (j : ℕ) : Type 0 where
+record Invariant (K : Sections) (p : ℕ) (q M : Matrix) (w₀ : List ℤ) (peak : ℕ) (w : List ℤ) (largest j : ℕ) : Type 0 where
   below : j ≤ M .width
-  so-far : Holds M w₀ (leftOf j (product K p q w₀) (contents M w₀)) w
+  so-far : MatrixFilled M w₀ (leftOf j (product K p q w₀) (contents M w₀)) w
+  under : Under largest w
+  above : peak ≤ largest
+  least : (L : ℕ) → peak ≤ L → ((a b : ℕ) → a < M .lines → b < j → natAbs (product K p q w₀ a b) ≤ L) → largest ≤ L
+
+begun : (K : Sections) (p : ℕ) (q M : Matrix) (w₀ : List ℤ) (peak : ℕ) → Under peak w₀ → Invariant K p q M w₀ peak w₀ peak 0
+begun K p q M w₀ peak u = record {
+  below = omega arith;
+  so-far = columns-none M w₀ (product K p q w₀);
+  under = u;
+  above = NatL.le-refl peak;
+  least = λ L l a. l;
+}
+
+ended : {K : Sections} {p : ℕ} {q M : Matrix} {w₀ : List ℤ} {peak : ℕ} {w : List ℤ} {largest j : ℕ} → Invariant K p q M w₀ peak w largest j
+    → M .width ≤ j → Holds M w₀ (product K p q w₀) peak (written largest) w
+ended {K} {p} {q} {M} {w₀} {peak} {w} {largest} {j} inv done =
+    let filled = columns-all (product K p q w₀) (contents M w₀) j (inv .so-far) done in
+    record {
+      same-length = filled .same-length;
+      on = filled .on;
+      off = filled .off;
+      under = inv .under;
+      above = inv .above;
+      least = λ L l a. inv .least L l (λ i b k h. a i b k (omega (arith, inv .below)));
+    }
 
 -- the places of the faces of cell j, whose column has sign t at place t
 record Faced (b : List ℕ) (p : ℕ) (q : Matrix) (j : ℕ) (places : List ℕ) : Type 0 where
@@ -37,8 +66,8 @@ record Faced (b : List ℕ) (p : ℕ) (q : Matrix) (j : ℕ) (places : List ℕ)
   below : j < count (sectionsOf b) (suc p)
   faces : AreFaces b p j places
 
-module _ {b : List ℕ} {p : ℕ} {q M : Matrix} {w₀ w : List ℤ} {j : ℕ} (inv : Invariant (chainCells b) p q M w₀ w j) (before : end M ≤ q .at) {places : List ℕ}
-    (faced : Faced b p q j places) where
+module _ {b : List ℕ} {p : ℕ} {q M : Matrix} {w₀ w : List ℤ} {peak largest j : ℕ} (inv : Invariant (chainCells b) p q M w₀ peak w largest j)
+    (before : end M ≤ q .at) {places : List ℕ} (faced : Faced b p q j places) where
   -- line i times the column of cell j is the entry of the product, since q is kept
   entry-is : (i : ℕ) → atPlaces q w places (p + 2) i j ≡ product (chainCells b) p q w₀ i j
   entry-is i =
@@ -47,10 +76,14 @@ module _ {b : List ℕ} {p : ℕ} {q M : Matrix} {w₀ w : List ℤ} {j : ℕ} (
       (λ k l. contents-kept q M w₀ w before (inv .so-far .off) i k) (λ k l. refl)
 
   module _ (l : j < M .width) {w′ : List ℤ} where
-    more : ColumnFilled M w (atPlaces q w places (p + 2)) j w′ → Invariant (chainCells b) p q M w₀ w′ (j + 1)
+    more : {x : Written} → ColumnHolds M w (atPlaces q w places (p + 2)) j largest x w′ → Invariant (chainCells b) p q M w₀ peak w′ (x .peak) (j + 1)
     more f = record {
       below = omega arith;
-      so-far = columns-more (product (chainCells b) p q w₀) (contents M w₀) j (inv .so-far) f (λ i k. entry-is i);
+      so-far = columns-more (product (chainCells b) p q w₀) (contents M w₀) j (inv .so-far) (f .filled) (λ i k. entry-is i);
+      under = f .under;
+      above = NatL.le-trans (inv .above) (f .above);
+      least = λ L h a. f .least L (inv .least L h (λ i b k m. a i b k (omega arith)))
+          (λ i k. subst (λ (z : ℤ). natAbs z ≤ L) (sym (entry-is i)) (a i j k (omega arith)));
     }
 
     too-wide : ColumnExceeds M w (atPlaces q w places (p + 2)) j w′ → Exceeds M w₀ (product (chainCells b) p q w₀) w′
@@ -61,7 +94,6 @@ module _ {b : List ℕ} {p : ℕ} {q M : Matrix} {w₀ w : List ℤ} {j : ℕ} (
       line-below = e .line-below;
       place-below = l;
       beyond = subst (λ (z : ℤ). entryLimit < natAbs z) (entry-is (e .line)) (e .beyond);
-      small = e .small;
     }
 
 -- a section with cells is one of the sheet's
@@ -69,20 +101,15 @@ dimension : (b : List ℕ) (p j : ℕ) → j < count (chainCells b) (suc p) → 
 dimension b p j l = omega (arith, countField-below b (suc p) j (rw (count-chainCells b (suc p)) at l))
 
 abbrev Inv-loop : tie.InvT-loop
-Inv-loop s p q m w₀ places₀ j₀ columns w places j = Invariant (chainCells s) p q m w₀ w j × (length places ≡ suc top)
+Inv-loop s p q m w₀ peak places₀ largest₀ j₀ columns w places largest j = Invariant (chainCells s) p q m w₀ peak w largest j × (length places ≡ suc top)
 
 abbrev μ-loop : tie.MeasureT-loop
-μ-loop s p q m w₀ places₀ j₀ columns w places j = m .width - j
+μ-loop s p q m w₀ peak places₀ largest₀ j₀ columns w places largest j = m .width - j
 
 loop-holds : tie.Need-loop-holds Inv-loop μ-loop
 loop-holds c =
-    let args = c .before .args in (
-      record {
-        below = omega arith;
-        so-far = columns-none (args .m) (args .w .now) (product (chainCells (args .s .now)) (args .p) (args .q) (args .w .now)) (c .before .pre .1 .1 .2);
-      },
-      refl,
-    )
+    let args = c .before .args in
+    (begun (chainCells (args .s .now)) (args .p) (args .q) (args .m) (args .w .now) (args .peak) (c .before .pre .1 .1 .2), refl)
 
 -- cell j is one of the section's
 module _ (c : tie.In-loop Inv-loop μ-loop) where
@@ -118,15 +145,15 @@ multiply-column-requires c κs =
       (pre .0 .2, turn .loop-test .taken, omega (arith, inside turn)),
       (
         λ t l. omega (arith, f .faces .face t (omega arith) .below, f .rows),
-        (record { ends = omega (arith, pre .1 .0 .ends, head .inv .0 .so-far .same-length) }, pre .1 .1, head .inv .0 .so-far .small),
+        (record { ends = omega (arith, pre .1 .0 .ends, head .inv .0 .so-far .same-length) }, pre .1 .1, head .inv .0 .under),
       ),
     )
 
-enum-told : tie.Need-enum-told Inv-loop μ-loop
-enum-told c = c .match .keys1
+enum-known-written : tie.Need-enum-known-written Inv-loop μ-loop
+enum-known-written c = c .match .keys1
 
-enum-told-2 : tie.Need-enum-told-2 Inv-loop μ-loop
-enum-told-2 c = c .match .keys2
+enum-told : tie.Need-enum-told Inv-loop μ-loop
+enum-told c = c .match .keys2
 
 module _ (c : tie.After-multiply-column Inv-loop μ-loop) where
   abbrev facing : tie.After-face-places Inv-loop μ-loop
@@ -139,26 +166,26 @@ module _ (c : tie.After-multiply-column Inv-loop μ-loop) where
   abbrev Left : Effect → Type 0
   Left r =
       let args = start turn .args in let head = turn .before .loop in
-      ColumnBecame (args .m) (head .w) (atPlaces (args .q) (head .w) (facing .face-places .last .1 .1 .1 .0) (args .p + 2)) (head .j) r (c .multiply-column .last .1 .1 .0)
+      ColumnBecame (args .m) (head .w) (atPlaces (args .q) (head .w) (facing .face-places .last .1 .1 .1 .0) (args .p + 2)) (head .j) (head .largest) r (c .multiply-column .last .1 .1 .0)
 
   became : (r : Effect) → c .multiply-column .result ≡ r → Left r
   became r e = subst Left e (c .multiply-column .ensures)
 
 same-length : tie.Need-same-length Inv-loop μ-loop
 same-length c =
-    let called = c .before .before .before in became called TooWide (c .enum-told2 .given .1) .same-length ∙ turn called .before .loop .inv .0 .so-far .same-length
+    let called = c .before .before .before in became called TooWide (c .enum-told .given .1) .same-length ∙ turn called .before .loop .inv .0 .so-far .same-length
 
 returns : tie.Need-returns Inv-loop μ-loop
 returns c =
     let called = c .before .before .before in
     too-wide (turn called .before .loop .inv .0) (start (turn called) .pre .1 .1 .1) (faced (facing called)) (turn called .loop-test .taken)
-    (became called TooWide (c .enum-told2 .given .1))
+    (became called TooWide (c .enum-told .given .1))
 
 loop-again : tie.Need-loop-again Inv-loop μ-loop
 loop-again c =
-    let called = c .before .before .before in (
+    let called = c .before .before .before .before in (
       more (turn called .before .loop .inv .0) (start (turn called) .pre .1 .1 .1) (faced (facing called)) (turn called .loop-test .taken)
-          (became called (Done _) (c .enum-told .given .1)),
+          (became called (Done _) (c .before .written .given .1)),
       facing called .face-places .ensures .sized,
     )
 
@@ -166,13 +193,10 @@ same-length-2 : tie.Need-same-length-2 Inv-loop μ-loop
 same-length-2 c = c .before .loop .inv .0 .so-far .same-length
 
 returns-2 : tie.Need-returns-2 Inv-loop μ-loop
-returns-2 c =
-    let args = c .before .before .before .args in
-    columns-all (product (chainCells (args .s .now)) (args .p) (args .q) (args .w .now)) (contents (args .m) (args .w .now)) (c .before .loop .j) (c .before .loop .inv .0 .so-far)
-    (c .loop-test .left)
+returns-2 c = ended (c .before .loop .inv .0) (c .loop-test .left)
 
 pub multiply-spec : {M : Type 1} → statement M
 multiply-spec =
     tie.close
     (tie.spec Inv-loop μ-loop loop-holds face-places-requires (λ c. omega (arith, inside (c .before .before .before))) multiply-column-requires
-    enum-told enum-told-2 same-length returns (λ c. omega arith) (λ c. omega arith) loop-again same-length-2 returns-2)
+    enum-known-written enum-told same-length returns (λ c. omega arith) (λ c. omega arith) loop-again same-length-2 returns-2)

@@ -1,49 +1,55 @@
--- `product::multiply_column` meets its contract. The invariant: the entries of the column in the lines passed are those of the product. The
--- measure is how many lines are left. Assumes nothing.
+-- `product::multiply_column` meets its contract. The invariant: the entries of the column in the lines passed are those of the product, and the peak
+-- so far is the largest of theirs and the one handed over. The measure is how many lines are left. Assumes nothing.
 use mathlib.Core.Path.{_≡_, refl, sym, ap, subst, _∙_}
+use mathlib.Core.Logic.{inl, inr, ⊎-elim}
 use mathlib.Core.List.{List}
-use Prim.Native.Nat.{ℕ, suc, _+_, _-_, _<_, _≤_}
+use Prim.Native.Nat.{ℕ, suc, _+_, _-_, _^_, _<_, _≤_}
+use native.Mathlib.Nat as NatL
 use native.Mathlib.Omega.{arith}
 use native.Mathlib.Decide.{decLt}
 use lib.ListN.{length, getD, set}
 use lib.IntN.{ℤ, natAbs, _*ℤ_}
-use mir.Syntax.{w32, w64}
-use mir.Val.{SFits}
-use mir.Facts.{toZ-ofZ, sfits-lit}
+use mir.Syntax.{w64}
+use mir.Facts.{toZ-ofZ, fits-lit}
 use Rattle.matrices.specs.Sum.{sum}
 use Rattle.matrices.specs.SumLaws.{sum-ext}
 use Rattle.matrices.specs.Matrix as theory
 use Rattle.complexes.specs.Boundary.{sign}
 use Rattle.sheet_format.specs.Layout.{top}
-use Rattle.lines.specs.Slice.{entryLimit, at, lineAt, Small}
+use Rattle.words.specs.Read.{read, read-entry, entry-fits}
+use Rattle.lines.specs.Slice.{entryLimit, lineAt, Under}
 use Rattle.lines.specs.Matrices.{Held, contents, end}
 use Rattle.lines.specs.declared.matrix.Matrix.{Matrix}
+use Rattle.lines.proofs.Peaks.{written, under-small, under-larger, Raised, raised-by, raised-small}
+use Rattle.lines.proofs.Store.{under-set}
 use Rattle.lines.proofs.Spans.{line-span, span-inside}
 use Rattle.lines.proofs.Operations.{upTo, upTo-below, upTo-from}
-use Rattle.words.specs.Read.{read, read-entry, entry-fits}
-use Rattle.words.specs.Tests.{beyond-low, beyond-high, within}
-use Rattle.boundaries.specs.Column.{atPlaces, ColumnFilled, ColumnExceeds}
+use Rattle.boundaries.specs.Filled.{ColumnFilled}
+use Rattle.boundaries.specs.Column.{atPlaces, ColumnHolds, ColumnExceeds}
 use Rattle.boundaries.proofs.Store.{Place, place-inside, entry-set, column-set}
-use Rattle.boundaries.proofs.Products.{contents-kept}
+use Rattle.boundaries.proofs.Products.{signed, signed-sum-small, contents-kept}
 use Rattle.boundaries.proofs.product.multiply_column.Statement.{statement}
 use Rattle.boundaries.proofs.product.multiply_column.Tie as tie
 
 -- what the function is given
-record Given (q M : Matrix) (w₀ : List ℤ) (j : ℕ) (places : List ℕ) (faces : ℕ) : Type 0 where
+record Given (q M : Matrix) (w₀ : List ℤ) (j : ℕ) (places : List ℕ) (faces peak : ℕ) : Type 0 where
   lines : M .lines ≡ q .lines
   below : j < M .width
   few : faces ≤ suc top
   inside : (t : ℕ) → t < faces → getD places t 0 < q .width
   held : Held (length w₀) q
   before : end M ≤ q .at
-  small : Small w₀
+  under : Under peak w₀
 
-record Invariant (q M : Matrix) (w₀ : List ℤ) (j : ℕ) (places : List ℕ) (faces : ℕ) (w : List ℤ) (i : ℕ) : Type 0 where
+record Invariant (q M : Matrix) (w₀ : List ℤ) (j : ℕ) (places : List ℕ) (faces peak : ℕ) (w : List ℤ) (largest i : ℕ) : Type 0 where
   below : i ≤ M .lines
   so-far : ColumnFilled M w₀ (upTo i (atPlaces q w₀ places faces) (contents M w₀)) j w
+  under : Under largest w
+  above : peak ≤ largest
+  least : (L : ℕ) → peak ≤ L → ((a : ℕ) → a < i → natAbs (atPlaces q w₀ places faces a j) ≤ L) → largest ≤ L
 
-module _ {q M : Matrix} {w₀ : List ℤ} {j : ℕ} {places : List ℕ} {faces : ℕ} (given : Given q M w₀ j places faces) where
-  begun : Invariant q M w₀ j places faces w₀ 0
+module _ {q M : Matrix} {w₀ : List ℤ} {j : ℕ} {places : List ℕ} {faces peak : ℕ} (given : Given q M w₀ j places faces peak) where
+  begun : Invariant q M w₀ j places faces peak w₀ peak 0
   begun = record {
     below = omega arith;
     so-far = record {
@@ -51,35 +57,44 @@ module _ {q M : Matrix} {w₀ : List ℤ} {j : ℕ} {places : List ℕ} {faces :
       on = λ i l. sym (upTo-from 0 (atPlaces q w₀ places faces) (contents M w₀) i j (omega arith));
       beside = λ i k l m d. refl;
       off = λ i o. refl;
-      small = given .small;
     };
+    under = given .under;
+    above = NatL.le-refl peak;
+    least = λ L l a. l;
   }
 
   held-before : Held (length w₀) M
   held-before = record { ends = omega (arith, given .before, given .held .ends) }
 
-  module _ {w : List ℤ} {i : ℕ} (inv : Invariant q M w₀ j places faces w i) where
+  module _ {w : List ℤ} {largest i : ℕ} (inv : Invariant q M w₀ j places faces peak w largest i) where
     -- line i times the column
-    entry-is : (line : ℕ) → line ≡ lineAt (q .at) (q .width) i → (v : ℤ) → v ≡ sum faces (λ t. at w (line + getD places t 0) *ℤ sign t)
-        → v ≡ atPlaces q w₀ places faces i j
+    entry-is : (line : ℕ) → line ≡ lineAt (q .at) (q .width) i → (v : ℤ) → v ≡ sum faces (signed w line places) → v ≡ atPlaces q w₀ places faces i j
     entry-is line e v v-is =
         v-is
-        ∙ ap (λ (l : ℕ). sum faces (λ t. at w (l + getD places t 0) *ℤ sign t)) e
+        ∙ ap (λ (l : ℕ). sum faces (signed w l places)) e
         ∙ sum-ext faces (λ t. contents q w i (getD places t 0) *ℤ sign t) (λ t. contents q w₀ i (getD places t 0) *ℤ sign t)
         (λ t l. ap (λ (x : ℤ). x *ℤ sign t) (contents-kept q M w₀ w (given .before) (inv .so-far .off) i (getD places t 0)))
 
-    too-wide : i < M .lines → entryLimit < natAbs (atPlaces q w₀ places faces i j) → ColumnExceeds M w₀ (atPlaces q w₀ places faces) j w
-    too-wide l h = record { same-length = inv .so-far .same-length; line = i; line-below = l; beyond = h; small = inv .so-far .small }
+    -- a word holds it
+    entry-small : (line : ℕ) (v : ℤ) → v ≡ sum faces (signed w line places) → natAbs v < 2 ^ 63
+    entry-small line v v-is =
+        subst (λ (z : ℤ). natAbs z < 2 ^ 63) (sym v-is) (omega (arith, signed-sum-small w line places faces (under-small (inv .under)) (given .few)))
 
-    more : {place : ℕ} (v : ℤ) → Place M (length w₀) i j place → v ≡ atPlaces q w₀ places faces i j → natAbs v ≤ entryLimit
-        → Invariant q M w₀ j places faces (set w place v) (i + 1)
-    more v e v-is l = record {
+    too-wide : i < M .lines → entryLimit < natAbs (atPlaces q w₀ places faces i j) → ColumnExceeds M w₀ (atPlaces q w₀ places faces) j w
+    too-wide l h = record { same-length = inv .so-far .same-length; line = i; line-below = l; beyond = h }
+
+    more : {place : ℕ} (v : ℤ) → Place M (length w₀) i j place → v ≡ atPlaces q w₀ places faces i j → {n : ℕ} → Raised largest v n
+        → Invariant q M w₀ j places faces peak (set w place v) n (i + 1)
+    more {place} v e v-is raised = record {
       below = omega (arith, e .line);
-      so-far = column-set (entry-set e w v (inv .so-far .same-length) (inv .so-far .small) l) (upTo (i + 1) (atPlaces q w₀ places faces) (contents M w₀))
-          (upTo-below (i + 1) (atPlaces q w₀ places faces) (contents M w₀) i j (omega arith) ∙ sym v-is)
+      so-far = column-set (entry-set e w v (inv .so-far .same-length)) (upTo (i + 1) new old)
+          (upTo-below (i + 1) new old i j (omega arith) ∙ sym v-is)
           (inv .so-far)
           (λ a k d. pick a d (decLt a i))
           (given .below);
+      under = under-set w place v (omega (arith, place-inside e, inv .so-far .same-length)) (under-larger (inv .under) (raised .above) (raised .limit)) (raised .covers);
+      above = NatL.le-trans (inv .above) (raised .above);
+      least = λ L l a. raised .least L (inv .least L l (λ b k. a b (omega arith))) (subst (λ (z : ℤ). natAbs z ≤ L) (sym v-is) (a i (omega arith)));
     }
       where
         new : theory.Matrix
@@ -92,23 +107,27 @@ module _ {q M : Matrix} {w₀ : List ℤ} {j : ℕ} {places : List ℕ} {faces :
         pick a d (yes m) = upTo-below (i + 1) new old a j (omega arith) ∙ sym (upTo-below i new old a j m)
         pick a d (no m) = upTo-from (i + 1) new old a j (omega arith) ∙ sym (upTo-from i new old a j (omega arith))
 
-    ended : M .lines ≤ i → ColumnFilled M w₀ (atPlaces q w₀ places faces) j w
+    ended : M .lines ≤ i → ColumnHolds M w₀ (atPlaces q w₀ places faces) j peak (written largest) w
     ended done = record {
-      same-length = inv .so-far .same-length;
-      on = λ a l. inv .so-far .on a l ∙ upTo-below i (atPlaces q w₀ places faces) (contents M w₀) a j (omega arith);
-      beside = inv .so-far .beside;
-      off = inv .so-far .off;
-      small = inv .so-far .small;
+      filled = record {
+        same-length = inv .so-far .same-length;
+        on = λ a l. inv .so-far .on a l ∙ upTo-below i (atPlaces q w₀ places faces) (contents M w₀) a j (omega arith);
+        beside = inv .so-far .beside;
+        off = inv .so-far .off;
+      };
+      under = inv .under;
+      above = inv .above;
+      least = λ L l a. inv .least L l (λ b k. a b (omega (arith, inv .below)));
     }
 
 abbrev Inv-loop : tie.InvT-loop
-Inv-loop q m w₀ j places faces lines width i₀ w i = Invariant q m w₀ j places faces w i
+Inv-loop q m w₀ j places faces peak lines width largest₀ i₀ w largest i = Invariant q m w₀ j places faces peak w largest i
 
 abbrev μ-loop : tie.MeasureT-loop
-μ-loop q m w₀ j places faces lines width i₀ w i = m .lines - i
+μ-loop q m w₀ j places faces peak lines width largest₀ i₀ w largest i = m .lines - i
 
 given : (c : tie.Start Inv-loop μ-loop) →
-    let args = c .args in Given (args .q) (args .m) (args .w .now) (args .j) (args .places) (args .faces)
+    let args = c .args in Given (args .q) (args .m) (args .w .now) (args .j) (args .places) (args .faces) (args .peak)
 given c =
     let pre = c .pre in
     record {
@@ -118,7 +137,7 @@ given c =
       inside = pre .1 .0;
       held = pre .1 .1 .0;
       before = pre .1 .1 .1;
-      small = pre .1 .1 .2;
+      under = pre .1 .1 .2;
     }
 
 loop-holds : tie.Need-loop-holds Inv-loop μ-loop
@@ -128,102 +147,103 @@ line-product-requires : tie.Need-line-product-requires Inv-loop μ-loop
 line-product-requires c κs =
     let turn = c .before .before in let start = turn .before .before in let g = given start in let inv = turn .before .loop .inv in
     let line = line-span (start .args .q) (c .line .result) (turn .before .loop .i) (c .line .ensures) (turn .loop-test .taken) in (
-      (omega (arith, span-inside line (g .held), inv .so-far .same-length), inv .so-far .small, g .few),
+      (omega (arith, span-inside line (g .held), inv .so-far .same-length), under-small (inv .under), g .few),
       g .inside,
     )
-
-sub-if1 : tie.Need-sub-if1 Inv-loop μ-loop
-sub-if1 c = sfits-lit tt
 
 -- the entry of line i
 module _ (c : tie.After-line-product Inv-loop μ-loop) where
   abbrev turn : tie.In-loop Inv-loop μ-loop
   turn = c .before .before .before
 
+  abbrev head : tie.At-loop Inv-loop μ-loop
+  head = turn .before
+
   abbrev start : tie.Start Inv-loop μ-loop
-  start = turn .before .before
+  start = head .before
 
+  -- as the machine has it
   abbrev v : ℤ
-  v = c .line-product .result
+  v = read w64 (c .line-product .result)
 
-  v-fits : SFits w64 v
-  v-fits = record { sfits = c .line-product .ok }
+  read-v : v ≡ c .line-product .result
+  read-v = toZ-ofZ (record { sfits = c .line-product .ok })
 
-  read-v : read w64 v ≡ v
-  read-v = toZ-ofZ v-fits
+  v-is : v ≡ atPlaces (start .args .q) (start .args .w .now) (start .args .places) (start .args .faces) (head .loop .i) (start .args .j)
+  v-is = entry-is (given start) (head .loop .inv) (c .before .line .result) (c .before .line .ensures) v (read-v ∙ c .line-product .ensures)
 
-  v-is : v ≡ atPlaces (start .args .q) (start .args .w .now) (start .args .places) (start .args .faces) (turn .before .loop .i) (start .args .j)
-  v-is = entry-is (given start) (turn .before .loop .inv) (c .before .line .result) (c .before .line .ensures) v (c .line-product .ensures)
-
-  line-below : turn .before .loop .i < start .args .m .lines
+  line-below : head .loop .i < start .args .m .lines
   line-below = omega (arith, turn .loop-test .taken, given start .lines)
 
-  exceeds : entryLimit < natAbs (read w64 v)
-      → ColumnExceeds (start .args .m) (start .args .w .now) (atPlaces (start .args .q) (start .args .w .now) (start .args .places) (start .args .faces)) (start .args .j)
-      (turn .before .loop .w)
-  exceeds h = too-wide (given start) (turn .before .loop .inv) line-below (subst (λ (z : ℤ). entryLimit < natAbs z) (read-v ∙ v-is) h)
+absolute-requires : tie.Need-absolute-requires Inv-loop μ-loop
+absolute-requires c κs = entry-small (given (start c)) (head c .loop .inv) (c .before .line .result) (v c) (read-v c ∙ c .line-product .ensures)
+
+cast-if2 : tie.Need-cast-if2 Inv-loop μ-loop
+cast-if2 c = (tt, fits-lit tt)
 
 same-length : tie.Need-same-length Inv-loop μ-loop
-same-length c = turn (c .before) .before .loop .inv .so-far .same-length
+same-length c = head (c .before .before .before) .loop .inv .so-far .same-length
 
 returns : tie.Need-returns Inv-loop μ-loop
-returns c = exceeds (c .before) (beyond-low entryLimit (read w64 (v (c .before))) (c .if1 .taken))
+returns c =
+    let at = c .before .before .before in
+    too-wide (given (start at)) (head at .loop .inv) (line-below at)
+    (subst (λ (z : ℤ). entryLimit < natAbs z) (v-is at) (omega (arith, c .if2 .taken, c .before .before .absolute .ensures)))
 
-same-length-2 : tie.Need-same-length-2 Inv-loop μ-loop
-same-length-2 c = turn (c .before .before) .before .loop .inv .so-far .same-length
+-- ---- after the test of the size
 
-returns-2 : tie.Need-returns-2 Inv-loop μ-loop
-returns-2 c = exceeds (c .before .before) (beyond-high entryLimit (read w64 (v (c .before .before))) (c .if2 .taken))
+module _ (c : tie.Joined1 Inv-loop μ-loop) where
+  abbrev made : tie.After-line-product Inv-loop μ-loop
+  made = c .before .before
 
-stays : (c : tie.Else2 Inv-loop μ-loop) → natAbs (v (c .before .before)) ≤ entryLimit
-stays c =
-    subst (λ (z : ℤ). natAbs z ≤ entryLimit) (read-v (c .before .before)) (within entryLimit (read w64 (v (c .before .before))) (c .before .if1 .left) (c .if2 .left))
+  raised : Raised (head made .loop .largest) (v made) (c .if1 .largest)
+  raised =
+      raised-by (v made) (c .before .absolute .ensures) (head made .loop .inv .under .limit)
+      (⊎-elim (λ h. inl (h .0 .taken, h .1 .left, h .2)) (λ h. inr (h .0 .left, h .1)) (c .if1 .came))
 
 module _ (c : tie.After-line2 Inv-loop μ-loop) where
-  abbrev made : tie.After-line-product Inv-loop μ-loop
-  made = c .before .before .before
+  abbrev joined : tie.Joined1 Inv-loop μ-loop
+  joined = c .before
 
-  place : let args = start made .args in
-      Place (args .m) (length (args .w .now)) (turn made .before .loop .i) (args .j) (c .line2 .result + args .j)
+  place : let args = start (made joined) .args in
+      Place (args .m) (length (args .w .now)) (head (made joined) .loop .i) (args .j) (c .line2 .result + args .j)
   place = record {
-    held = held-before (given (start made));
-    line = line-below made;
-    column = given (start made) .below;
+    held = held-before (given (start (made joined)));
+    line = line-below (made joined);
+    column = given (start (made joined)) .below;
     is = omega (arith, c .line2 .ensures);
   }
-
-  -- the entry as the machine writes it
-  written : read w32 (read w64 (v made)) ≡ v made
-  written = ap (read w32) (read-v made) ∙ read-entry (v made) (stays (c .before))
 
 add-at : tie.Need-add-at Inv-loop μ-loop
 add-at c = omega (arith, place-inside (place c))
 
 cast-w : tie.Need-cast-w Inv-loop μ-loop
-cast-w c = rw (read-v (made c)) (entry-fits (v (made c)) (stays (c .before)))
+cast-w c = entry-fits (v (made (joined c))) (raised-small (raised (joined c)))
 
-mul-t15 : tie.Need-mul-t15 Inv-loop μ-loop
-mul-t15 c = omega (arith, place-inside (place c))
+mul-t18 : tie.Need-mul-t18 Inv-loop μ-loop
+mul-t18 c = omega (arith, place-inside (place c))
 
 slice-set-from-w : tie.Need-slice-set-from-w Inv-loop μ-loop
-slice-set-from-w c = omega (arith, place-inside (place c), turn (made c) .before .loop .inv .so-far .same-length)
+slice-set-from-w c = omega (arith, place-inside (place c), head (made (joined c)) .loop .inv .so-far .same-length)
 
 loop-again : tie.Need-loop-again Inv-loop μ-loop
 loop-again c =
-    let args = start (made c) .args in let head = turn (made c) .before .loop in
-    subst (λ (z : ℤ). Invariant (args .q) (args .m) (args .w .now) (args .j) (args .places) (args .faces) (set (head .w) (c .line2 .result + args .j) z) (head .i + 1))
-    (sym (written c))
-    (more (given (start (made c))) (head .inv) (v (made c)) (place c) (v-is (made c)) (stays (c .before)))
+    let at = made (joined c) in let args = start at .args in let loop = head at .loop in
+    subst
+    (λ (z : ℤ).
+    Invariant (args .q) (args .m) (args .w .now) (args .j) (args .places) (args .faces) (args .peak) (set (loop .w) (c .line2 .result + args .j) z) (joined c .if1 .largest)
+    (loop .i + 1))
+    (sym (read-entry (v at) (raised-small (raised (joined c)))))
+    (more (given (start at)) (loop .inv) (v at) (place c) (v-is at) (raised (joined c)))
 
-same-length-3 : tie.Need-same-length-3 Inv-loop μ-loop
-same-length-3 c = c .before .loop .inv .so-far .same-length
+same-length-2 : tie.Need-same-length-2 Inv-loop μ-loop
+same-length-2 c = c .before .loop .inv .so-far .same-length
 
-returns-3 : tie.Need-returns-3 Inv-loop μ-loop
-returns-3 c = ended (given (c .before .before)) (c .before .loop .inv) (omega (arith, c .loop-test .left, given (c .before .before) .lines))
+returns-2 : tie.Need-returns-2 Inv-loop μ-loop
+returns-2 c = ended (given (c .before .before)) (c .before .loop .inv) (omega (arith, c .loop-test .left, given (c .before .before) .lines))
 
 pub multiply-column-spec : {M : Type 1} → statement M
 multiply-column-spec =
     tie.close
-    (tie.spec Inv-loop μ-loop loop-holds (λ c κs. omega arith) line-product-requires sub-if1 same-length
-    returns same-length-2 returns-2 (λ c κs. omega arith) add-at cast-w mul-t15 slice-set-from-w (λ c. omega arith) (λ c. omega arith) loop-again
-    same-length-3 returns-3)
+    (tie.spec Inv-loop μ-loop loop-holds (λ c κs. omega arith) line-product-requires absolute-requires cast-if2 same-length returns (λ c κs. omega arith)
+    add-at cast-w mul-t18 slice-set-from-w (λ c. omega arith) (λ c. omega arith) loop-again same-length-2 returns-2)

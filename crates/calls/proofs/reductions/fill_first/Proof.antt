@@ -11,10 +11,10 @@ use lib.ListN.{length, replicate, length-replicate}
 use Rattle.complexes.specs.Complex.{count}
 use Rattle.complexes.specs.Boundary.{boundary}
 use Rattle.sheet_format.specs.Check.{chainCells}
-use Rattle.lines.specs.Matrices.{Holds}
+use Rattle.boundaries.specs.Filled.{MatrixFilled}
 use Rattle.calls.proofs.Places.{held-matrix}
-use Rattle.calls.proofs.Sheet.{rows-none, rows-section}
-use Rattle.calls.proofs.Filling.{zeros-small, zeros-null, no-lines, matrix-rows, matrix-columns, laid, filled, follower-fills, inverse-fills}
+use Rattle.calls.proofs.Sheet.{rows-none, rows-section, sheet-chains}
+use Rattle.calls.proofs.Filling.{zeros-null, no-lines, matrix-rows, matrix-columns, laid, filled, follower-fills, inverse-fills}
 use Rattle.calls.proofs.reductions.fill_first.Statement.{statement}
 use Rattle.calls.proofs.reductions.fill_first.Tie as tie
 
@@ -35,7 +35,6 @@ fill-boundary-requires c κs =
         ),
         (
           rw (cleared, length-replicate) (held-matrix (laid K p n (start .pre .1 .0) W is)),
-          rw cleared (zeros-small n),
           rw cleared (zeros-null n (W .matrix)),
         ),
       ),
@@ -44,7 +43,7 @@ fill-boundary-requires c κs =
 -- the boundary matrix stands in a slice of zeros
 matrix-filled : (c : tie.Joined1) →
     let args = c .before .before .before .before .before .args in
-    Holds (args .layout .matrix) (replicate (length (now (args .w))) (pos 0)) (boundary (chainCells (now (args .s))) (args .p)) (c .if1 .w)
+    MatrixFilled (args .layout .matrix) (replicate (length (now (args .w))) (pos 0)) (boundary (chainCells (now (args .s))) (args .p)) (c .if1 .w)
 matrix-filled c =
     let start = c .before .before .before .before .before in
     let K = chainCells (now (start .args .s)) in
@@ -54,7 +53,7 @@ matrix-filled c =
     ⊎-elim
     (λ f. let dimension : suc (p - 1) ≡ p = omega (arith, f .0 .taken) in rw (f .4) (rw (cleared, dimension) at (f .2 .ensures)))
     (λ f. rw (f .1, cleared) (no-lines (boundary K p)
-    (matrix-rows K p n (start .pre .1 .0) (start .args .layout) (start .pre .1 .1) ∙ rows-none K p (omega (arith, f .0 .left))) (zeros-small n)))
+    (matrix-rows K p n (start .pre .1 .0) (start .args .layout) (start .pre .1 .1) ∙ rows-none K p (omega (arith, f .0 .left)))))
     (c .if1 .came)
 
 fill-identity-requires : tie.Need-fill-identity-requires
@@ -75,6 +74,7 @@ returns c =
     let joined = c .before .before .before .before .before .before in
     let start = joined .before .before .before .before .before in
     filled (chainCells (now (start .args .s))) (start .args .p) (length (now (start .args .w))) (start .pre .1 .0) (start .args .layout) (start .pre .1 .1)
+    (sheet-chains (record { small = λ i. joined .before .before .before .before .shared-slice-known .given i .fits }) (start .pre .0 .0) .small (start .args .p))
     (record {
       matrix = matrix-filled joined;
       follower = c .before .before .before .before .fill-identity .ensures;

@@ -7,12 +7,13 @@ use borrow.Author.Needs.{needs}
 use denote.Ref.{now}
 use lib.IntN.{pos}
 use lib.ListN.{length, replicate}
+use Rattle.complexes.specs.Complex.{count}
 use Rattle.complexes.specs.ChainComplex.{ChainComplex}
 use Rattle.sheet_format.specs.Check.{chainCells}
 use Rattle.limits.specs.Limits.{libraryLimit}
 use Rattle.reduction_steps.specs.PivotLaws.{pivotRule-is-rule}
 use Rattle.calls.specs.Admission.{SizesRead}
-use Rattle.calls.specs.Slices.{firstLayoutOf, secondLayoutOf}
+use Rattle.calls.specs.Slices.{firstLayoutOf, secondLayoutOf, startPeak}
 use Rattle.calls.proofs.Sheet.{sheet-chains, cells-of, first-of, second-of}
 use Rattle.calls.proofs.Filling.{laid}
 use Rattle.calls.proofs.Outcomes.{cleared-length, reduces-done, reduces-refused, became-done, became-wide, FirstDone, SecondStarted, first-refused, first-done, laid-then, Q-width, product-width, Q-held}
@@ -45,12 +46,12 @@ fill-first-requires c κs = let s = start (c .before) in (s .pre .0, (s .pre .1 
 
 reduce-matrix-requires : tie.Need-reduce-matrix-requires
 reduce-matrix-requires c κs =
-    let first = c .before .before .before .before in
+    let first = c .before .before .before .before .before in
     let s = start first in
-    let filled = c .before .before .fill-first .ensures in (
+    let filled = c .before .before .before .fill-first .ensures in (
       rw (filled .kept .same-length)
           (laid (chainCells (now (s .args .s))) (s .args .p) (length (now (s .args .w))) (s .pre .1 .0) (first .first .result) (first-is first)),
-      filled .kept .small,
+      rw (c .start-peak .ensures, cells-of (sizes first)) (filled .kept .under),
     )
 
 enum-known-rank : tie.Need-enum-known-rank
@@ -61,7 +62,11 @@ enum-told c = c .match .keys2
 
 module _ (c : tie.After-reduce-matrix) where
   abbrev at-first : tie.After-first
-  at-first = c .before .before .before .before .before
+  at-first = c .before .before .before .before .before .before
+
+  -- the peak at the start
+  started-from : let s = start at-first in c .before .start-peak .result ≡ startPeak (count (chainCells (now (s .args .s))) (s .args .p))
+  started-from = c .before .start-peak .ensures ∙ ap startPeak (cells-of (sizes at-first))
 
 returns : tie.Need-returns
 returns c =
@@ -69,7 +74,7 @@ returns c =
     let first = at-first called in
     let s = start first in
     first-refused pivotRule-is-rule (chainCells (now (s .args .s))) (s .args .p) (length (now (s .args .w))) (chains first) (s .pre .1 .0) (first .first .result) (first-is first)
-    (called .before .before .before .fill-first .ensures) (reduces-refused (first .first .result) (called .reduce-matrix .result) (c .enum-told .given .1) (called .reduce-matrix .ensures))
+    (called .before .before .before .before .fill-first .ensures) (started-from called) (reduces-refused (first .first .result) (called .reduce-matrix .result) (c .enum-told .given .1) (called .reduce-matrix .ensures))
 
 same-length : tie.Need-same-length
 same-length c = cleared-length (returns c .1)
@@ -86,12 +91,15 @@ module _ (c : tie.After-known-told) where
   abbrev rank : ℕ
   rank = c .before .rank .given .0 .0
 
+  abbrev halfway : ℕ
+  halfway = c .before .rank .given .0 .1 .0
+
   first : let s = start began in
-      FirstDone pivotRule-is-rule (chainCells (now (s .args .s))) (s .args .p) (length (now (s .args .w))) (chains began) (s .pre .1 .0) rank (first-called .reduce-matrix .last .1 .0)
+      FirstDone pivotRule-is-rule (chainCells (now (s .args .s))) (s .args .p) (length (now (s .args .w))) (chains began) (s .pre .1 .0) rank halfway (first-called .reduce-matrix .last .1 .0)
   first =
       let s = start began in
       first-done pivotRule-is-rule (chainCells (now (s .args .s))) (s .args .p) (length (now (s .args .w))) (chains began) (s .pre .1 .0) (began .first .result) (first-is began)
-      (first-called .before .before .before .fill-first .ensures) (reduces-done (began .first .result) (first-called .reduce-matrix .result) (c .before .rank .given .1) (first-called .reduce-matrix .ensures))
+      (first-called .before .before .before .before .fill-first .ensures) (started-from first-called) (reduces-done (began .first .result) (first-called .reduce-matrix .result) (c .before .rank .given .1) (first-called .reduce-matrix .ensures))
 
 second-requires : tie.Need-second-requires
 second-requires c κs =
@@ -118,16 +126,16 @@ multiply-requires c κs =
         (
           Q-held pivotRule-is-rule (chainCells (now (s .args .s))) (s .args .p) (length (now (s .args .w))) (chains (began told)) (s .pre .1 .0) (first told) W is,
           omega (arith, l .after-matrix, l .after-row-inverse),
-          first told .kept .small,
+          first told .kept .under,
         ),
       ),
     )
 
-enum-told-2 : tie.Need-enum-told-2
-enum-told-2 c = c .match2 .keys1
+enum-known-product : tie.Need-enum-known-product
+enum-known-product c = c .match2 .keys1
 
-enum-told-3 : tie.Need-enum-told-3
-enum-told-3 c = c .match2 .keys2
+enum-told-2 : tie.Need-enum-told-2
+enum-told-2 c = c .match2 .keys2
 
 returns-2 : tie.Need-returns-2
 returns-2 c =
@@ -135,7 +143,7 @@ returns-2 c =
     let told = called .before .before .before in
     let s = start (began told) in
     let W = called .before .before .second .result in
-    let beyond = became-wide (called .multiply .result) (c .before .before .before .enum-told3 .given .1) (called .multiply .ensures) in (
+    let beyond = became-wide (halfway told) (called .multiply .result) (c .before .before .before .enum-told2 .given .1) (called .multiply .ensures) in (
       product-refused pivotRule-is-rule (chainCells (now (s .args .s))) (s .args .p) (length (now (s .args .w))) (chains (began told)) (s .pre .1 .0) (first told) W
           (second-is (called .before .before)) beyond,
       record {
@@ -151,21 +159,21 @@ same-length-2 c = cleared-length (returns-2 c .1)
 
 -- ---- the second reduction
 
-module _ (c : tie.After-enum-told2) where
+module _ (c : tie.After-known-told2) where
   abbrev multiplied : tie.After-multiply
-  multiplied = c .before .before .before
+  multiplied = c .before .before .before .before
 
   abbrev first-told : tie.After-known-told
-  first-told = c .before .before .before .before .before .before
+  first-told = multiplied .before .before .before
 
   started : let s = start (began first-told) in
-      SecondStarted pivotRule-is-rule (chainCells (now (s .args .s))) (s .args .p) (length (now (s .args .w))) (chains (began first-told)) (s .pre .1 .0) (rank first-told)
-      (first-called first-told .reduce-matrix .last .1 .0) (multiplied .multiply .last .1 .1 .1 .1 .0)
+      SecondStarted pivotRule-is-rule (chainCells (now (s .args .s))) (s .args .p) (length (now (s .args .w))) (chains (began first-told)) (s .pre .1 .0) (rank first-told) (halfway first-told)
+      (first-called first-told .reduce-matrix .last .1 .0) (c .before .product .given .0 .0 .peak) (multiplied .multiply .last .1 .1 .1 .1 .0)
   started =
       let s = start (began first-told) in
       second-started pivotRule-is-rule (chainCells (now (s .args .s))) (s .args .p) (length (now (s .args .w))) (chains (began first-told)) (s .pre .1 .0) (first first-told)
       (multiplied .before .before .second .result) (second-is (multiplied .before .before))
-      (became-done (multiplied .multiply .result) (c .enum-told2 .given .1) (multiplied .multiply .ensures))
+      (became-done (halfway first-told) (multiplied .multiply .result) (c .before .product .given .1) (multiplied .multiply .ensures))
 
 reduce-matrix-requires-2 : tie.Need-reduce-matrix-requires-2
 reduce-matrix-requires-2 c κs =
@@ -176,14 +184,14 @@ reduce-matrix-requires-2 c κs =
       rw (kept .same-length)
           (laid-then pivotRule-is-rule (chainCells (now (s .args .s))) (s .args .p) (length (now (s .args .w))) (chains (began told)) (s .pre .1 .0) (first told) (second .second .result)
           (second-is second)),
-      kept .small,
+      kept .under,
     )
 
 enum-known-last : tie.Need-enum-known-last
 enum-known-last c = c .match3 .keys1
 
-enum-told-4 : tie.Need-enum-told-4
-enum-told-4 c = c .match3 .keys2
+enum-told-3 : tie.Need-enum-told-3
+enum-told-3 c = c .match3 .keys2
 
 returns-3 : tie.Need-returns-3
 returns-3 c =
@@ -193,7 +201,7 @@ returns-3 c =
     let second = multiplied (called .before .before) .before .before in
     second-refused pivotRule-is-rule (chainCells (now (s .args .s))) (s .args .p) (length (now (s .args .w))) (chains (began told)) (s .pre .1 .0) (started (called .before .before))
     (second .second .result) (second-is second)
-    (reduces-refused (second .second .result) (called .reduce-matrix2 .result) (c .enum-told4 .given .1) (called .reduce-matrix2 .ensures))
+    (reduces-refused (second .second .result) (called .reduce-matrix2 .result) (c .enum-told3 .given .1) (called .reduce-matrix2 .ensures))
 
 same-length-3 : tie.Need-same-length-3
 same-length-3 c = cleared-length (returns-3 c .1)
@@ -214,6 +222,6 @@ same-length-4 c = returns-4 c .kept .same-length
 pub reduce-twice-spec : {M : Type 1} → statement M
 reduce-twice-spec =
     tie.close
-    (tie.spec first-requires fill-first-requires reduce-matrix-requires enum-known-rank enum-told same-length returns second-requires
-    multiply-requires enum-told-2 enum-told-3 (λ c κs. search needs) same-length-2 returns-2 reduce-matrix-requires-2 enum-known-last enum-told-4
+    (tie.spec first-requires fill-first-requires (λ c κs. search needs) reduce-matrix-requires enum-known-rank enum-told same-length returns second-requires
+    multiply-requires enum-known-product enum-told-2 (λ c κs. search needs) same-length-2 returns-2 reduce-matrix-requires-2 enum-known-last enum-told-3
     same-length-3 returns-3 same-length-4 returns-4)

@@ -15,7 +15,7 @@ use Rattle.reports.specs.Report.{kind}
 use Rattle.reports.specs.ReportLaws.{length-reported-le, length-coordinateList}
 use Rattle.reports.specs.Host.{numbersBytes}
 use Rattle.limits.specs.Limits.{hostLimit}
-use Rattle.operations.specs.Laid.{stateOf}
+use Rattle.writers.specs.Written.{stateIn}
 use Rattle.writers.specs.Written.{WrittenFrom, coordinatesOf}
 use Rattle.fildwuk.specs.Lists.{chainOf, listBytes}
 use Rattle.fildwuk.proofs.ChainBytes.{chain-stands, chain-read, chain-length}
@@ -80,7 +80,7 @@ module _ (c : tie.After-read-chain Inv-loop μ-loop) where
 
   list-short : length list ≤ cells
   list-short =
-      let x = start .args .reduced in let state = stateOf (x .layout) (now (start .args .w)) in
+      let x = start .args .reduced in let state = stateIn x (now (start .args .w)) in
       omega (
         arith,
         length-coordinateList (x .layout .«row_follower» .width) (x .layout .matrix .lines) state (chainOf cells number bytes i),

@@ -12,6 +12,7 @@ use Rattle.integers.specs.Order.{natAbs-neg}
 use mir.Val.{SFits}
 use lib.IntN.{ℤ, pos, negℤ, natAbs, _-ℤ_}
 use Rattle.lines.specs.Slice.{entryLimit, at, LineSet}
+use Rattle.lines.proofs.Peaks.{written, under-entry, raised-kept}
 use Rattle.lines.proofs.Store.{lineSet-none, lineSet-more, lineSet-next}
 use Rattle.words.specs.Read.{read, entry-fits, read-entry}
 use Rattle.lines.proofs.line.negate.Statement.{statement}
@@ -20,42 +21,45 @@ use Rattle.lines.proofs.line.negate.Tie as tie
 abbrev negated : List ℤ → ℕ → ℕ → ℤ
 negated w start t = negℤ (at w (start + t))
 
-record Invariant (w₀ : List ℤ) (start width t : ℕ) (w : List ℤ) : Type 0 where
+record Invariant (w₀ : List ℤ) (start width peak t : ℕ) (w : List ℤ) : Type 0 where
   below : t ≤ width
   inside : start + width ≤ length w₀
-  so-far : LineSet w₀ start t (negated w₀ start) w
+  so-far : LineSet w₀ start t (negated w₀ start) peak (written peak) w
 
-module _ {w₀ : List ℤ} {start width t : ℕ} {w : List ℤ} (inv : Invariant w₀ start width t w) where
+module _ {w₀ : List ℤ} {start width peak t : ℕ} {w : List ℤ} (inv : Invariant w₀ start width peak t w) where
   -- what the machine computes
   opposite-is : t < width → pos 0 -ℤ read w32 (at w (start + t)) ≡ negated w₀ start t
   opposite-is more =
-      rw (read-entry (at w (start + t)) (inv .so-far .small .bound (start + t)), lineSet-next w₀ w start t (negated w₀ start) (omega arith) (inv .so-far))
+      rw (read-entry (at w (start + t)) (under-entry (inv .so-far .under) (start + t)), lineSet-next w₀ w start t (negated w₀ start) (omega arith) (inv .so-far))
       (zero-add (negated w₀ start t))
 
+  opposite-under : t < width → natAbs (negated w₀ start t) ≤ peak
+  opposite-under more =
+      rw (natAbs-neg (at w₀ (start + t)), ← lineSet-next w₀ w start t (negated w₀ start) (omega arith) (inv .so-far)) (inv .so-far .under .bound (start + t))
+
   opposite-small : t < width → natAbs (negated w₀ start t) ≤ entryLimit
-  opposite-small more =
-      rw (natAbs-neg (at w₀ (start + t)), ← lineSet-next w₀ w start t (negated w₀ start) (omega arith) (inv .so-far)) (inv .so-far .small .bound (start + t))
+  opposite-small more = NatL.le-trans (opposite-under more) (inv .so-far .under .limit)
 
   fits : t < width → SFits w32 (pos 0 -ℤ read w32 (at w (start + t)))
   fits more = rw (opposite-is more) (entry-fits (negated w₀ start t) (opposite-small more))
 
   -- a turn of the loop
-  again : t < width → Invariant w₀ start width (t + 1) (set w (start + t) (read w32 (pos 0 -ℤ read w32 (at w (start + t)))))
+  again : t < width → Invariant w₀ start width peak (t + 1) (set w (start + t) (read w32 (pos 0 -ℤ read w32 (at w (start + t)))))
   again more = record {
     below = omega arith;
     inside = inv .inside;
     so-far = rw (opposite-is more, read-entry (negated w₀ start t) (opposite-small more))
-        (lineSet-more w₀ w start t (negated w₀ start) (omega arith) (inv .so-far) (opposite-small more));
+        (lineSet-more w₀ w start t (negated w₀ start) (omega arith) (inv .so-far) (raised-kept (opposite-under more) (inv .so-far .under .limit)));
   }
 
-  ended : width ≤ t → LineSet w₀ start width (negated w₀ start) w
-  ended done = subst (λ (n : ℕ). LineSet w₀ start n (negated w₀ start) w) (NatL.le-antisymm (inv .below) done) (inv .so-far)
+  ended : width ≤ t → LineSet w₀ start width (negated w₀ start) peak (written peak) w
+  ended done = subst (λ (n : ℕ). LineSet w₀ start n (negated w₀ start) peak (written peak) w) (NatL.le-antisymm (inv .below) done) (inv .so-far)
 
 abbrev Inv-loop : tie.InvT-loop
-Inv-loop w₀ start width t₀ w t = Invariant w₀ start width t w
+Inv-loop w₀ start width peak t₀ w t = Invariant w₀ start width peak t w
 
 abbrev μ-loop : tie.MeasureT-loop
-μ-loop w₀ start width t₀ w t = width - t
+μ-loop w₀ start width peak t₀ w t = width - t
 
 loop-holds : tie.Need-loop-holds Inv-loop μ-loop
 loop-holds c = record {

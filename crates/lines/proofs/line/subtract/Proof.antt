@@ -1,4 +1,4 @@
--- `line::subtract` meets its contract. The invariant: the blocks passed hold the difference. The measure is what is left of the line.
+-- `line::subtract` meets its contract. The invariant: the blocks passed hold the difference, with the peak so far. The measure is what is left of the line.
 -- Assumes nothing.
 use mathlib.Core.Path.{_≡_, subst, _∙_}
 use Prim.Native.Nat.{_+_, _-_, _≤_}
@@ -9,15 +9,16 @@ use mir.Val.{toZ, ofZ}
 use Rattle.lines.specs.Slice.{block, Subtracted}
 use Rattle.lines.specs.declared.line.Effect.{Effect}
 use Rattle.lines.specs.declared.line.Effect.the-variants.{Done, TooWide}
+use Rattle.lines.proofs.Peaks.{written}
 use Rattle.lines.proofs.Blocks.{Partly, begun, part-inside, part-apart, part-done, part-beyond, part-last, factor-read}
 use Rattle.lines.proofs.line.subtract.Statement.{statement}
 use Rattle.lines.proofs.line.subtract.Tie as tie
 
 abbrev Inv-loop : tie.InvT-loop
-Inv-loop w₀ target source width q t₀ w t = Partly w₀ target source width (toZ w64 q) t w
+Inv-loop w₀ target source width q peak largest₀ t₀ w largest t = Partly w₀ target source width (toZ w64 q) peak t (written largest) w
 
 abbrev μ-loop : tie.MeasureT-loop
-μ-loop w₀ target source width q t₀ w t = width - t
+μ-loop w₀ target source width q peak largest₀ t₀ w largest t = width - t
 
 loop-holds : tie.Need-loop-holds Inv-loop μ-loop
 loop-holds c = begun (c .args .q) (c .pre .0) (c .pre .1 .0) (c .pre .1 .1 .0) (c .pre .1 .1 .1)
@@ -28,13 +29,7 @@ add-loop c = omega (arith, c .loop .inv .below)
 subtract-block-requires : tie.Need-subtract-block-requires Inv-loop μ-loop
 subtract-block-requires c κs =
     let partly = c .before .before .loop .inv in let inside = c .before .loop-test .taken in
-    (part-inside partly block inside, (part-apart partly block inside, (partly .so-far .small, partly .factor)))
-
-enum-told : tie.Need-enum-told Inv-loop μ-loop
-enum-told c = search needs
-
-enum-told-2 : tie.Need-enum-told-2 Inv-loop μ-loop
-enum-told-2 c = search needs
+    (part-inside partly block inside, (part-apart partly block inside, (partly .so-far .under, partly .factor)))
 
 same-length : tie.Need-same-length Inv-loop μ-loop
 same-length c = c .before .before .before .subtract-block .kept .0 ∙ c .before .before .before .before .before .before .loop .inv .so-far .same-length
@@ -43,28 +38,28 @@ same-length c = c .before .before .before .subtract-block .kept .0 ∙ c .before
 became :
     (c : tie.After-subtract-block Inv-loop μ-loop) (r : Effect) → c .subtract-block .result ≡ r
     → (let loop = c .before .before .before .loop in let args = c .before .before .before .before .args in
-    Subtracted (loop .w) (args .target + loop .t) (args .source + loop .t) block (toZ w64 (ofZ w64 (args .q))) r (c .subtract-block .last .0))
+    Subtracted (loop .w) (args .target + loop .t) (args .source + loop .t) block (toZ w64 (ofZ w64 (args .q))) (loop .largest) r (c .subtract-block .last .0))
 became c r e =
     let loop = c .before .before .before .loop in let args = c .before .before .before .before .args in
-    subst (λ (r : Effect). Subtracted (loop .w) (args .target + loop .t) (args .source + loop .t) block (toZ w64 (ofZ w64 (args .q))) r (c .subtract-block .last .0)) e
+    subst (λ (r : Effect). Subtracted (loop .w) (args .target + loop .t) (args .source + loop .t) block (toZ w64 (ofZ w64 (args .q))) (loop .largest) r (c .subtract-block .last .0)) e
     (c .subtract-block .ensures)
 
 returns : tie.Need-returns Inv-loop μ-loop
 returns c =
     let called = c .before .before .before in let loop = called .before .before .before in let start = loop .before in
-    factor-read (start .args .w .now) (start .args .target) (start .args .source) (start .args .width) (start .args .q) (start .pre .1 .1 .1) TooWide (called .subtract-block .last .0)
-    (part-beyond (loop .loop .inv) block (called .before .before .loop-test .taken) (became called TooWide (c .enum-told2 .given .1)))
+    factor-read (start .args .w .now) (start .args .target) (start .args .source) (start .args .width) (start .args .q) (start .pre .1 .1 .1) (start .args .peak) TooWide (called .subtract-block .last .0)
+    (part-beyond (loop .loop .inv) block (called .before .before .loop-test .taken) (became called TooWide (c .enum-told .given .1)))
 
 loop-again : tie.Need-loop-again Inv-loop μ-loop
 loop-again c =
-    let called = c .before .before .before in let loop = called .before .before .before in
-    part-done (loop .loop .inv) block (called .before .before .loop-test .taken) (became called (Done _) (c .enum-told .given .1))
+    let called = c .before .before .before .before in let loop = called .before .before .before in
+    part-done (loop .loop .inv) block (called .before .before .loop-test .taken) (became called (Done _) (c .before .written .given .1))
 
 subtract-places-requires : tie.Need-subtract-places-requires Inv-loop μ-loop
 subtract-places-requires c κs =
     let loop = c .before .before .loop in let rest = c .before .before .before .args .width - loop .t in
     let inside : loop .t + rest ≤ c .before .before .before .args .width = omega (arith, loop .inv .below) in
-    (part-inside (loop .inv) rest inside, (part-apart (loop .inv) rest inside, (loop .inv .so-far .small, loop .inv .factor)))
+    (part-inside (loop .inv) rest inside, (part-apart (loop .inv) rest inside, (loop .inv .so-far .under, loop .inv .factor)))
 
 same-length-2 : tie.Need-same-length-2 Inv-loop μ-loop
 same-length-2 c = c .before .subtract-places .kept .0 ∙ c .before .before .before .before .loop .inv .so-far .same-length
@@ -73,11 +68,11 @@ returns-2 : tie.Need-returns-2 Inv-loop μ-loop
 returns-2 c =
     let called = c .before .subtract-places in let loop = c .before .before .before .before in let start = loop .before in
     let rest = start .args .width - loop .loop .t in
-    factor-read (start .args .w .now) (start .args .target) (start .args .source) (start .args .width) (start .args .q) (start .pre .1 .1 .1) (called .result) (called .last .0)
+    factor-read (start .args .w .now) (start .args .target) (start .args .source) (start .args .width) (start .args .q) (start .pre .1 .1 .1) (start .args .peak) (called .result) (called .last .0)
     (part-last (loop .loop .inv) rest (omega (arith, loop .loop .inv .below)) (omega (arith, loop .loop .inv .below)) (called .result) (called .last .0) (called .ensures))
 
 pub subtract-spec : {M : Type 1} → statement M
 subtract-spec =
     tie.close
-    (tie.spec Inv-loop μ-loop loop-holds add-loop (λ c. search needs) (λ c. search needs) subtract-block-requires enum-told
-    enum-told-2 same-length returns (λ c. search needs) (λ c. search needs) loop-again (λ c. search needs) (λ c. search needs) (λ c. search needs) subtract-places-requires same-length-2 returns-2)
+    (tie.spec Inv-loop μ-loop loop-holds add-loop (λ c. search needs) (λ c. search needs) subtract-block-requires (λ c. search needs)
+    (λ c. search needs) same-length returns (λ c. search needs) (λ c. search needs) loop-again (λ c. search needs) (λ c. search needs) (λ c. search needs) subtract-places-requires same-length-2 returns-2)

@@ -1,32 +1,35 @@
--- `line::subtract_places` meets its contract. The invariant: the places passed hold the difference, which lies within the limit. The measure is
--- what is left of the line. Assumes nothing.
+-- `line::subtract_places` meets its contract. The invariant: the places passed hold the difference, and the peak so far is the largest of theirs and the
+-- one handed over. The measure is what is left of the line. Assumes nothing.
 use mathlib.Core.Path.{_≡_, sym, subst, _∙_}
 use mathlib.Core.Logic.{inl, inr, ⊎-elim}
 use mathlib.Core.List.{List}
-use Prim.Native.Nat.{ℕ, _+_, _-_, _<_, _≤_}
+use Prim.Native.Nat.{ℕ, _+_, _-_, _^_, _<_, _≤_}
 use native.Mathlib.Omega.{arith}
 use lib.ListN.{set}
 use lib.IntN.{ℤ, natAbs}
 use mir.Syntax.{w32, w64}
 use mir.Val.{SFits, toZ}
+use mir.Facts.{fits-lit}
 use Rattle.lines.specs.Slice.{entryLimit, at, LineSet, Beyond, difference}
-use mir.Facts.{sfits-lit}
+use Rattle.lines.specs.declared.line.Written.{Written}
+use Rattle.lines.specs.declared.line.Effect.the-variants.{Done, TooWide}
+use Rattle.lines.proofs.Peaks.{written, under-entry, Raised, raised-by, raised-small}
 use Rattle.lines.proofs.Store.{lineSet-more}
-use Rattle.lines.proofs.Blocks.{Partly, begun, ended}
-use Rattle.words.specs.Read.{read, read-entry, read-wide, entry-fits, cast-fits}
-use Rattle.words.specs.Product.{product, less, product-fits, less-fits, read-less}
-use Rattle.words.specs.Tests.{beyond-low, beyond-high, within}
+use Rattle.lines.proofs.Blocks.{Partly, begun, ended, factor-read}
+use Rattle.words.specs.Read.{read, read-entry, entry-fits, cast-fits}
+use Rattle.words.specs.Product.{product, less, product-fits, less-fits, read-less, less-small}
 use Rattle.lines.proofs.line.subtract_places.Statement.{statement}
 use Rattle.lines.proofs.line.subtract_places.Tie as tie
 
 -- ---- a turn of the loop
 
-module _ {w₀ : List ℤ} {target source width : ℕ} {q : ℤ} {t : ℕ} {w : List ℤ} (inv : Partly w₀ target source width q t w) (more : t < width) where
+module _ {w₀ : List ℤ} {target source width : ℕ} {q : ℤ} {peak t : ℕ} {x : Written} {w : List ℤ}
+    (inv : Partly w₀ target source width q peak t x w) (more : t < width) where
   target-small : natAbs (at w (target + t)) ≤ entryLimit
-  target-small = inv .so-far .small .bound (target + t)
+  target-small = under-entry (inv .so-far .under) (target + t)
 
   source-small : natAbs (at w (source + t)) ≤ entryLimit
-  source-small = inv .so-far .small .bound (source + t)
+  source-small = under-entry (inv .so-far .under) (source + t)
 
   target-same : at w (target + t) ≡ at w₀ (target + t)
   target-same = inv .so-far .off (target + t) (inr (omega arith))
@@ -55,32 +58,34 @@ module _ {w₀ : List ℤ} {target source width : ℕ} {q : ℤ} {t : ℕ} {w : 
       read-less (at w (target + t)) q (at w (source + t)) target-small (inv .factor) source-small
       ∙ rw (target-same, source-same)
 
+  computed-small : natAbs computed < 2 ^ 63
+  computed-small = less-small (at w (target + t)) q (at w (source + t)) target-small (inv .factor) source-small
+
   too-wide : entryLimit < natAbs computed → Beyond w₀ width (difference w₀ target source q) w
   too-wide l = record {
     same-length = inv .so-far .same-length;
     place = t;
     below = more;
     beyond = subst (λ (z : ℤ). entryLimit < natAbs z) computed-is l;
-    small = inv .so-far .small;
   }
 
-  again : natAbs computed ≤ entryLimit → Partly w₀ target source width q (t + 1) (set w (target + t) (read w32 computed))
-  again l = record {
+  again : {n : ℕ} → Raised (x .peak) computed n → Partly w₀ target source width q peak (t + 1) (written n) (set w (target + t) (read w32 computed))
+  again {n} raised = record {
     below = omega arith;
     target-inside = inv .target-inside;
     source-inside = inv .source-inside;
     apart = inv .apart;
     factor = inv .factor;
-    so-far = subst (λ (z : ℤ). LineSet w₀ target (t + 1) (difference w₀ target source q) (set w (target + t) z))
-        (sym computed-is ∙ sym (read-entry computed l))
-        (lineSet-more w₀ w target t (difference w₀ target source q) (omega arith) (inv .so-far) (subst (λ (z : ℤ). natAbs z ≤ entryLimit) computed-is l));
+    so-far = subst (λ (z : ℤ). LineSet w₀ target (t + 1) (difference w₀ target source q) peak (written n) (set w (target + t) z))
+        (sym computed-is ∙ sym (read-entry computed (raised-small raised)))
+        (lineSet-more w₀ w target t (difference w₀ target source q) (omega arith) (inv .so-far) (subst (λ (z : ℤ). Raised (x .peak) z n) computed-is raised));
   }
 
 abbrev Inv-loop : tie.InvT-loop
-Inv-loop w₀ target source width q t₀ w t = Partly w₀ target source width (toZ w64 q) t w
+Inv-loop w₀ target source width q peak largest₀ t₀ w largest t = Partly w₀ target source width (toZ w64 q) peak t (written largest) w
 
 abbrev μ-loop : tie.MeasureT-loop
-μ-loop w₀ target source width q t₀ w t = width - t
+μ-loop w₀ target source width q peak largest₀ t₀ w largest t = width - t
 
 loop-holds : tie.Need-loop-holds Inv-loop μ-loop
 loop-holds c = begun (c .args .q) (c .pre .0) (c .pre .1 .0) (c .pre .1 .1 .0) (c .pre .1 .1 .1)
@@ -97,48 +102,56 @@ mul-v c = product-word (c .before .before .before .loop .inv) (c .before .before
 sub-v : tie.Need-sub-v Inv-loop μ-loop
 sub-v c = less-word (c .before .before .before .loop .inv) (c .before .before .loop-test .taken)
 
-sub-if1 : tie.Need-sub-if1 Inv-loop μ-loop
-sub-if1 c = sfits-lit tt
+absolute-requires : tie.Need-absolute-requires Inv-loop μ-loop
+absolute-requires c κs = computed-small (c .before .before .before .loop .inv) (c .before .before .loop-test .taken)
+
+cast-if2 : tie.Need-cast-if2 Inv-loop μ-loop
+cast-if2 c = (tt, fits-lit tt)
+
+-- ---- after the difference is computed
+
+module _ (c : tie.After-absolute Inv-loop μ-loop) where
+  abbrev head : tie.At-loop Inv-loop μ-loop
+  head = c .before .before .before .before
+
+  more : head .loop .t < head .before .args .width
+  more = c .before .before .before .loop-test .taken
+
+  abbrev value : ℤ
+  value = computed (head .loop .inv) more
 
 same-length : tie.Need-same-length Inv-loop μ-loop
-same-length c = c .before .before .before .before .loop .inv .so-far .same-length
+same-length c = head (c .before .before) .loop .inv .so-far .same-length
 
 returns : tie.Need-returns Inv-loop μ-loop
 returns c =
-    let start = c .before .before .before .before .before in let inv = c .before .before .before .before .loop .inv in let more = c .before .before .before .loop-test .taken in
-    subst (λ (k : ℤ). Beyond (start .args .w .now) (start .args .width) (difference (start .args .w .now) (start .args .target) (start .args .source) k) (c .before .before .before .before .loop .w))
-    (read-wide (start .args .q) (start .pre .1 .1 .1)) (too-wide inv more (beyond-low entryLimit (computed inv more) (c .if1 .taken)))
+    let at = c .before .before in let args = head at .before .args in
+    factor-read (args .w .now) (args .target) (args .source) (args .width) (args .q) (head at .before .pre .1 .1 .1) (args .peak) TooWide (head at .loop .w)
+    (too-wide (head at .loop .inv) (more at) (omega (arith, c .if2 .taken, at .absolute .ensures)))
+
+raised : (c : tie.Joined1 Inv-loop μ-loop) → Raised (head (c .before) .loop .largest) (value (c .before)) (c .if1 .largest)
+raised c =
+    raised-by (value (c .before)) (c .before .absolute .ensures) (head (c .before) .loop .inv .so-far .under .limit)
+    (⊎-elim (λ h. inl (h .0 .taken, h .1 .left, h .2)) (λ h. inr (h .0 .left, h .1)) (c .if1 .came))
+
+cast-w : tie.Need-cast-w Inv-loop μ-loop
+cast-w c = entry-fits (value (c .before)) (raised-small (raised c))
+
+loop-again : tie.Need-loop-again Inv-loop μ-loop
+loop-again c = again (head (c .before) .loop .inv) (more (c .before)) (raised c)
 
 same-length-2 : tie.Need-same-length-2 Inv-loop μ-loop
-same-length-2 c = c .before .before .before .before .before .loop .inv .so-far .same-length
+same-length-2 c = c .before .loop .inv .so-far .same-length
 
 returns-2 : tie.Need-returns-2 Inv-loop μ-loop
 returns-2 c =
-    let start = c .before .before .before .before .before .before in let inv = c .before .before .before .before .before .loop .inv in let more = c .before .before .before .before .loop-test .taken in
-    subst (λ (k : ℤ). Beyond (start .args .w .now) (start .args .width) (difference (start .args .w .now) (start .args .target) (start .args .source) k) (c .before .before .before .before .before .loop .w))
-    (read-wide (start .args .q) (start .pre .1 .1 .1)) (too-wide inv more (beyond-high entryLimit (computed inv more) (c .if2 .taken)))
-
-stays : (c : tie.Else2 Inv-loop μ-loop) → natAbs (computed (c .before .before .before .before .before .loop .inv) (c .before .before .before .before .loop-test .taken)) ≤ entryLimit
-stays c = within entryLimit (computed (c .before .before .before .before .before .loop .inv) (c .before .before .before .before .loop-test .taken)) (c .before .if1 .left) (c .if2 .left)
-
-cast-w : tie.Need-cast-w Inv-loop μ-loop
-cast-w c = entry-fits (computed (c .before .before .before .before .before .loop .inv) (c .before .before .before .before .loop-test .taken)) (stays c)
-
-loop-again : tie.Need-loop-again Inv-loop μ-loop
-loop-again c = again (c .before .before .before .before .before .loop .inv) (c .before .before .before .before .loop-test .taken) (stays c)
-
-same-length-3 : tie.Need-same-length-3 Inv-loop μ-loop
-same-length-3 c = c .before .loop .inv .so-far .same-length
-
-returns-3 : tie.Need-returns-3 Inv-loop μ-loop
-returns-3 c =
-    let start = c .before .before in
-    subst (λ (k : ℤ). LineSet (start .args .w .now) (start .args .target) (start .args .width) (difference (start .args .w .now) (start .args .target) (start .args .source) k) (c .before .loop .w))
-    (read-wide (start .args .q) (start .pre .1 .1 .1)) (ended (c .before .loop .inv) (c .loop-test .left))
+    let args = c .before .before .args in let loop = c .before .loop in
+    factor-read (args .w .now) (args .target) (args .source) (args .width) (args .q) (c .before .before .pre .1 .1 .1) (args .peak) (Done (written (loop .largest))) (loop .w)
+    (ended (loop .inv) (c .loop-test .left))
 
 pub subtract-places-spec : {M : Type 1} → statement M
 subtract-places-spec =
     tie.close
     (tie.spec Inv-loop μ-loop loop-holds (λ c. omega arith) (λ c. omega arith) (λ c. omega arith) cast-x (λ c. omega arith) (λ c. omega arith)
-    (λ c. omega arith) cast-y mul-v sub-v sub-if1 same-length returns same-length-2 returns-2 cast-w (λ c. omega arith) (λ c. omega arith)
-    (λ c. omega arith) (λ c. omega arith) (λ c. omega arith) loop-again same-length-3 returns-3)
+    (λ c. omega arith) cast-y mul-v sub-v absolute-requires cast-if2 same-length returns cast-w (λ c. omega arith) (λ c. omega arith)
+    (λ c. omega arith) (λ c. omega arith) (λ c. omega arith) loop-again same-length-2 returns-2)

@@ -10,38 +10,39 @@ use lib.ListN.{length, set, length-set}
 use mir.Syntax.{w32}
 use lib.IntN.{ℤ}
 use Rattle.lines.specs.Slice.{at, Apart, LinesSwapped}
+use Rattle.lines.proofs.Peaks.{written, under-entry}
 use Rattle.lines.proofs.Store.{swapped-none, swapped-more}
 use Rattle.words.specs.Read.{read, read-entry}
 use Rattle.lines.proofs.line.swap.Statement.{statement}
 use Rattle.lines.proofs.line.swap.Tie as tie
 
-record Invariant (w₀ : List ℤ) (first second width t : ℕ) (w : List ℤ) : Type 0 where
+record Invariant (w₀ : List ℤ) (first second width peak t : ℕ) (w : List ℤ) : Type 0 where
   below : t ≤ width
   first-inside : first + width ≤ length w₀
   second-inside : second + width ≤ length w₀
   apart : (first ≡ second) ⊎ Apart first second width
-  swapped : LinesSwapped w₀ first second t w
+  swapped : LinesSwapped w₀ first second t peak (written peak) w
 
-module _ {w₀ : List ℤ} {first second width t : ℕ} {w : List ℤ} (inv : Invariant w₀ first second width t w) where
+module _ {w₀ : List ℤ} {first second width peak t : ℕ} {w : List ℤ} (inv : Invariant w₀ first second width peak t w) where
   -- a turn of the loop
-  again : t < width → Invariant w₀ first second width (t + 1) (set (set w (first + t) (read w32 (at w (second + t)))) (second + t) (read w32 (at w (first + t))))
+  again : t < width → Invariant w₀ first second width peak (t + 1) (set (set w (first + t) (read w32 (at w (second + t)))) (second + t) (read w32 (at w (first + t))))
   again more = record {
     below = omega arith;
     first-inside = inv .first-inside;
     second-inside = inv .second-inside;
     apart = inv .apart;
-    swapped = rw (read-entry (at w (first + t)) (inv .swapped .small .bound (first + t)), read-entry (at w (second + t)) (inv .swapped .small .bound (second + t)))
+    swapped = rw (read-entry (at w (first + t)) (under-entry (inv .swapped .under) (first + t)), read-entry (at w (second + t)) (under-entry (inv .swapped .under) (second + t)))
         (swapped-more w₀ w first second width t more (inv .first-inside) (inv .second-inside) (inv .apart) (inv .swapped));
   }
 
-  ended : width ≤ t → LinesSwapped w₀ first second width w
-  ended done = subst (λ (n : ℕ). LinesSwapped w₀ first second n w) (NatL.le-antisymm (inv .below) done) (inv .swapped)
+  ended : width ≤ t → LinesSwapped w₀ first second width peak (written peak) w
+  ended done = subst (λ (n : ℕ). LinesSwapped w₀ first second n peak (written peak) w) (NatL.le-antisymm (inv .below) done) (inv .swapped)
 
 abbrev Inv-loop : tie.InvT-loop
-Inv-loop w₀ first second width t₀ w t = Invariant w₀ first second width t w
+Inv-loop w₀ first second width peak t₀ w t = Invariant w₀ first second width peak t w
 
 abbrev μ-loop : tie.MeasureT-loop
-μ-loop w₀ first second width t₀ w t = width - t
+μ-loop w₀ first second width peak t₀ w t = width - t
 
 loop-holds : tie.Need-loop-holds Inv-loop μ-loop
 loop-holds c = record {

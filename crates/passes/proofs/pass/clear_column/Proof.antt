@@ -10,17 +10,17 @@ use Rattle.matrices.specs.Operation.{subtract}
 use Rattle.lines.specs.Matrices.{contents}
 use Rattle.words.specs.Read.{read, wide-small}
 use Rattle.operations.proofs.Unchanged.{rows-unchanged}
-use Rattle.passes.proofs.States.{held-matrix, operated-done, operated-wide}
+use Rattle.passes.proofs.States.{held-matrix, operated-done, operated-under, operated-wide}
 use Rattle.passes.proofs.Words.{quotient-asks, quotient-read}
 use Rattle.passes.proofs.Passes.{pass-refused, RowPassing, rows-start, rows-next, rows-wide, rows-end}
 use Rattle.passes.proofs.pass.clear_column.Statement.{statement}
 use Rattle.passes.proofs.pass.clear_column.Tie as tie
 
 abbrev Inv-loop : tie.InvT-loop
-Inv-loop W w₀ k m rows i₀ w i = RowPassing W k w₀ i w
+Inv-loop W w₀ k peak m rows largest₀ i₀ w largest i = RowPassing W k peak w₀ i largest w
 
 abbrev μ-loop : tie.MeasureT-loop
-μ-loop W w₀ k m rows i₀ w i = W .matrix .lines - i
+μ-loop W w₀ k peak m rows largest₀ i₀ w largest i = W .matrix .lines - i
 
 -- a turn of the loop, after its two entries were read
 module _ (c : tie.After-entry2 Inv-loop μ-loop) where
@@ -41,7 +41,7 @@ taken :
 taken c =
     let e = c .before in
     let h = head e .loop .inv .placed in
-    quotient-read (start e .args .layout) (start e .args .k) (head e .loop .w) (h .small) (h .ready) (head e .loop .i) (start e .args .k)
+    quotient-read (start e .args .layout) (start e .args .k) (head e .loop .w) (h .under) (h .ready) (head e .loop .i) (start e .args .k)
     (e .before .before .entry .ensures) (e .entry2 .ensures) (c .quotient .ensures)
 
 add-i : tie.Need-add-i Inv-loop μ-loop
@@ -63,7 +63,7 @@ entry-requires-2 c κs =
 quotient-requires : tie.Need-quotient-requires Inv-loop μ-loop
 quotient-requires c κs =
     let h = head c .loop .inv .placed in
-    quotient-asks (start c .args .layout) (start c .args .k) (head c .loop .w) (h .small) (h .ready) (head c .loop .i) (start c .args .k) (c .before .before .entry .ensures) (c .entry2 .ensures)
+    quotient-asks (start c .args .layout) (start c .args .k) (head c .loop .w) (h .under) (h .ready) (head c .loop .i) (start c .args .k) (c .before .before .entry .ensures) (c .entry2 .ensures)
 
 -- a quotient of 0: nothing is called
 add-i-2 : tie.Need-add-i-2 Inv-loop μ-loop
@@ -79,8 +79,8 @@ loop-again c =
     let e = c .before .before in
     let inv = head e .loop .inv in
     let q = read w64 (c .before .quotient .result) in
-    rows-next inv (turn e .loop-test .taken) (taken (c .before)) refl (inv .placed .small)
-    (rows-unchanged (start e .args .layout) (head e .loop .w) (inv .placed .laid) (inv .placed .small) (subtract (head e .loop .i) (start e .args .k) q) (ap (λ (bits : ℕ). toZ w64 bits) (c .if1 .taken)) (record {
+    rows-next inv (turn e .loop-test .taken) (taken (c .before)) refl (inv .placed .under)
+    (rows-unchanged (start e .args .layout) (head e .loop .largest) (head e .loop .w) (inv .placed .laid) (inv .placed .under) (subtract (head e .loop .i) (start e .args .k) q) (ap (λ (bits : ℕ). toZ w64 bits) (c .if1 .taken)) (record {
       within = record { changed = turn e .loop-test .taken; taken = inv .placed .ready .row; distinct = λ same. omega (arith, inv .from) };
       factor = wide-small (c .before .quotient .result) (c .before .quotient .ensures .1);
     }))
@@ -92,7 +92,7 @@ on-rows-requires c κs =
     let small-quotient = wide-small (c .before .before .quotient .result) (c .before .before .quotient .ensures .1) in (
       inv .placed .laid,
       (
-        inv .placed .small,
+        inv .placed .under,
         record {
           within = record { changed = turn e .loop-test .taken; taken = inv .placed .ready .row; distinct = λ same. omega (arith, inv .from) };
           factor = small-quotient;
@@ -100,11 +100,11 @@ on-rows-requires c κs =
       ),
     )
 
-enum-told : tie.Need-enum-told Inv-loop μ-loop
-enum-told c = c .match .keys1
+enum-known-written : tie.Need-enum-known-written Inv-loop μ-loop
+enum-known-written c = c .match .keys1
 
-enum-told-2 : tie.Need-enum-told-2 Inv-loop μ-loop
-enum-told-2 c = c .match .keys2
+enum-told : tie.Need-enum-told Inv-loop μ-loop
+enum-told c = c .match .keys2
 
 clear-requires : tie.Need-clear-requires Inv-loop μ-loop
 clear-requires c κs = tt
@@ -120,25 +120,25 @@ returns c =
     let quotient = called .before .before .before in
     let inv = head (quotient .before) .loop .inv in
     pass-refused (called .on-rows .last .1 .0)
-    (rows-wide inv (turn (quotient .before) .loop-test .taken) (taken quotient) (operated-wide (called .on-rows .ensures) (c .before .before .before .enum-told2 .given .1)))
+    (rows-wide inv (turn (quotient .before) .loop-test .taken) (taken quotient) (operated-wide (called .on-rows .ensures) (c .before .before .before .enum-told .given .1)))
     (c .before .clear .ensures) (called .on-rows .kept .1 .0 ∙ inv .same-length)
 
 add-i-3 : tie.Need-add-i-3 Inv-loop μ-loop
 add-i-3 c =
-    let e = c .before .before .before .before .before .before .before in
+    let e = c .before .before .before .before .before .before .before .before in
     omega (arith, turn e .loop-test .taken, start e)
 
 loop-less-2 : tie.Need-loop-less-2 Inv-loop μ-loop
 loop-less-2 c =
-    let e = c .before .before .before .before .before .before .before in
+    let e = c .before .before .before .before .before .before .before .before in
     omega (arith, turn e .loop-test .taken)
 
 loop-again-2 : tie.Need-loop-again-2 Inv-loop μ-loop
 loop-again-2 c =
-    let called = c .before .before .before .on-rows in
-    let quotient = c .before .before .before .before .before .before in
-    rows-next (head (quotient .before) .loop .inv) (turn (quotient .before) .loop-test .taken) (taken quotient) (called .kept .1 .0) (called .ensures .small)
-    (operated-done (called .ensures) (c .enum-told .given .1))
+    let called = c .before .before .before .before .on-rows in let is = c .before .written .given .1 in
+    let quotient = c .before .before .before .before .before .before .before in
+    rows-next (head (quotient .before) .loop .inv) (turn (quotient .before) .loop-test .taken) (taken quotient) (called .kept .1 .0) (operated-under (called .ensures) is)
+    (operated-done (called .ensures) is)
 
 same-length-2 : tie.Need-same-length-2 Inv-loop μ-loop
 same-length-2 c = c .before .loop .inv .same-length
@@ -161,8 +161,8 @@ clear-column-spec =
     loop-less
     loop-again
     on-rows-requires
+    enum-known-written
     enum-told
-    enum-told-2
     clear-requires
     same-length
     returns

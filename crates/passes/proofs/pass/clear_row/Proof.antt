@@ -7,18 +7,19 @@ use borrow.Author.Needs.{needs}
 use mir.Syntax.{w64}
 use Rattle.integers.specs.Division.{floor}
 use Rattle.lines.specs.Matrices.{contents}
+use Rattle.lines.proofs.Peaks.{under-small}
 use Rattle.words.specs.Read.{read, wide-small}
-use Rattle.passes.proofs.States.{held-matrix, operated-done, operated-wide}
+use Rattle.passes.proofs.States.{held-matrix, operated-done, operated-under, operated-wide}
 use Rattle.passes.proofs.Words.{quotient-asks, quotient-read}
 use Rattle.passes.proofs.Passes.{pass-refused, column-zero, ColumnPassing, columns-start, columns-next, columns-first, row-inside, columns-wide, columns-end}
 use Rattle.passes.proofs.pass.clear_row.Statement.{statement}
 use Rattle.passes.proofs.pass.clear_row.Tie as tie
 
 abbrev Inv-loop : tie.InvT-loop
-Inv-loop W w₀ k m columns j₀ w j = ColumnPassing W k w₀ j w
+Inv-loop W w₀ k peak m columns largest₀ j₀ w largest j = ColumnPassing W k peak w₀ j largest w
 
 abbrev μ-loop : tie.MeasureT-loop
-μ-loop W w₀ k m columns j₀ w j = W .matrix .width - j
+μ-loop W w₀ k peak m columns largest₀ j₀ w largest j = W .matrix .width - j
 
 -- a turn of the loop, after its two entries were read
 module _ (c : tie.After-entry2 Inv-loop μ-loop) where
@@ -39,7 +40,7 @@ taken :
 taken c =
     let e = c .before in
     let h = head e .loop .inv .clear in
-    quotient-read (start e .args .layout) (start e .args .k) (head e .loop .w) (h .small) (h .ready .ready) (start e .args .k) (head e .loop .j)
+    quotient-read (start e .args .layout) (start e .args .k) (head e .loop .w) (h .under) (h .ready .ready) (start e .args .k) (head e .loop .j)
     (e .before .before .entry .ensures) (e .entry2 .ensures) (c .quotient .ensures)
 
 line-requires : tie.Need-line-requires Inv-loop μ-loop
@@ -51,7 +52,7 @@ add-first-nonzero c = let s = c .before .before .before in omega (arith, s .pre 
 first-nonzero-requires : tie.Need-first-nonzero-requires Inv-loop μ-loop
 first-nonzero-requires c κs =
     let h = c .before .before .before .pre in
-    (row-inside (h .laid) (h .ready .ready) (c .line .ensures), omega (arith, h .ready .ready .column), h .small)
+    (row-inside (h .laid) (h .ready .ready) (c .line .ensures), omega (arith, h .ready .ready .column), under-small (h .under))
 
 loop-holds : tie.Need-loop-holds Inv-loop μ-loop
 loop-holds c = columns-first (columns-start (c .before .before .before .before .pre)) (c .before .line .ensures) (c .first-nonzero .ensures)
@@ -69,7 +70,7 @@ entry-requires-2 c κs =
 quotient-requires : tie.Need-quotient-requires Inv-loop μ-loop
 quotient-requires c κs =
     let h = head c .loop .inv .clear in
-    quotient-asks (start c .args .layout) (start c .args .k) (head c .loop .w) (h .small) (h .ready .ready) (start c .args .k) (head c .loop .j) (c .before .before .entry .ensures) (c .entry2 .ensures)
+    quotient-asks (start c .args .layout) (start c .args .k) (head c .loop .w) (h .under) (h .ready .ready) (start c .args .k) (head c .loop .j) (c .before .before .entry .ensures) (c .entry2 .ensures)
 
 on-columns-requires : tie.Need-on-columns-requires Inv-loop μ-loop
 on-columns-requires c κs =
@@ -79,7 +80,7 @@ on-columns-requires c κs =
     let h = inv .clear in (
       h .laid,
       (
-        h .small,
+        h .under,
         (
           record {
             within = record { changed = turn e .loop-test .taken; taken = h .ready .ready .column; distinct = λ same. omega (arith, inv .from) };
@@ -90,11 +91,11 @@ on-columns-requires c κs =
       ),
     )
 
-enum-told : tie.Need-enum-told Inv-loop μ-loop
-enum-told c = c .match .keys1
+enum-known-written : tie.Need-enum-known-written Inv-loop μ-loop
+enum-known-written c = c .match .keys1
 
-enum-told-2 : tie.Need-enum-told-2 Inv-loop μ-loop
-enum-told-2 c = c .match .keys2
+enum-told : tie.Need-enum-told Inv-loop μ-loop
+enum-told c = c .match .keys2
 
 clear-requires : tie.Need-clear-requires Inv-loop μ-loop
 clear-requires c κs = tt
@@ -110,24 +111,26 @@ returns c =
     let quotient = called .before .before in
     let inv = head (quotient .before) .loop .inv in
     pass-refused (called .on-columns .last .1 .0)
-    (columns-wide inv (turn (quotient .before) .loop-test .taken) (taken quotient) (operated-wide (called .on-columns .ensures) (c .before .before .before .enum-told2 .given .1)))
+    (columns-wide inv (turn (quotient .before) .loop-test .taken) (taken quotient) (operated-wide (called .on-columns .ensures) (c .before .before .before .enum-told .given .1)))
     (c .before .clear .ensures) (called .on-columns .kept .1 .0 ∙ inv .same-length)
 
 -- the operation was done
-module _ (c : tie.After-enum-told Inv-loop μ-loop) where
+module _ (c : tie.After-known-told Inv-loop μ-loop) where
   abbrev read-pivot : tie.After-entry2 Inv-loop μ-loop
-  read-pivot = c .before .before .before .before .before .before
+  read-pivot = c .before .before .before .before .before .before .before
 
   next :
-      ColumnPassing (start read-pivot .args .layout) (start read-pivot .args .k) (start read-pivot .args .w .now) (head read-pivot .loop .j + 1)
-      (c .before .before .before .on-columns .last .1 .0)
+      ColumnPassing (start read-pivot .args .layout) (start read-pivot .args .k) (start read-pivot .args .peak) (start read-pivot .args .w .now)
+      (head read-pivot .loop .j + 1) (c .before .written .given .0 .0 .peak) (c .before .before .before .before .on-columns .last .1 .0)
   next =
-      let called = c .before .before .before .on-columns in
-      columns-next (head read-pivot .loop .inv) (turn read-pivot .loop-test .taken) (taken (c .before .before .before .before .before)) (called .kept .1 .0) (called .ensures .small)
-      (operated-done (called .ensures) (c .enum-told .given .1))
+      let called = c .before .before .before .before .on-columns in let is = c .before .written .given .1 in
+      columns-next (head read-pivot .loop .inv) (turn read-pivot .loop-test .taken) (taken (c .before .before .before .before .before .before)) (called .kept .1 .0)
+      (operated-under (called .ensures) is) (operated-done (called .ensures) is)
 
 line-requires-2 : tie.Need-line-requires-2 Inv-loop μ-loop
-line-requires-2 c κs = let h = next (c .before) .clear in search (needs, held-matrix (h .laid) .ends, h .ready .ready .row)
+line-requires-2 c κs =
+    let h = next (c .before) .clear in
+    search (needs, held-matrix (h .laid) .ends, h .ready .ready .row, next (c .before) .same-length, start (read-pivot (c .before)) .good)
 
 add-first-nonzero-2 : tie.Need-add-first-nonzero-2 Inv-loop μ-loop
 add-first-nonzero-2 c = let e = read-pivot (c .before .before) in omega (arith, turn e .loop-test .taken, start e)
@@ -135,7 +138,7 @@ add-first-nonzero-2 c = let e = read-pivot (c .before .before) in omega (arith, 
 first-nonzero-requires-2 : tie.Need-first-nonzero-requires-2 Inv-loop μ-loop
 first-nonzero-requires-2 c κs =
     let h = next (c .before .before) .clear in
-    (row-inside (h .laid) (h .ready .ready) (c .line2 .ensures), omega (arith, turn (read-pivot (c .before .before)) .loop-test .taken), h .small)
+    (row-inside (h .laid) (h .ready .ready) (c .line2 .ensures), omega (arith, turn (read-pivot (c .before .before)) .loop-test .taken), under-small (h .under))
 
 loop-less : tie.Need-loop-less Inv-loop μ-loop
 loop-less c = omega (arith, turn (read-pivot (c .before .before .before)) .loop-test .taken, c .first-nonzero2 .ensures .passed .begins)
@@ -153,5 +156,5 @@ pub clear-row-spec : {M : Type 1} → statement M
 clear-row-spec =
     tie.close
     (tie.spec Inv-loop μ-loop line-requires add-first-nonzero first-nonzero-requires loop-holds entry-requires entry-requires-2 quotient-requires
-    on-columns-requires enum-told enum-told-2 clear-requires same-length returns line-requires-2 add-first-nonzero-2 first-nonzero-requires-2 loop-less
+    on-columns-requires enum-known-written enum-told clear-requires same-length returns line-requires-2 add-first-nonzero-2 first-nonzero-requires-2 loop-less
     loop-again same-length-2 returns-2)

@@ -10,10 +10,10 @@ use Rattle.reducer.proofs.reduction.reduce_matrix.Statement.{statement}
 use Rattle.reducer.proofs.reduction.reduce_matrix.Tie as tie
 
 abbrev Inv-loop : tie.InvT-loop
-Inv-loop W w₀ k₀ w k = Reducing pivotRule W w₀ k w
+Inv-loop W w₀ peak largest₀ k₀ w largest k = Reducing pivotRule W peak w₀ k largest w
 
 abbrev μ-loop : tie.MeasureT-loop
-μ-loop W w₀ k₀ w k = stagesLeft pivotRule W k w
+μ-loop W w₀ peak largest₀ k₀ w largest k = stagesLeft pivotRule W k w
 
 loop-holds : tie.Need-loop-holds Inv-loop μ-loop
 loop-holds c = reducing-start (c .pre .0) (c .pre .1)
@@ -21,63 +21,71 @@ loop-holds c = reducing-start (c .pre .0) (c .pre .1)
 choose-pivot-requires : tie.Need-choose-pivot-requires Inv-loop μ-loop
 choose-pivot-requires c κs = c .before .loop .inv .begun
 
-enum-told : tie.Need-enum-told Inv-loop μ-loop
-enum-told c = c .match .keys1
+enum-known-reached : tie.Need-enum-known-reached Inv-loop μ-loop
+enum-known-reached c = c .match .keys1
+
+-- a stage that was left
+module _ (c : tie.After-w Inv-loop μ-loop) where
+  abbrev called : tie.After-choose-pivot Inv-loop μ-loop
+  called = c .before
+
+  abbrev head : tie.At-loop Inv-loop μ-loop
+  head = called .before .before
 
 -- the stage is cleared
 next :
-    (c : tie.After-enum-told Inv-loop μ-loop)
-    → (let start = c .before .before .before .before .before .before in
-    Reducing pivotRule (start .args .layout) (start .args .w .now) (c .before .before .before .before .before .loop .k + 1) (c .before .before .before .choose-pivot .last .1 .0))
+    (c : tie.After-known-told Inv-loop μ-loop)
+    → (let w = c .before .before .before in
+    Reducing pivotRule (head w .before .args .layout) (head w .before .args .peak) (head w .before .args .w .now) (head w .loop .k + 1) (c .before .reached .given .0 .0) (called w .choose-pivot .last .1 .0))
 next c =
-    let called = c .before .before .before .choose-pivot in
-    reducing-next pivotRule-is-rule (c .before .before .before .before .before .loop .inv) _ (called .last .1 .0) (called .ensures) (c .enum-told .given .1)
+    let w = c .before .before .before in let stage = called w .choose-pivot in
+    reducing-next pivotRule-is-rule (head w .loop .inv) _ (stage .last .1 .0) (stage .ensures) (c .before .reached .given .1)
 
 add-k : tie.Need-add-k Inv-loop μ-loop
-add-k c = omega (arith, next c .begun .row-bound, c .before .before .before .before .before .before)
+add-k c = omega (arith, next c .begun .row-bound, head (c .before .before .before) .before)
 
 loop-less : tie.Need-loop-less Inv-loop μ-loop
 loop-less c =
-    let called = c .before .before .before .choose-pivot in
-    next-less pivotRule-is-rule (c .before .before .before .before .before .loop .inv) _ (called .last .1 .0) (called .ensures) (c .enum-told .given .1)
+    let w = c .before .before .before in let stage = called w .choose-pivot in
+    next-less pivotRule-is-rule (head w .loop .inv) _ (stage .last .1 .0) (stage .ensures) (c .before .reached .given .1)
 
 loop-again : tie.Need-loop-again Inv-loop μ-loop
 loop-again c = next c
 
-enum-told-2 : tie.Need-enum-told-2 Inv-loop μ-loop
-enum-told-2 c = c .match .keys2
+enum-known-reached-2 : tie.Need-enum-known-reached-2 Inv-loop μ-loop
+enum-known-reached-2 c = c .match .keys2
 
 loop-less-2 : tie.Need-loop-less-2 Inv-loop μ-loop
 loop-less-2 c =
-    let called = c .before .before .before .choose-pivot in
-    again-less pivotRule-is-rule (c .before .before .before .before .before .loop .inv) _ (called .last .1 .0) (called .ensures) (omega arith) (c .enum-told2 .given .1)
+    let w = c .before .before .before in let stage = called w .choose-pivot in
+    again-less pivotRule-is-rule (head w .loop .inv) _ (stage .last .1 .0) (stage .ensures) (omega arith) (c .before .reached2 .given .1)
 
 loop-again-2 : tie.Need-loop-again-2 Inv-loop μ-loop
 loop-again-2 c =
-    let called = c .before .before .before .choose-pivot in
-    reducing-again pivotRule-is-rule (c .before .before .before .before .before .loop .inv) _ (called .last .1 .0) (called .ensures) (c .enum-told2 .given .1)
+    let w = c .before .before .before in let stage = called w .choose-pivot in
+    reducing-again pivotRule-is-rule (head w .loop .inv) _ (stage .last .1 .0) (stage .ensures) (c .before .reached2 .given .1)
 
-enum-told-3 : tie.Need-enum-told-3 Inv-loop μ-loop
-enum-told-3 c = c .match .keys3
+enum-known-reached-3 : tie.Need-enum-known-reached-3 Inv-loop μ-loop
+enum-known-reached-3 c = c .match .keys3
 
 same-length : tie.Need-same-length Inv-loop μ-loop
-same-length c = c .before .before .before .choose-pivot .kept .1 .0 ∙ c .before .before .before .before .before .loop .inv .same-length
+same-length c = let w = c .before .before .before in called w .choose-pivot .kept .1 .0 ∙ head w .loop .inv .same-length
 
 returns : tie.Need-returns Inv-loop μ-loop
 returns c =
-    let called = c .before .before .before .choose-pivot in
-    reduced pivotRule-is-rule (c .before .before .before .before .before .loop .inv) _ (called .last .1 .0) (called .ensures) (c .enum-told3 .given .1)
+    let w = c .before .before .before in let stage = called w .choose-pivot in
+    reduced pivotRule-is-rule (head w .loop .inv) _ (stage .last .1 .0) (stage .ensures) (c .before .reached3 .given .1)
 
 enum-known-refusal : tie.Need-enum-known-refusal Inv-loop μ-loop
 enum-known-refusal c = c .match .keys4
 
 same-length-2 : tie.Need-same-length-2 Inv-loop μ-loop
-same-length-2 c = c .before .before .before .before .choose-pivot .kept .1 .0 ∙ c .before .before .before .before .before .before .loop .inv .same-length
+same-length-2 c = let w = c .before .before .before in called w .choose-pivot .kept .1 .0 ∙ head w .loop .inv .same-length
 
 returns-2 : tie.Need-returns-2 Inv-loop μ-loop
 returns-2 c =
-    let called = c .before .before .before .before .choose-pivot in
-    reduction-refused pivotRule-is-rule (c .before .before .before .before .before .before .loop .inv) _ (called .last .1 .0) (called .ensures) (c .before .refusal .given .1)
+    let w = c .before .before .before in let stage = called w .choose-pivot in
+    reduction-refused pivotRule-is-rule (head w .loop .inv) _ (stage .last .1 .0) (stage .ensures) (c .before .refusal .given .1)
 
 pub reduce-matrix-spec : {M : Type 1} → statement M
 reduce-matrix-spec =
@@ -87,14 +95,14 @@ reduce-matrix-spec =
     μ-loop
     loop-holds
     choose-pivot-requires
-    enum-told
+    enum-known-reached
     add-k
     loop-less
     loop-again
-    enum-told-2
+    enum-known-reached-2
     loop-less-2
     loop-again-2
-    enum-told-3
+    enum-known-reached-3
     same-length
     returns
     enum-known-refusal

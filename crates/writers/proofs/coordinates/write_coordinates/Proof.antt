@@ -19,7 +19,7 @@ use Rattle.limits.specs.Limits.{libraryLimit}
 use Rattle.lines.specs.Slice.{at}
 use Rattle.lines.specs.declared.matrix.Matrix.{Matrix}
 use Rattle.words.specs.Read.{read, of-bits}
-use Rattle.operations.specs.Laid.{linesOf, stateOf}
+use Rattle.operations.specs.Laid.{linesOf}
 use Rattle.writers.specs.Written.{kindIn, WrittenFrom}
 use Rattle.writers.proofs.Held.{matrix-held, row-follower-held}
 use Rattle.writers.proofs.Rows.{map-blocks}
@@ -105,7 +105,7 @@ same-length : tie.Need-same-length Inv-loop μ-loop
 same-length c = same (c .before)
 
 returns : tie.Need-returns Inv-loop μ-loop
-unfolding stateOf coordinateList coordinateAt
+unfolding coordinateList coordinateAt
 returns c =
     let args = c .before .before .before .before .args in
     let m = args .reduced .layout .matrix in let q = args .reduced .layout .«row_follower» in let w = args .w .now in

@@ -1,5 +1,5 @@
 -- `report::write_report` meets its contract: the counts, the orders and the columns are written one behind the other. Assumes nothing.
-use mathlib.Core.Path.{_≡_, refl, sym, ap, subst, _∙_}
+use mathlib.Core.Path.{sym, ap, subst, _∙_}
 use mathlib.Core.List.{List, [], _∷_, _++_, map}
 use Prim.Native.Nat.{ℕ, zero, suc, _+_, _*_, _-_, _^_, _≤_, _<_}
 use native.Mathlib.Nat as NatL
@@ -9,11 +9,13 @@ use lib.IntN.{ℤ, pos}
 use mir.Syntax.{w64}
 use mir.Val.{SFits, toZ}
 use mir.Facts.{toZ-pos}
+use Rattle.reports.specs.Report as definition
 use Rattle.reports.specs.Report.{reported, columnsOf, torsionCount, reportList}
 use Rattle.reports.specs.ReportLaws.{length-reported-le}
 use Rattle.reports.specs.Call.{written}
-use Rattle.operations.specs.Laid.{linesOf, stateOf}
-use Rattle.writers.specs.Written.{kindIn, WrittenFrom, CanReport, WroteReport}
+use Rattle.operations.specs.Laid.{linesOf}
+use Rattle.writers.specs.Written.{kindIn, WrittenFrom, Counted, CanReport, WroteReport}
+use Rattle.writers.specs.declared.reduced.Counts.{Counts}
 use Rattle.writers.specs.declared.reduced.Reduced.{Reduced}
 use Rattle.writers.proofs.Held.{matrix-held, row-inverse-held}
 use Rattle.writers.proofs.Writing.{written-none, written-one, written-then, written-whole}
@@ -27,16 +29,13 @@ le-mul (suc m) n h = omega (arith, NatL.mul-le-mul-left (suc m) (NatL.le-trans o
     one : 1 ≤ suc m
     one = omega arith
 
--- what is known once the orders are counted
-record ReducedWith (x : Reduced) (w report : List ℤ) (torsion : ℕ) : Type 0 where
+-- what is known once the counts are made
+record ReducedWith (x : Reduced) (w report : List ℤ) (r : Counts) : Type 0 where
   can : CanReport x w (length report)
   fits : length report < 2 ^ 63
-  counted : torsion ≡ length (reported (kindIn (x .layout .matrix) w) (x .rank))
+  counted : Counted x w r
 
-module _ {x : Reduced} {w report : List ℤ} {torsion : ℕ} (known : ReducedWith x w report torsion) where
-  abbrev free : ℕ
-  free = x .layout .matrix .lines - x .rank
-
+module _ {x : Reduced} {w report : List ℤ} {r : Counts} (known : ReducedWith x w report r) where
   -- the kinds of the rows
   abbrev e : ℕ → ℤ
   e = kindIn (x .layout .matrix) w
@@ -47,22 +46,31 @@ module _ {x : Reduced} {w report : List ℤ} {torsion : ℕ} (known : ReducedWit
   abbrev columns : List ℤ
   columns = columnsOf (linesOf (x .layout .«row_inverse») w) (x .layout .«row_inverse» .width) (reported e (x .layout .matrix .lines))
 
-  free-fits : SFits w64 (pos free)
+  free-fits : SFits w64 (pos (r .free))
   free-fits = record {
-    sfits = omega (arith, known .fits, known .can .room, le-mul (x .layout .matrix .lines) (x .layout .«row_inverse» .width) (known .can .lines-below));
+    sfits = omega (
+      arith,
+      known .fits,
+      known .can .room,
+      ap (λ (counts : definition.Counts). counts .free) (known .counted),
+      le-mul (x .layout .matrix .lines) (x .layout .«row_inverse» .width) (known .can .lines-below),
+    );
   }
 
-  torsion-fits : SFits w64 (pos torsion)
-  torsion-fits = record { sfits = omega (arith, known .fits, known .can .room, known .counted, length-reported-le e (x .rank)) }
+  torsion-fits : SFits w64 (pos (r .torsion))
+  unfolding torsionCount
+  torsion-fits = record {
+    sfits = omega (arith, known .fits, known .can .room, ap (λ (counts : definition.Counts). counts .torsion) (known .counted), length-reported-le e (x .rank));
+  }
 
   -- the report with the two counts
   abbrev headed : List ℤ
-  headed = set (set report 0 (toZ w64 free)) 1 (toZ w64 torsion)
+  headed = set (set report 0 (toZ w64 (r .free))) 1 (toZ w64 (r .torsion))
 
-  headed-written : WrittenFrom 0 (pos free ∷ pos torsion ∷ []) report 2 headed
+  headed-written : WrittenFrom 0 (pos (r .free) ∷ pos (r .torsion) ∷ []) report 2 headed
   headed-written =
       rw (toZ-pos w64 (free-fits .sfits), toZ-pos w64 (torsion-fits .sfits))
-      (written-one (written-one (written-none 0 report) (pos free) (omega (arith, known .can .room))) (pos torsion) (omega (arith, known .can .room)))
+      (written-one (written-one (written-none 0 report) (pos (r .free)) (omega (arith, known .can .room))) (pos (r .torsion)) (omega (arith, known .can .room)))
 
   module _ {next : ℕ} {ordered : List ℤ} (o : WrittenFrom 2 orders headed next ordered) where
     columns-room : next + x .layout .«row_inverse» .lines * x .layout .«row_inverse» .width ≤ length report
@@ -70,49 +78,41 @@ module _ {x : Reduced} {w report : List ℤ} {torsion : ℕ} (known : ReducedWit
         subst (λ (n : ℕ). next + n * x .layout .«row_inverse» .width ≤ length report) (sym (known .can .laid .row-inverse-lines))
         (omega (arith, o .next, known .can .room, length-map (reported e (x .rank)) e, length-reported-le e (x .rank)))
 
-    wrote : {last : ℕ} {report′ : List ℤ} → WrittenFrom next columns ordered last report′
-        → WroteReport x w report (record { free = free; torsion = torsion }) report′
-    unfolding stateOf torsionCount reportList
+    wrote : {last : ℕ} {report′ : List ℤ} → WrittenFrom next columns ordered last report′ → WroteReport x w report r report′
+    unfolding reportList
     wrote g = record {
-      free = refl;
-      torsion = known .counted;
+      counts = known .counted;
       is =
           written-whole (written-then (written-then headed-written o (omega arith)) g (omega arith))
-          ∙ ap (λ (t : ℕ). written (pos free ∷ pos t ∷ (orders ++ columns)) report) (known .counted);
+          ∙ ap (λ (counts : definition.Counts). written (pos (counts .free) ∷ pos (counts .torsion) ∷ (orders ++ columns)) report) (known .counted);
     }
 
-reported-count-requires : tie.Need-reported-count-requires
-reported-count-requires c κs =
-    let pre = c .before .before .pre in
-    (matrix-held (pre .laid), pre .rank-below, pre .kinds)
+counts-requires : tie.Need-counts-requires
+counts-requires c κs = let pre = c .before .before .pre in record { laid = pre .laid; kinds = pre .kinds; rank-below = pre .rank-below }
 
-known-after : (c : tie.After-reported-count) →
-    ReducedWith (c .before .before .before .args .reduced) (c .before .before .before .args .w .now) (c .before .before .before .args .report .now)
-    (c .reported-count .result)
+known-after : (c : tie.After-counts) →
+    let args = c .before .before .before .args in ReducedWith (args .reduced) (args .w .now) (args .report .now) (c .counts .result)
 known-after c =
     let start = c .before .before .before in
-    record { can = start .pre; fits = omega (arith, start .good); counted = c .reported-count .ensures }
-
-sub-free : tie.Need-sub-free
-sub-free c = c .before .before .before .before .pre .rank-below
+    record { can = start .pre; fits = omega (arith, start .good); counted = c .counts .ensures }
 
 cast-report : tie.Need-cast-report
 cast-report c = free-fits (known-after (c .before))
 
 cast-report-2 : tie.Need-cast-report-2
-cast-report-2 c = torsion-fits (known-after (c .before))
+cast-report-2 c = torsion-fits (known-after (c .before .before))
 
 slice-set-from-report-2 : tie.Need-slice-set-from-report-2
-slice-set-from-report-2 c = simp length-set (omega (arith, c .before .before .before .before .pre .room))
+slice-set-from-report-2 c = simp length-set (omega (arith, c .before .before .before .before .before .pre .room))
 
 write-orders-requires : tie.Need-write-orders-requires
 write-orders-requires c κs =
-    let pre = c .before .before .before .before .before .pre in
+    let pre = c .before .before .before .before .before .before .pre in
     (matrix-held (pre .laid), pre .rank-below, simp length-set (omega (arith, pre .room)), pre .kinds)
 
 write-generators-requires : tie.Need-write-generators-requires
 write-generators-requires c κs =
-    let counted = c .before .before .before .before .before in let write-orders = c .before .before .write-orders in
+    let counted = c .before .before .before .before .before .before in let write-orders = c .before .before .write-orders in
     let g = counted .before .before .before .args .reduced .layout .«row_inverse» in let pre = counted .before .before .before .pre in (
       matrix-held (pre .laid),
       row-inverse-held (pre .laid),
@@ -128,11 +128,11 @@ same-length c =
 
 returns : tie.Need-returns
 returns c =
-    wrote (known-after (c .before .before .before .before .before .before .before)) (c .before .before .before .before .write-orders .ensures)
+    wrote (known-after (c .before .before .before .before .before .before .before .before)) (c .before .before .before .before .write-orders .ensures)
     (c .before .write-generators .ensures)
 
 pub write-report-spec : {M : Type 1} → statement M
 write-report-spec =
     tie.close
-    (tie.spec reported-count-requires sub-free cast-report (λ c. omega arith) cast-report-2 slice-set-from-report-2 write-orders-requires
+    (tie.spec counts-requires cast-report (λ c. omega arith) cast-report-2 slice-set-from-report-2 write-orders-requires
     write-generators-requires same-length returns)

@@ -1,20 +1,11 @@
 -- `Matrix::on_lines` meets its contract: a matrix whose lines are empty holds nothing that an operation changes. Assumes nothing.
-use mathlib.Core.Path.{_≡_, refl}
-use mathlib.Core.List.{List}
-use native.Mathlib.Omega.{arith}
 use borrow.Author.Needs.{needs}
-use lib.IntN.{ℤ}
-use Rattle.matrices.specs.Matrix as theory
 use Rattle.matrices.specs.Operation.{onRows}
-use Rattle.lines.specs.Slice.{Small}
-use Rattle.lines.specs.Matrices.{contents, Holds}
+use Rattle.lines.specs.Matrices.{contents}
 use Rattle.lines.specs.Operations.{operationOf}
-use Rattle.lines.specs.declared.matrix.Matrix.{Matrix}
+use Rattle.lines.proofs.Holding.{holds-nothing}
 use Rattle.lines.proofs.matrix.Matrix.on_lines.Statement.{statement}
 use Rattle.lines.proofs.matrix.Matrix.on_lines.Tie as tie
-
-holds-nothing : (M : Matrix) (w : List ℤ) (A : theory.Matrix) → M .width ≡ 0 → Small w → Holds M w A w
-holds-nothing M w A e s = record { same-length = refl; on = record { at = λ a b x y. absurd (omega arith) }; off = λ p o. refl; small = s }
 
 returns : tie.Need-returns
 returns c =

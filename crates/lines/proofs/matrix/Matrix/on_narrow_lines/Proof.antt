@@ -32,7 +32,7 @@ returns : tie.Need-returns
 returns c =
     let lines = c .before .before in let at = lines .before .before .before .before in let start = at .before .before in
     let called = c .before .subtract-places in
-    subtraction-came (at .op .given .1) (start .args .self) (start .pre .1 .1) (lines .before .line .ensures) (lines .line2 .ensures) (start .args .w .now) (called .last .0) (called .result) (called .ensures)
+    subtraction-came (at .op .given .1) (start .args .self) (start .pre .1 .1) (lines .before .line .ensures) (lines .line2 .ensures) (start .args .w .now) (called .last .0) (start .args .peak) (called .result) (called .ensures)
 
 -- ---- an exchange
 
@@ -71,8 +71,8 @@ swap-requires c κs =
 returns-2 : tie.Need-returns-2
 returns-2 c =
     let at = c .before .before in let args = swapping (exchange at) .args in let called = c .before .swap in
-    became-case (exchange at .op2 .given .1) (args .self) (args .w .now) (called .last .0) (called .result)
-    (swap-lines (first at) (second at) (args .w .now) (called .last .0) (called .result) (called .ensures))
+    became-case (exchange at .op2 .given .1) (args .self) (args .w .now) (called .last .0) (args .peak) (called .result)
+    (swap-lines (first at) (second at) (args .w .now) (called .last .0) (args .peak) (called .result) (called .ensures))
 
 -- ---- a negation
 
@@ -100,8 +100,8 @@ negate-requires c κs = (span-inside (negated c) (negating (negation c) .pre .0)
 returns-3 : tie.Need-returns-3
 returns-3 c =
     let at = c .before .before in let args = negating (negation at) .args in let called = c .before .negate in
-    became-case (negation at .op3 .given .1) (args .self) (args .w .now) (called .last .0) (called .result)
-    (negate-line (negated at) (args .w .now) (called .last .0) (called .result) (called .ensures))
+    became-case (negation at .op3 .given .1) (args .self) (args .w .now) (called .last .0) (args .peak) (called .result)
+    (negate-line (negated at) (args .w .now) (called .last .0) (args .peak) (called .result) (called .ensures))
 
 pub on-narrow-lines-spec : {M : Type 1} → statement M
 on-narrow-lines-spec =

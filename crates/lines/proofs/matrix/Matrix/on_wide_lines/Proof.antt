@@ -23,7 +23,7 @@ returns : tie.Need-returns
 returns c =
     let lines = c .before .before in let at = lines .before .before .before .before in let start = at .before .before in
     let called = c .before .subtract in
-    subtraction-came (at .op .given .1) (start .args .self) (start .pre .1 .1) (lines .before .line .ensures) (lines .line2 .ensures) (start .args .w .now) (called .last .0) (called .result) (called .ensures)
+    subtraction-came (at .op .given .1) (start .args .self) (start .pre .1 .1) (lines .before .line .ensures) (lines .line2 .ensures) (start .args .w .now) (called .last .0) (start .args .peak) (called .result) (called .ensures)
 
 pub on-wide-lines-spec : {M : Type 1} → statement M
 on-wide-lines-spec =

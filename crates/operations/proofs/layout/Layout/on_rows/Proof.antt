@@ -2,8 +2,9 @@
 use mathlib.Core.Path.{_∙_}
 use borrow.Author.Needs.{needs}
 use Rattle.lines.specs.Operations.{operationOf}
+use Rattle.lines.specs.declared.line.Effect.the-variants.{Done, TooWide}
 use Rattle.operations.proofs.Side.{rows, matrix-held}
-use Rattle.operations.proofs.Operate.{Task, wide-matrix, companions-ready, operated}
+use Rattle.operations.proofs.Operate.{Task, MatrixCalled, wide-matrix, companions-ready, operated}
 use Rattle.operations.proofs.layout.Layout.on_rows.Statement.{statement}
 use Rattle.operations.proofs.layout.Layout.on_rows.Tie as tie
 
@@ -12,6 +13,7 @@ task s = record {
   side = rows;
   operation = operationOf (s .args .op);
   layout = s .args .self;
+  peak = s .args .peak;
   slice = s .args .w .now;
   laid = s .pre .0;
   fits = s .pre .1 .1;
@@ -20,29 +22,48 @@ task s = record {
 on-lines-requires : tie.Need-on-lines-requires
 on-lines-requires c κs = let s = c .before in (matrix-held (s .pre .0), s .pre .1)
 
+-- the call on the matrix
+abbrev matrix : tie.After-on-lines → MatrixCalled
+matrix c = let a = c .on-lines in record { task = task (c .before .before); left = a .last .1 .0; result = a .result; became = a .ensures }
+
 same-length : tie.Need-same-length
 same-length c = c .before .before .before .on-lines .kept .1 .0
 
 returns : tie.Need-returns
-returns c =
-    let called = c .before .before .before in let a = called .on-lines in
-    wide-matrix (task (called .before .before)) (a .last .1 .0) (a .result) (a .ensures) (c .enum-told2 .given .1)
+returns c = wide-matrix (matrix (c .before .before .before)) (c .enum-told .given .1)
+
+-- the matrix is done
+abbrev done : tie.After-known-told → tie.After-on-lines
+done c = c .before .before .before .before
 
 follow-requires : tie.Need-follow-requires
 follow-requires c κs =
-    let called = c .before .before .before .before in let a = called .on-lines in
-    let ready = companions-ready (task (called .before .before)) (a .last .1 .0) (a .result) (a .ensures) (c .before .enum-told .given .1) in
-    ((ready .follower-held, ready .inverse-held, ready .small), (ready .follower-fits, ready .inverse-fits))
+    let ready = companions-ready (matrix (done (c .before))) (c .before .before .first .given .1) in
+    ((ready .follower-held, ready .inverse-held, ready .under), (ready .follower-fits, ready .inverse-fits))
 
 same-length-2 : tie.Need-same-length-2
-same-length-2 c = c .before .follow .kept .1 .1 .0 ∙ c .before .before .before .before .before .before .on-lines .kept .1 .0
+same-length-2 c =
+    let followed = c .before .before .before in
+    followed .follow .kept .1 .1 .0 ∙ done (followed .before .before) .on-lines .kept .1 .0
 
 returns-2 : tie.Need-returns-2
 returns-2 c =
-    let called = c .before .before .before .before .before .before in let a = called .on-lines in
-    operated (task (called .before .before)) (a .last .1 .0) (a .result) (a .ensures) (c .before .before .before .enum-told .given .1) (c .before .follow .ensures)
+    let followed = c .before .before .before in let told = followed .before .before in
+    operated (matrix (done told)) (told .before .first .given .1) TooWide (c .enum-told2 .given .1) (followed .follow .ensures)
+
+same-length-3 : tie.Need-same-length-3
+same-length-3 c =
+    let followed = c .before .before .before .before in
+    followed .follow .kept .1 .1 .0 ∙ done (followed .before .before) .on-lines .kept .1 .0
+
+returns-3 : tie.Need-returns-3
+returns-3 c =
+    let followed = c .before .before .before .before in let told = followed .before .before in
+    let second = c .before .second .given in
+    operated (matrix (done told)) (told .before .first .given .1) (Done (second .0 .0)) (second .1) (followed .follow .ensures)
 
 pub on-rows-spec : {M : Type 1} → statement M
 on-rows-spec =
     tie.close
-    (tie.spec on-lines-requires (λ c. search needs) (λ c. search needs) same-length returns follow-requires same-length-2 returns-2)
+    (tie.spec on-lines-requires (λ c. search needs) (λ c. search needs) same-length returns follow-requires (λ c. search needs) (λ c. search needs) same-length-2
+    returns-2 same-length-3 returns-3)

@@ -11,9 +11,9 @@ returns c =
     let start = c .before in
     record {
       outcome =
-          sym (rows-unchanged (start .args .self) (start .args .w .now) (start .pre .0) (start .pre .1 .0) (swap (start .args .i) (start .args .k)) (c .if1 .taken)
+          sym (rows-unchanged (start .args .self) (start .args .peak) (start .args .w .now) (start .pre .0) (start .pre .1 .0) (swap (start .args .i) (start .args .k)) (c .if1 .taken)
           (swap-fits (start .args .i) (start .args .k) (start .pre .1 .1)));
-      small = start .pre .1 .0;
+      under = start .pre .1 .0;
     }
 
 on-rows-requires : tie.Need-on-rows-requires
