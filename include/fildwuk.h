@@ -64,8 +64,10 @@ enum fildwuk_answer {
  * Bytes past the report stay as they were. */
 uint32_t fildwuk_report(const uint8_t *sheet, size_t sheet_len, uint32_t dimension, uint8_t *report, size_t report_len);
 
-/* The coordinates of a cycle: t residues, each from 0 to its order less 1, then b whole numbers, in the report's order. The chain has exactly
- * FILDWUK_CHAIN_BYTES(n) bytes. `coordinates_len` must be at least FILDWUK_COORDINATE_BYTES(n). Bytes past the t + b numbers stay as they were. */
+/* The coordinates of a cycle: t residues, then b whole numbers, in the report's order. A residue of order d lies above -d/2 and up to d/2: order 2
+ * gives 0 or 1, order 3 gives -1, 0 or 1. (Before release 1.5 it was 0 to d - 1; docs/RELEASES.md says how to turn one into the other.) The chain
+ * has exactly FILDWUK_CHAIN_BYTES(n) bytes. `coordinates_len` must be at least FILDWUK_COORDINATE_BYTES(n). Bytes past the t + b numbers stay as they
+ * were. */
 uint32_t fildwuk_coordinates(const uint8_t *sheet, size_t sheet_len, uint32_t dimension, const uint8_t *chain, size_t chain_len,
                              uint8_t *coordinates, size_t coordinates_len);
 

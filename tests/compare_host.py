@@ -1,5 +1,5 @@
 #!/usr/bin/env python3
-"""Compares the host calls, through the C driver, with the model on sound and damaged sheets, chains and output lengths."""
+"""Compares the host calls, through the C driver, with the model on sound and damaged sheets, chains and output lengths, and on every residue."""
 
 import argparse
 import random
@@ -10,7 +10,7 @@ from pathlib import Path
 
 from drivers import Expected, count_differing
 from make_sheets import fault_sheets, known_sheets, random_sheets
-from model import homology, list_cases
+from model import homology, list_cases, residue_cases
 from model.calls import host_coordinate_lists, host_coordinates, host_report
 from model.sheet import PROGRAM_COUNT_LIMIT, Refused, refusal
 
@@ -128,6 +128,14 @@ def list_calls_anywhere(rng, p):
         yield Call("L", p, packed([0] * coefficients), pattern(rng, rng.choice([0, 8, 50])), number)
 
 
+def residue_calls(case):
+    """The coordinates of the cycles of a case, by single calls and as lists in one call."""
+    for name, cycle in case.cycles.items():
+        yield Call("C", case.p, packed(cycle), b"\xa5" * 8 * len(cycle), name=name)
+    chains = list_cases.joined(case.cycles.values())
+    yield Call("L", case.p, packed(chains), b"\xa5" * 8 * len(chains), len(case.cycles), "all these cycles")
+
+
 def all_calls(rng, list_rng, sheets, with_lists):
     """Every call with what is due; the sheets with these names get every case of coordinate lists."""
     for name, data in sheets.items():
@@ -151,7 +159,7 @@ def count_told(made):
 
 
 def main():
-    """Exits with 1 where an answer or an output differs, or where a kind of answer was never due."""
+    """Exits with 1 where an answer or an output differs, or where a kind of answer or a residue was never due."""
     parser = argparse.ArgumentParser(description=__doc__)
     parser.add_argument("--driver", type=Path, default=DRIVER, metavar="FILE", help="the built driver (target/host/driver)")
     parser.add_argument("--random", type=int, default=300, metavar="N", help="random sheets, each also in a damaged copy (300)")
@@ -162,15 +170,19 @@ def main():
     known = known_sheets()
     sheets = {**known, **fault_sheets(), **random_sheets(rng, options.random)}
     with_lists = {*known, *(f"random {i}" for i in range(options.lists))}
-    made = list(all_calls(rng, list_rng, sheets, with_lists))
+    made, met = residue_cases.with_due(residue_cases.small(), residue_calls)
+    made += all_calls(rng, list_rng, sheets, with_lists)
     told = count_told(made)
     wrong = count_differing(options.driver, [expected for _, expected in made])
     for kind in dict.fromkeys(kind for kind, _ in told):
         print(f"{kind}: " + ", ".join(f"{told[kind, number]} answered {number}" for number in range(14) if told[kind, number]))
+    for line in residue_cases.ranges(met):
+        print(line)
     print(f"{len(made)} calls, {wrong} differ")
-    if missing(told):
-        print("never due:", missing(told))
-    raise SystemExit(1 if wrong or missing(told) else 0)
+    lost = missing(told) + residue_cases.never_met(met)
+    if lost:
+        print("never due:", lost)
+    raise SystemExit(1 if wrong or lost else 0)
 
 
 if __name__ == "__main__":

@@ -1,5 +1,6 @@
 #!/usr/bin/env python3
-"""Compares the library's calls, at its count limit of 256, with the model: meshes near the limit, doubling towers, random and damaged sheets.
+"""Compares the library's calls, at its count limit of 256, with the model: meshes near the limit, doubling towers, random and damaged sheets, and
+every residue.
 
 Each call is lent slices of the lengths that check 9 wants, some longer and some too short, and is held to its answer, its output and its work slice.
 """
@@ -14,7 +15,7 @@ from pathlib import Path
 
 from drivers import Expected, count_differing
 from make_sheets import fault_sheets
-from model import homology, list_cases, meshes, random_meshes, sheet_cases
+from model import homology, list_cases, meshes, random_meshes, residue_cases, sheet_cases
 from model.calls import library_coordinate_lists, library_coordinates, library_report
 from model.matrices import apply, boundary
 from model.sheet import DIMENSIONS, LIBRARY_COUNT_LIMIT, PROGRAM_COUNT_LIMIT, Refused, from_facets, parse, refusal
@@ -30,6 +31,9 @@ CHANGES = [(3, 5), (-1, 0), (0, -1)]
 
 # The cases of coordinate lists that are tried on a sheet with more than 48 cells in a dimension, besides lists of cycles.
 CASES_OF_LARGE_SHEETS = 20
+
+# The floors of the doubling tower with the largest order within the entry limit.
+FLOORS = 19
 
 
 @dataclass(frozen=True)
@@ -156,6 +160,15 @@ def list_calls_anywhere(rng, p):
         yield Call("L", p, [0] * coefficients, rng.choice([0, 1, 6]), rng.choice([0, 9]), number)
 
 
+def residue_calls(case):
+    """The coordinates of the cycles of a case, by single calls and as lists in one call."""
+    work = homology.work_slots(parse(case.data, LIBRARY_COUNT_LIMIT), case.p)
+    for name, cycle in case.cycles.items():
+        yield Call("C", case.p, cycle, len(cycle), work, name=name)
+    joined = list_cases.joined(case.cycles.values())
+    yield Call("L", case.p, joined, len(joined), work, len(case.cycles), "all these cycles")
+
+
 def all_calls(rng, list_rng, data):
     """Every call to make on a sheet."""
     yield from calls(rng, data)
@@ -178,26 +191,30 @@ def missing(told):
 
 
 def main():
-    """Exits with 1 where an answer differs, or where a kind of answer was never due."""
+    """Exits with 1 where an answer differs, or where a kind of answer or a residue was never due."""
     parser = argparse.ArgumentParser(description=__doc__, formatter_class=argparse.RawDescriptionHelpFormatter)
     parser.add_argument("--driver", type=Path, default=DRIVER, metavar="FILE", help="the built driver (target/host/library_driver)")
-    parser.add_argument("--sheet", metavar="NAME", help="one sheet alone")
+    parser.add_argument("--sheet", metavar="NAME", help="one sheet alone, without the cases of residues")
     options = parser.parse_args()
     rng, list_rng = random.Random(4), random.Random(5)
     sheets = sheets_to_compare(list_rng)
     if options.sheet:
         sheets = {options.sheet: sheets[options.sheet]}
-    wrong, told = 0, Counter()
+    made, met = residue_cases.with_due([] if options.sheet else [*residue_cases.small(), residue_cases.tower(FLOORS)], residue_calls)
+    wrong, told = count_differing(options.driver, [expected for _, expected in made]), count_told(made)
     for name, data in sheets.items():
         made = [(call, call.expected(name, data)) for call in all_calls(rng, list_rng, data)]
         told.update(count_told(made))
         wrong += count_differing(options.driver, [expected for _, expected in made])
     for kind in dict.fromkeys(kind for kind, _ in told):
         print(f"{kind}: " + ", ".join(f"{told[kind, n]} answered {n}" for n in range(14) if told[kind, n]))
+    for line in residue_cases.ranges(met):
+        print(line)
     print(f"{len(sheets)} sheets, {sum(told[kind, n] for kind in 'RCL' for n in range(14))} calls, {wrong} differ")
-    if missing(told) and not options.sheet:
-        print("never due:", missing(told))
-    raise SystemExit(1 if wrong or (missing(told) and not options.sheet) else 0)
+    lost = [] if options.sheet else missing(told) + residue_cases.never_met(met, [2 ** FLOORS])
+    if lost:
+        print("never due:", lost)
+    raise SystemExit(1 if wrong or lost else 0)
 
 
 if __name__ == "__main__":

@@ -16,7 +16,8 @@ ROOT = os.path.join(os.path.dirname(os.path.abspath(__file__)), "..", "crates")
 CALLS = {"reportCall", "coordinateCall", "coordinateListsCall", "hostReport", "hostCoordinates", "hostCoordinateLists", "programText"}
 IMPORT = {"importCall"}
 RIGHT = ["Reports", "CoordinateCounts", "ListCounts", "SameCounts", "CoordinatesOf", "ReportOf", "CoordinatesDecide", "CoordinatesCombine",
-         "CoordinatesReduced", "HostReports", "HostCoordinateCounts", "HostListCounts"]
+         "CoordinatesNearestZero", "CoordinatesOfSmallOrders", "CoordinatesOnly", "GeneratorMultiples", "GeneratorsBackwards",
+         "HostReports", "HostCoordinateCounts", "HostListCounts"]
 MESHES = ["ImportMalformed", "MeshesUnique", "ImportFaulty", "MeshCells", "MeshCellsUnique", "ImportTooLong", "ImportDone", "ImportLeft",
           "ImportSheet", "HostImportSheet"]
 HEADROOM = ["CountsAnswered", "OneCounts", "Headroom", "HeadroomNone"]

@@ -14,11 +14,12 @@ from checks.imports import Imports
 from checks.lists import ListRefusalOrder, Lists, ListSlices, NoChainsRefusalOrder
 from checks.meshes import Meshes
 from checks.reductions import Reductions
+from checks.residues import Residues, TwistedLoops
 from checks.sheets import Boundaries, Sheets
 
 __all__ = ["Boundaries", "Calls", "Coordinates", "Headroom", "Imports", "ListRefusalOrder", "Lists",
            "ListSlices", "Meshes", "NoChainsRefusalOrder", "Reductions", "RefusalOrder", "Reports",
-           "Sheets", "SlicesOfCheck9"]
+           "Residues", "Sheets", "SlicesOfCheck9", "TwistedLoops"]
 
 if __name__ == "__main__":
     if {"-h", "--help"} & set(sys.argv[1:]):

@@ -23,3 +23,9 @@ def random_sheets(seed, count, count_limit=48):
     """So many seeded random sheets."""
     rng = random.Random(seed)
     return [from_facets(random_meshes.complex_of(rng, count_limit)) for _ in range(count)]
+
+
+def residue(value, order):
+    """02, Note 5: the only number above -order/2 and up to order/2 that differs from the value by a multiple of the order."""
+    only, = [c for c in range(-order, order + 1) if -order < 2 * c <= order and (value - c) % order == 0]
+    return only

@@ -4,7 +4,7 @@ import random
 import unittest
 from itertools import combinations
 
-from checks.common import EDGE, FILLED, HOLLOW, answer, random_sheets
+from checks.common import EDGE, FILLED, HOLLOW, answer, random_sheets, residue
 from model import meshes, sheet_cases
 from model.homology import classes, coordinates, report, report_slots, work_slots
 from model.matrices import apply, boundary, identity, is_cycle
@@ -90,7 +90,7 @@ class Coordinates(unittest.TestCase):
                 chain = apply(boundary(sheet, p + 1), above)
                 self.assertFalse(any(coordinates(data, p, chain)))
 
-    def test_combinations_have_sums_modulo_the_orders(self):
+    def test_combinations_have_sums_nearest_zero(self):
         rng = random.Random(9)
         for data in random_sheets(9, 40):
             sheet = parse(data, 48)
@@ -102,7 +102,7 @@ class Coordinates(unittest.TestCase):
                 for factor, generator in zip(factors, found.generators):
                     chain = [x + factor * y for x, y in zip(chain, generator)]
                 orders = found.orders + [0] * found.rank
-                due = [x % d if d else x for x, d in zip(factors, orders)]
+                due = [residue(x, d) if d else x for x, d in zip(factors, orders)]
                 self.assertEqual(coordinates(data, p, chain), due)
 
 

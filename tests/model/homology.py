@@ -1,4 +1,4 @@
-"""The report and the coordinates of 01, the coordinate lists of Note 1 in 02 and the peak of Note 4.
+"""The report and the coordinates of 01, the coordinate lists of Note 1 in 02, the peak of Note 4 and the residues of Note 5.
 
 Refusals 1 to 13 are tried in order. A slice length that is not given is long
 enough. Refusals are raised as Refused.
@@ -120,9 +120,15 @@ def report(data, p, count_limit=LIBRARY_COUNT_LIMIT, limit=ENTRY_LIMIT,
     return Report(found.kinds.count(FREE), orders, generators, headroom.peak(found.first, found.second))
 
 
+def nearest_zero(value, order):
+    """02, Note 5: the value modulo the order, above -order/2 and up to order/2."""
+    residue = value % order
+    return residue - order if 2 * residue > order else residue
+
+
 def coordinate(kind, value):
     """The coordinate of a row with this value: modulo an order, as it is where free."""
-    return value if kind == FREE else value % kind
+    return value if kind == FREE else nearest_zero(value, kind)
 
 
 def coordinate_list(found, chain):

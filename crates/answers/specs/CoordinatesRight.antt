@@ -1,5 +1,6 @@
 -- Numbers that read as the coordinates of a cycle after two reductions that are right (`ReadsCoordinates`): equal lists mean homologous cycles
--- (coordinates-decide), and a cycle is its coordinates times the reported generators up to a boundary (coordinates-combine).
+-- (coordinates-decide), and a cycle is its coordinates times the reported generators up to a boundary (coordinates-combine);
+-- coordinates-nearest: their range.
 use mathlib.Core.Path.{_≡_, sym, _∙_, ap, subst}
 use mathlib.Core.Logic.{_↔_}
 use mathlib.Core.List.{List}
@@ -7,10 +8,9 @@ use Prim.Native.Nat.{ℕ, _+_, _-_, _<_}
 use native.Mathlib.Omega.{arith}
 use lib.ListN.{getD}
 use lib.IntN.{ℤ, pos, _-ℤ_}
-use lib.Signed.{_≤ℤ_, _<ℤ_, <ℤ-≤ℤ-trans}
-use Rattle.integers.specs.Division.{floor, modulo}
-use Rattle.integers.specs.Order.{lt-pos, le-of-lt}
-use Rattle.integers.specs.Floor.{Division, floor-division}
+use lib.Signed.{_<ℤ_}
+use Rattle.integers.specs.Division.{residue, NearestZero}
+use Rattle.integers.specs.Residue.{residue-nearest}
 use Rattle.matrices.specs.Matrix.{transpose}
 use Rattle.matrices.specs.Vector.{apply}
 use Rattle.homology_groups.specs.Chain.{Chain, Same, combination}
@@ -26,7 +26,7 @@ use Rattle.answers.specs.Homology.{IsCycle, IsBoundary}
 use Rattle.answers.specs.Right.{slot, orderIn, generatorIn}
 use Rattle.answers.specs.TwoReductions.{Right}
 use Rattle.answers.specs.Numbers.{ones, is-ones, total, coordinate-is}
-use Rattle.answers.specs.ReportRight.{Reads, reads-generator, order-is, report-is-right}
+use Rattle.answers.specs.ReportRight.{Reads, reads-generator, order-is, order-positive, report-is-right}
 
 -- the numbers from place 0 on are the coordinates of z that s rows of Q, rank r and the state x give
 pub record ReadsCoordinates (K : Sections) (p s r : ℕ) (x : State) (z : List ℤ) (coordinates : ℕ → ℤ) : Type 0 where
@@ -73,23 +73,16 @@ module _ {K : Sections} {p s r : ℕ} {x : State} (R : Right K p s r x) where
       same : Same n (combination k (coordinateOf z) G) (combination k c (generatorIn report (torsionCount r x) n))
       same = combination-ext (λ j h. sym (read reads j h)) (reads-generator R reported)
 
-  -- a coordinate of order d lies in 0 to d - 1
-  pub coordinates-reduced : {z : List ℤ} {c report : ℕ → ℤ} → ReadsCoordinates K p s r x z c → Reads K p s r x report → (j : ℕ) → j < torsionCount r x
-      → (pos 0 ≤ℤ c j) × (c j <ℤ orderIn report (torsionCount r x) j)
+  -- a coordinate of order d lies above -d/2 and up to d/2
+  pub coordinates-nearest : {z : List ℤ} {c report : ℕ → ℤ} → ReadsCoordinates K p s r x z c → Reads K p s r x report → (j : ℕ) → j < torsionCount r x
+      → NearestZero (orderIn report (torsionCount r x) j) (c j)
   unfolding coordinate
-  coordinates-reduced {z} {c} {report} reads reported j l = (
-    subst (λ (v : ℤ). pos 0 ≤ℤ v) (sym is) (division .low),
-    subst (λ (v : ℤ). v <ℤ orderIn report (torsionCount r x) j) (sym is) (subst (λ (d : ℤ). modulo value (kind x (ones R + j)) <ℤ d) (order-is R reported j) (division .high)),
-  )
+  coordinates-nearest {z} {c} {report} reads reported j l =
+      subst (λ (v : ℤ). NearestZero (orderIn report (torsionCount r x) j) v) (sym (read reads j (omega arith)))
+      (subst (λ (d : ℤ). NearestZero d (residue value (kind x (ones R + j)))) (order-is R reported j) (residue-nearest value (kind x (ones R + j)) positive))
     where
       value : ℤ
       value = apply n (entry (x .rowFollower)) (slot z) (ones R + j)
 
-      is : c j ≡ modulo value (kind x (ones R + j))
-      is = read reads j (omega arith)
-
       positive : pos 0 <ℤ kind x (ones R + j)
-      positive = subst (λ (d : ℤ). pos 0 <ℤ d) (sym (order-is R reported j)) (<ℤ-≤ℤ-trans (lt-pos {m = 0} {n = 1} (omega arith)) (le-of-lt (report-is-right R reported .order-above-one j l)))
-
-      division : Division value (kind x (ones R + j)) (floor value (kind x (ones R + j))) (modulo value (kind x (ones R + j)))
-      division = floor-division value (kind x (ones R + j)) positive
+      positive = subst (λ (d : ℤ). pos 0 <ℤ d) (sym (order-is R reported j)) (order-positive (report-is-right R reported) j l)

@@ -8,8 +8,8 @@ use native.Mathlib.Omega.{arith}
 use lib.IntN.{ℤ, pos, negsuc, natAbs, _*ℤ_}
 use lib.Signed.{_≤ℤ_}
 use Rattle.integers.specs.Order.{natAbs-mul, lt-pos}
-use Rattle.integers.specs.Division.{modulo}
-use Rattle.integers.specs.Floor.{modulo-zero, natAbs-modulo}
+use Rattle.integers.specs.Division.{residue}
+use Rattle.integers.specs.Residue.{residue-zero, natAbs-residue}
 use Rattle.lists.specs.Tabulate.{tabulate}
 use Rattle.matrices.specs.SumLaws.{natAbs-sum}
 use Rattle.matrices.specs.Vector.{apply}
@@ -102,15 +102,15 @@ module _ {K : Sections} {p s r : ℕ} {x : State} (R : Right K p s r x) (within-
         (mul-le-mul (table-small (x .rowFollower) (within-iff entryLimit x .0 within-limit .rowFollower) i j) (small j))))
         (mul-le-mul-right (entryLimit * coefficientLimit) few)
 
-    modulo-small : (a d : ℤ) → pos 0 ≤ℤ d → natAbs d ≤ entryLimit → natAbs a ≤ most → natAbs (modulo a d) ≤ most
-    modulo-small a (pos zero) h k l = rw (modulo-zero a) l
-    modulo-small a (pos (suc d)) h k l = omega (arith, natAbs-modulo a (pos (suc d)) (lt-pos (omega arith)))
-    modulo-small a (negsuc d) h k l = absurd (h .le)
+    residue-small : (a d : ℤ) → pos 0 ≤ℤ d → natAbs d ≤ entryLimit → natAbs a ≤ most → natAbs (residue a d) ≤ most
+    residue-small a (pos zero) h k l = rw (residue-zero a) l
+    residue-small a (pos (suc d)) h k l = omega (arith, natAbs-residue a (pos (suc d)) (lt-pos (omega arith)))
+    residue-small a (negsuc d) h k l = absurd (h .le)
 
     coordinate-small : (i : ℕ) → natAbs (coordinateAt (count K p) x z i) ≤ most
     unfolding coordinateAt
     coordinate-small i =
-        modulo-small (apply (count K p) (entry (x .rowFollower)) (slot z) i) (kind x i) (R .reduced .second .nonneg i) (kind-small i) (row-small i)
+        residue-small (apply (count K p) (entry (x .rowFollower)) (slot z) i) (kind x i) (R .reduced .second .nonneg i) (kind-small i) (row-small i)
 
     pub coordinates-word : (i : ℕ) → Word (slot (coordinateList (count K p) s x z) i)
     unfolding coordinateList

@@ -16,6 +16,7 @@ pub mod ChainChecks
 pub mod Numbers
 pub mod ReportRight
 pub mod CoordinatesRight
+pub mod OnlyCoordinates
 pub mod Calls
 pub mod ReportCall
 pub mod CoordinateCall

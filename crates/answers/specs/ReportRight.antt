@@ -1,5 +1,5 @@
 -- Numbers that read as the report of two reductions that are right (`Reads`) are a right report: report-is-right, has-counts.
--- `counts-unique`: reports that are right agree on the free rank and the number of orders.
+-- `order-free`, `order-positive`: the orders of generators, 0 behind the t orders and positive before. `counts-unique`: reports that are right agree on the free rank and the number of orders.
 use mathlib.Core.Path.{_≡_, refl, sym, _∙_, ap, subst}
 use mathlib.Core.Bool.{Bool, cond}
 use Prim.Native.Nat.{ℕ, suc, _+_, _*_, _≤_, _<_}
@@ -9,8 +9,8 @@ use native.Mathlib.Decide.{decLe, decLt}
 use borrow.Author.Tests.{lt-ltb, le-ltb}
 use lib.ListN.{getD}
 use lib.IntN.{ℤ, pos}
-use lib.Signed.{_<ℤ_}
-use Rattle.integers.specs.Order.{pos-lt}
+use lib.Signed.{_<ℤ_, <ℤ-≤ℤ-trans}
+use Rattle.integers.specs.Order.{lt-pos, pos-lt, le-of-lt}
 use Rattle.matrices.specs.Matrix.{transpose}
 use Rattle.smith.specs.Rank.{order-above-one}
 use Rattle.homology_groups.specs.Chain.{Same}
@@ -31,6 +31,10 @@ use Rattle.answers.specs.Numbers.{ones, is-ones, ones-bound, torsion-is,
 -- slot i of generator j lies within k generators of n coefficients
 slot-below : (j k i n : ℕ) → j < k → i < n → j * n + i < k * n
 slot-below j k i n a b = omega (arith, suc-mul j n, mul-le-mul-right {m = suc j} {n = k} n a)
+
+-- the generators after the t orders are free
+pub order-free : (report : ℕ → ℤ) (t j : ℕ) → t ≤ j → orderIn report t j ≡ pos 0
+order-free report t j h = ap (λ (c : Bool). cond c (report (2 + j)) (pos 0)) (le-ltb j t h)
 
 -- the numbers from slot 0 on are those of the report that s rows of Q, rank r and the state x give
 pub record Reads (K : Sections) (p s r : ℕ) (x : State) (report : ℕ → ℤ) : Type 0 where
@@ -59,15 +63,12 @@ module _ {K : Sections} {p s r : ℕ} {x : State} (R : Right K p s r x) where
     reads-order : (j : ℕ) → j < t → orderIn report t j ≡ kind x (u + j)
     reads-order j h = ap (λ (c : Bool). cond c (report (2 + j)) (pos 0)) (lt-ltb j t h) ∙ reads .slots (2 + j) (omega arith) ∙ report-order R j h
 
-    reads-free : (j : ℕ) → t ≤ j → orderIn report t j ≡ pos 0
-    reads-free j h = ap (λ (c : Bool). cond c (report (2 + j)) (pos 0)) (le-ltb j t h)
-
     pub order-is : (j : ℕ) → kind x (u + j) ≡ orderIn report t j
     order-is j = go (decLt j t)
       where
         go : Dec (j < t) → kind x (u + j) ≡ orderIn report t j
         go (yes h) = sym (reads-order j h)
-        go (no h) = R .rank .zeros (u + j) (omega (arith, torsion-is R, ones-bound R)) ∙ sym (reads-free j (omega arith))
+        go (no h) = R .rank .zeros (u + j) (omega (arith, torsion-is R, ones-bound R)) ∙ sym (order-free report t j (omega arith))
 
     presents : Presents K p (t + f) (generatorIn report t n) (orderIn report t)
     presents =
@@ -102,7 +103,7 @@ module _ {K : Sections} {p f t f′ t′ : ℕ} {r r′ : ℕ → ℤ} where
 
       -- order t, free in the first, exceeds 1 in the second
       free : t < t′ → orderIn r′ t′ t ≡ pos 0
-      free l = sym (same .orders t (omega (arith, same .count))) ∙ ap (λ (c : Bool). cond c (r (2 + t)) (pos 0)) (le-ltb t t (omega arith))
+      free l = sym (same .orders t (omega (arith, same .count))) ∙ order-free r t t (omega arith)
 
       go : Dec (t′ ≤ t) → t′ ≤ t
       go (yes h) = h
@@ -110,6 +111,10 @@ module _ {K : Sections} {p f t f′ t′ : ℕ} {r r′ : ℕ → ℤ} where
         where
           one≮zero : pos 1 <ℤ pos 0 → ⊥
           one≮zero l = omega (arith, pos-lt l)
+
+-- an order is positive
+pub order-positive : {K : Sections} {p f t : ℕ} {report : ℕ → ℤ} → IsRight K p f t report → (j : ℕ) → j < t → pos 0 <ℤ orderIn report t j
+order-positive right j h = <ℤ-≤ℤ-trans (lt-pos {m = 0} {n = 1} (omega arith)) (le-of-lt (right .order-above-one j h))
 
 pub counts-unique : {K : Sections} {p f t f′ t′ : ℕ} → HasCounts K p f t → HasCounts K p f′ t′ → (f ≡ f′) × (t ≡ t′)
 counts-unique {K} {p} {f} {t} {f′} {t′} a b = (omega (arith, same, total-is), same)

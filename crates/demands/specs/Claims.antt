@@ -1,17 +1,17 @@
 -- The owner's demands, sentence by sentence, for every sheet b, dimension p, and every length and content of every slice. The contracts of the code
 -- say that the library's calls answer and leave what `reportCall`, `coordinateCall` and `coordinateListsCall` say, the host calls what `hostReport`,
 -- `hostCoordinates` and `hostCoordinateLists` say, the import calls what `importCall` says, and that `print_input`, which the program calls between
--- reading and writing, puts `programText`; here is claimed what these are. `Proofs` proves each claim, and `Met` shows that hypotheses are met. "ends on
--- all input .. nothing undefined happens" (demand 1) is settled by the proof of every function, "nothing is assumed beyond 01's rule on overlapping
--- slices" (demand 3) by calls without a `requires`. A slice of bytes meets `Bytes`: the contract of `Sheet::read` says so.
+-- reading and writing, puts `programText`; here is claimed what these are. `Proofs` proves each claim, and `Met` and `MetOrder3` show that hypotheses
+-- are met. "ends on all input .. nothing undefined happens" (demand 1) is settled by the proof of every function, "nothing is assumed beyond 01's rule on
+-- overlapping slices" (demand 3) by calls without a `requires`. A slice of bytes meets `Bytes`: the contract of `Sheet::read` says so.
 use mathlib.Core.Path.{_≡_}
 use mathlib.Core.Logic.{_↔_, _≢_, _⊎_}
 use mathlib.Core.Bool.{true, false}
 use mathlib.Core.List.{List, _++_}
 use Prim.Native.Nat.{ℕ, _+_, _-_, _*_, _^_, _≤_, _<_}
 use lib.ListN.{length, getD, take, drop}
-use lib.IntN.{ℤ, pos, _-ℤ_}
-use lib.Signed.{_≤ℤ_, _<ℤ_}
+use lib.IntN.{ℤ, pos, negℤ, _-ℤ_, _*ℤ_}
+use Rattle.integers.specs.Division.{residue, NearestZero}
 use Rattle.complexes.specs.Cell.{Cell, precedes}
 use Rattle.complexes.specs.Complex.{Sections, count}
 use Rattle.complexes.specs.Packed.{wordVertices, packed, Numbered}
@@ -178,11 +178,43 @@ CoordinatesCombine =
     (f t : ℕ) → HasCounts (sectionsOf b) p f t →
     IsBoundary (sectionsOf b) p (λ i. z i -ℤ combination (t + f) c (generatorIn report t (count (sectionsOf b) p)) i)
 
--- document 01: "a row of order d is taken modulo d into 0 to d - 1"
-abbrev pub CoordinatesReduced : Type 0
-CoordinatesReduced =
+-- 02, Note 5, "A coordinate of order d now lies above -d/2 and up to d/2"
+abbrev pub CoordinatesNearestZero : Type 0
+CoordinatesNearestZero =
     (b : List ℕ) (p : ℕ) → Bytes b → (z : Chain) (c report : ℕ → ℤ) → CoordinatesOf b p z c → ReportOf b p report →
-    (f t : ℕ) → HasCounts (sectionsOf b) p f t → (j : ℕ) → j < t → (pos 0 ≤ℤ c j) × (c j <ℤ orderIn report t j)
+    (f t : ℕ) → HasCounts (sectionsOf b) p f t → (j : ℕ) → j < t → NearestZero (orderIn report t j) (c j)
+
+-- "so order 2 gives 0 or 1 and order 3 gives -1, 0 or 1"
+abbrev pub CoordinatesOfSmallOrders : Type 0
+CoordinatesOfSmallOrders =
+    (b : List ℕ) (p : ℕ) → Bytes b → (z : Chain) (c report : ℕ → ℤ) → CoordinatesOf b p z c → ReportOf b p report →
+    (f t : ℕ) → HasCounts (sectionsOf b) p f t → (j : ℕ) → j < t →
+    (orderIn report t j ≡ pos 2 → (c j ≡ pos 0) ⊎ (c j ≡ pos 1))
+    × (orderIn report t j ≡ pos 3 → (c j ≡ negℤ (pos 1)) ⊎ ((c j ≡ pos 0) ⊎ (c j ≡ pos 1)))
+
+-- the coordinates are the only numbers, those of the orders in that range, such that the cycle less these times the reported generators is a boundary
+abbrev pub CoordinatesOnly : Type 0
+CoordinatesOnly =
+    (b : List ℕ) (p : ℕ) → Bytes b → (z : Chain) (c report : ℕ → ℤ) → CoordinatesOf b p z c → ReportOf b p report →
+    (f t : ℕ) → HasCounts (sectionsOf b) p f t → (e : ℕ → ℤ) → ((j : ℕ) → j < t → NearestZero (orderIn report t j) (e j)) →
+    IsBoundary (sectionsOf b) p (λ i. z i -ℤ combination (t + f) e (generatorIn report t (count (sectionsOf b) p)) i) →
+    (j : ℕ) → j < t + f → e j ≡ c j
+
+-- w times a reported generator has the residue of w at the generator's place and 0 elsewhere; the residue of w for order 0, a free generator, is w
+abbrev pub GeneratorMultiples : Type 0
+GeneratorMultiples =
+    (b : List ℕ) (p : ℕ) → Bytes b → (z : Chain) (c report : ℕ → ℤ) → CoordinatesOf b p z c → ReportOf b p report →
+    (f t : ℕ) → HasCounts (sectionsOf b) p f t → (j : ℕ) → j < t + f → (w : ℤ) →
+    ((i : ℕ) → i < count (sectionsOf b) p → z i ≡ w *ℤ generatorIn report t (count (sectionsOf b) p) j i) →
+    (c j ≡ residue w (orderIn report t j)) × ((k : ℕ) → k < t + f → k ≢ j → c k ≡ pos 0)
+
+-- "Machine designers read a twisted loop run backwards as -1": so it is with a reported generator, but of order 2, where it is 1
+abbrev pub GeneratorsBackwards : Type 0
+GeneratorsBackwards =
+    (b : List ℕ) (p : ℕ) → Bytes b → (z : Chain) (c report : ℕ → ℤ) → CoordinatesOf b p z c → ReportOf b p report →
+    (f t : ℕ) → HasCounts (sectionsOf b) p f t → (j : ℕ) → j < t + f →
+    ((i : ℕ) → i < count (sectionsOf b) p → z i ≡ negℤ (generatorIn report t (count (sectionsOf b) p) j i)) →
+    (orderIn report t j ≢ pos 2 → c j ≡ negℤ (pos 1)) × (orderIn report t j ≡ pos 2 → c j ≡ pos 1)
 
 -- ==== Many chains in one call
 

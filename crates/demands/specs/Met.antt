@@ -1,6 +1,7 @@
 -- The hypotheses of the claims are met, shown on the projective plane of crate `projective_plane` in dimension 1, whose one loop has order 2:
 --     plane-report, loop-coordinates, ..   a report and coordinates that are done
 --     twice-bounds, loop-differs           what demand 3 then says: the loop and its opposite differ by a boundary, the loop and twice it do not
+--     plane-backwards                      what the claims on generators then say: run backwards, the generator of order 2 has coordinate 1
 --     plane-answered, loop-answered        the counts that the report call and the coordinate call answered, with peak 2 and 2 bits
 --     plane-limit, plane-enough            what the peak then says: at the entry limit 1 the reductions go too wide, at 2 they do not
 --     plane-lists, plane-list, ..          two chains in one call of the library and of the host, both done, and a list of each
@@ -17,9 +18,10 @@ use Prim.Native.Nat.{ℕ, zero, suc, _+_, _*_, _<_}
 use native.Mathlib.Omega.{arith}
 use lib.Dec.{T, ltb, ltb→lt}
 use lib.ListN.{length, getD, replicate}
-use lib.IntN.{ℤ, pos, negsuc, _-ℤ_}
+use lib.IntN.{ℤ, pos, negsuc, negℤ, _-ℤ_}
 use Rattle.lists.specs.Same.{every, both}
 use Rattle.lists.specs.Tabulate.{tabulate}
+use Rattle.lists.specs.TabulateLaws.{getD-tabulate}
 use Rattle.matrices.specs.Sum.{sum}
 use Rattle.matrices.specs.Vector.{apply}
 use Rattle.complexes.specs.Cell.{without, same, rises, precedes, listed}
@@ -47,19 +49,19 @@ use Rattle.reports.specs.Lists.{chainAt, chainBytes, listSlots, cyclesChecks, c
 use Rattle.reports.specs.Host.{coefficientAt, coefficientIn, chainFrom, slotsIn, numberAt, hostReport, hostCoordinates}
 use Rattle.reports.specs.RefusalLaws.{callChecks-zero}
 use Rattle.answers.specs.Homology.{IsBoundary}
-use Rattle.answers.specs.Right.{slot, HasCounts}
+use Rattle.answers.specs.Right.{slot, orderIn, generatorIn, HasCounts}
 use Rattle.answers.specs.Wide.{GoesWide}
 use Rattle.answers.specs.Called.{answerNumber, IsDone, NoCycle}
 use Rattle.answers.specs.WideLaws.{wide-iff}
-use Rattle.projective_plane.specs.Plane.{cells, sheet, loop, twice, backwards}
+use Rattle.projective_plane.specs.Plane.{cells, sheet, report, loop, twice, backwards}
 use Rattle.projective_plane.specs.Examples.{nines, counts, plane-calls, plane-too-wide}
 use Rattle.demands.specs.Claims.{TooWide, CoordinatesOf, ReportOf, CountsAnswered}
 use Rattle.demands.specs.Claims as claims
-use Rattle.demands.specs.Proofs.{reportNumbers, listNumbers, firstFaultyChain, hostFirstFaultyChain, listsLeave, notACycle, coordinateCounts, coordinatesDecide, leastLimit, hostReportNumbers, hostCoordinateNumbers, hostListNumbers, wordsOrdered, importTooLong, importSheet, hostImportSheet}
+use Rattle.demands.specs.Proofs.{reportNumbers, listNumbers, firstFaultyChain, hostFirstFaultyChain, listsLeave, notACycle, coordinateCounts, coordinatesDecide, generatorsBackwards, leastLimit, hostReportNumbers, hostCoordinateNumbers, hostListNumbers, wordsOrdered, importTooLong, importSheet, hostImportSheet}
 
 -- ---- a sheet of bytes
 
-numbers-below : (bound : ℕ) → 0 < bound → (l : List ℕ) → T (every (λ x. ltb x bound) l) → (i : ℕ) → getD l i 0 < bound
+pub numbers-below : (bound : ℕ) → 0 < bound → (l : List ℕ) → T (every (λ x. ltb x bound) l) → (i : ℕ) → getD l i 0 < bound
 unfolding every
 numbers-below bound h [] t i = h
 numbers-below bound h (x ∷ l) t zero = ltb→lt x bound (both (ltb x bound) (every (λ y. ltb y bound) l) t .0)
@@ -120,6 +122,31 @@ plane-limit = leastLimit sheet 1 plane-bytes counts plane-answered 1 (omega arit
 
 pub plane-enough : GoesWide 2 pivotRule (sectionsOf sheet) 1 → ⊥
 plane-enough g = omega (arith, leastLimit sheet 1 plane-bytes counts plane-answered 2 (omega arith) .too-wide .0 g)
+
+-- ---- what the claims on generators say of them
+
+-- the numbers of the report
+abbrev plane-numbers : ℕ → ℤ
+plane-numbers = slot (reportCall 256 sheet 1 (nines 242) (nines 600) .output)
+
+plane-order : orderIn plane-numbers 1 0 ≡ pos 2
+plane-order = ap (λ (c : Called). orderIn (slot (c .output)) 1 0) (plane-calls .report-call)
+
+-- the loop run backwards is the reported generator with its signs changed
+abbrev opposite : List ℤ → ℕ → ℤ
+opposite l i = negℤ (generatorIn (slot l) 1 15 0 i)
+
+backwards-opposite : (i : ℕ) → i < 15 → slot backwards i ≡ negℤ (generatorIn plane-numbers 1 15 0 i)
+unfolding tabulate
+backwards-opposite i l =
+    getD-tabulate 15 (opposite (report ++ nines 224)) i (pos 0) l ∙ sym (ap (λ (c : Called). opposite (c .output) i) (plane-calls .report-call))
+
+-- order 2, run backwards: 1
+pub plane-backwards : read backwards 0 ≡ pos 1
+unfolding countField cellsOf sectionsOf tabulate
+plane-backwards =
+    generatorsBackwards sheet 1 plane-bytes (slot backwards) (read backwards) plane-numbers backwards-coordinates plane-report 0 1 plane-counts 0 (omega arith)
+    backwards-opposite .1 plane-order
 
 -- ---- what demand 3 says of them
 

@@ -1,14 +1,16 @@
 -- The owner's demands: what `Claims` states, proved. The claims speak of the cells of the sheet, the calls of `chainCells`, which are these.
 use mathlib.Core.Path.{_≡_, refl, sym, _∙_, ap, ap₂, subst}
 use mathlib.Core.Logic.{_↔_, _⊎_}
-use mathlib.Core.List.{List, _++_}
+use mathlib.Core.List.{List, [], _∷_, _++_}
 use Prim.Native.Nat.{ℕ, _+_, _-_, _*_, _^_, _≤_, _<_}
 use native.Mathlib.Omega.{arith}
 use lib.ListN.{length, drop, replicate, length-replicate}
 use lib.Seq.{getD-take, getD-drop}
-use lib.IntN.{ℤ, pos, _-ℤ_}
-use lib.Signed.{_<ℤ_}
+use lib.IntN.{ℤ, pos, negℤ, _-ℤ_, _*ℤ_}
 use Rattle.limits.specs.Limits.{hostLimit, entryLimit, coefficientLimit}
+use Rattle.integers.specs.Solve.{solve, terms}
+use Rattle.integers.specs.Division.{residue, NearestZero}
+use Rattle.integers.specs.Residue.{nearest-two, nearest-three, residue-minus-one, residue-minus-one-of-two}
 use Rattle.complexes.specs.Complex.{count}
 use Rattle.complexes.specs.PackedLaws.{packed-fits, packed-precedes, packed-injective}
 use Rattle.sheet_format.specs.Check.{first, sectionsOf, chainCells}
@@ -21,6 +23,7 @@ use Rattle.imports.specs.ImportLaws.{import-malformed, import-faulty, mesh-cell
 use Rattle.imports.specs.SheetLaws.{import-sheet, import-number}
 use Rattle.homology_groups.specs.Chain.{Chain, combination}
 use Rattle.homology_groups.specs.ChainLaws.{boundary-same}
+use Rattle.homology_groups.specs.Coefficients.{single-at, single-other}
 use Rattle.reduction_steps.specs.State.{State}
 use Rattle.reduction_steps.specs.Pivot.{pivotRule}
 use Rattle.reports.specs.Report.{Counts, freeRank, torsionCount, bitsOf, countsOf}
@@ -40,7 +43,8 @@ use Rattle.answers.specs.Right.{slot, orderIn, generatorIn, IsRight, HasCounts}
 use Rattle.answers.specs.TwoReductions.{Right}
 use Rattle.answers.specs.ChainChecks.{not-a-cycle-iff}
 use Rattle.answers.specs.ReportRight.{Reads, report-is-right, has-counts, counts-unique}
-use Rattle.answers.specs.CoordinatesRight.{ReadsCoordinates, coordinates-decide, coordinates-combine, coordinates-reduced}
+use Rattle.answers.specs.CoordinatesRight.{ReadsCoordinates, coordinates-decide, coordinates-combine, coordinates-nearest}
+use Rattle.answers.specs.OnlyCoordinates.{Represents, represents-only, multiple-represents}
 use Rattle.answers.specs.Calls.{Answered}
 use Rattle.answers.specs.ReportCall.{reportBefore, report-answers, report-leaves, report-answered, report-reads}
 use Rattle.answers.specs.CoordinateCall.{coordinatesBefore, coordinates-answer, coordinates-leave, coordinates-answered, coordinates-read, chain-cycle}
@@ -50,7 +54,7 @@ use Rattle.answers.specs.HostReport.{host-report-answers, host-report-left, hos
 use Rattle.answers.specs.HostCoordinates.{host-coordinates-answer, host-coordinates-left, host-coordinated, given-coefficient}
 use Rattle.answers.specs.ProgramText.{refused-iff, dimensions-printed}
 use Rattle.demands.specs.Claims.{ReportNumbers, CoordinateNumbers, NotACycle, ReportLeaves, CoordinatesLeave, Acceptance, SheetCells, Reports, CoordinateCounts, SameCounts}
-use Rattle.demands.specs.Claims.{CoordinatesOf, ReportOf, CoordinatesDecide, CoordinatesCombine, CoordinatesReduced}
+use Rattle.demands.specs.Claims.{CoordinatesOf, ReportOf, CoordinatesDecide, CoordinatesCombine, CoordinatesNearestZero, CoordinatesOfSmallOrders, CoordinatesOnly, GeneratorMultiples, GeneratorsBackwards}
 use Rattle.demands.specs.Claims.{HostReportNumbers, HostCoordinateNumbers, HostReportLeft, HostCoordinatesLeft, HostReports, HostCoordinateCounts}
 use Rattle.demands.specs.Claims.{ListNumbers, FirstFaultyChain, HostFirstFaultyChain, ListsLeave, ListCounts, ListsSingle, HostListsSingle, HostListNumbers, HostListsLeft, HostListCounts}
 use Rattle.demands.specs.Claims.{WordFits, WordsOrdered, WordsShared, ProgramRefuses, ProgramPrints, ProgramInput}
@@ -295,6 +299,7 @@ record ReportBehind (b : List ℕ) (p : ℕ) (report : ℕ → ℤ) : Type 0 whe
   rank : ℕ
   state : State
   reductions : reductionsOf pivotRule (chainCells b) p ≡ reduced rows rank state
+  right : Right (sectionsOf b) p rows rank state
   reads : Reads (sectionsOf b) p rows rank state report
 
 report-behind : (b : List ℕ) (p : ℕ) → Bytes b → (report : ℕ → ℤ) → ReportOf b p report → ReportBehind b p report
@@ -306,12 +311,13 @@ report-behind b p bytes _ (claims.ReportOf.by-library limit report work counts e
       rank = d .counted .rank;
       state = d .counted .state;
       reductions = d .counted .reductions;
+      right = d .right;
       reads = report-reads limit b p report work bytes e;
     }
 report-behind b p bytes _ (claims.ReportOf.by-host report e) =
     let d = host-reported b bytes p report e in
     let R = d .behind in
-    record { rows = R .rows; rank = R .rank; state = R .state; reductions = R .reductions; reads = d .reads }
+    record { rows = R .rows; rank = R .rank; state = R .state; reductions = R .reductions; right = R .right; reads = d .reads }
 
 pub coordinatesCombine : CoordinatesCombine
 coordinatesCombine b p bytes z c report of-z of-report f t counts =
@@ -327,14 +333,57 @@ coordinatesCombine b p bytes z c report of-z of-report f t counts =
     combined : ℕ → ℕ → Chain
     combined f t = combination (t + f) c (generatorIn report t (count (sectionsOf b) p))
 
-pub coordinatesReduced : CoordinatesReduced
-coordinatesReduced b p bytes z c report of-z of-report f t counts j l =
+pub coordinatesNearestZero : CoordinatesNearestZero
+coordinatesNearestZero b p bytes z c report of-z of-report f t counts j l =
     let B = coordinates-behind b p bytes z c of-z in
     let D = report-behind b p bytes report of-report in
     let reads = same-reduced (λ s r x. Reads (sectionsOf b) p s r x report) (B .reductions) (D .reductions) (D .reads) in
     let own = counts-unique counts (has-counts (B .right)) in
-    let reduced = coordinates-reduced (B .right) (B .reads) reads j (omega (arith, own .1)) in
-    (reduced .0, subst (λ (n : ℕ). c j <ℤ orderIn report n j) (sym (own .1)) (reduced .1))
+    subst (λ (n : ℕ). NearestZero (orderIn report n j) (c j)) (sym (own .1)) (coordinates-nearest (B .right) (B .reads) reads j (omega (arith, own .1)))
+
+pub coordinatesOfSmallOrders : CoordinatesOfSmallOrders
+coordinatesOfSmallOrders b p bytes z c report of-z of-report f t counts j l =
+    let near = coordinatesNearestZero b p bytes z c report of-z of-report f t counts j l in (
+      λ e. nearest-two (c j) (subst (λ (d : ℤ). NearestZero d (c j)) e near),
+      λ e. nearest-three (c j) (subst (λ (d : ℤ). NearestZero d (c j)) e near),
+    )
+
+-- a report that is done is right, from the library and from the host
+report-right : (b : List ℕ) (p : ℕ) → Bytes b → (report : ℕ → ℤ) → ReportOf b p report → (f t : ℕ) → HasCounts (sectionsOf b) p f t → IsRight (sectionsOf b) p f t report
+report-right b p bytes report of-report f t counts =
+    let D = report-behind b p bytes report of-report in
+    let own = counts-unique counts (has-counts (D .right)) in
+    as-counted (λ f t. IsRight (sectionsOf b) p f t report) (own .0) (own .1) (report-is-right (D .right) (D .reads))
+
+represented : (b : List ℕ) (p : ℕ) → Bytes b → (z : Chain) (c report : ℕ → ℤ) → CoordinatesOf b p z c → ReportOf b p report → (f t : ℕ) → HasCounts (sectionsOf b) p f t
+    → Represents (sectionsOf b) p f t report z c
+represented b p bytes z c report of-z of-report f t counts = record {
+  nearest = coordinatesNearestZero b p bytes z c report of-z of-report f t counts;
+  remainder = coordinatesCombine b p bytes z c report of-z of-report f t counts;
+}
+
+pub coordinatesOnly : CoordinatesOnly
+coordinatesOnly b p bytes z c report of-z of-report f t counts e near remainder =
+    represents-only (report-right b p bytes report of-report f t counts) (represented b p bytes z c report of-z of-report f t counts)
+    (record { nearest = near; remainder = remainder })
+
+pub generatorMultiples : GeneratorMultiples
+generatorMultiples b p bytes z c report of-z of-report f t counts j l w is =
+    let right = report-right b p bytes report of-report f t counts in
+    let v = residue w (orderIn report t j) in
+    let only = represents-only right (represented b p bytes z c report of-z of-report f t counts) (multiple-represents right z j l w is) in
+    (sym (only j l) ∙ single-at j v, λ k m d. sym (only k m) ∙ single-other j v k d)
+
+pub generatorsBackwards : GeneratorsBackwards
+generatorsBackwards b p bytes z c report of-z of-report f t counts j l is =
+    let P = report-right b p bytes report of-report f t counts .presents in
+    let own = generatorMultiples b p bytes z c report of-z of-report f t counts j l (negℤ (pos 1)) (λ i a. is i a ∙ minus-one (generatorIn report t (count (sectionsOf b) p) j i)) .0 in (
+      λ d. own ∙ residue-minus-one (orderIn report t j) (P .nonneg j l) (P .proper j l) d,
+      λ e. own ∙ ap (residue (negℤ (pos 1))) e ∙ residue-minus-one-of-two,
+    )
+  where
+    minus-one : (x : ℤ) → negℤ x ≡ negℤ (pos 1) *ℤ x
+    minus-one x = solve (x ∷ []) (search terms depth 16) tt
 
 -- ==== The host calls
 

@@ -1,5 +1,6 @@
 -- Laws of the whole numbers that the kit lacks. `Ring`: the commutative ring laws. `Solve`: ring identities by normal forms.
--- `Order`: absolute value and order. `Division` has the definitions of division and divisibility, `Divides` and `Floor` their laws.
+-- `Order`: absolute value and order. `Division` has the definitions of division and divisibility, `Divides`, `Floor`, `Residue` and
+-- `ResidueRemainder` their laws.
 -- `Truncate`: the machine's division, and how it gives that of `Floor`. `Power`: powers of natural numbers.
 pub mod Division
 pub mod Power
@@ -8,4 +9,6 @@ pub mod Solve
 pub mod Order
 pub mod Divides
 pub mod Floor
+pub mod Residue
+pub mod ResidueRemainder
 pub mod Truncate

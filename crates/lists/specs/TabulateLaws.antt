@@ -1,9 +1,11 @@
--- Laws of `tabulate`: length-tabulate, getD-tabulate, getD-tabulate-beyond, tabulate-ext, tabulate-getD.
+-- Laws of `tabulate`: length-tabulate, getD-tabulate, getD-tabulate-beyond, tabulate-ext, tabulate-getD, set-tabulate, map-tabulate.
 use mathlib.Core.Path.{_≡_, refl, ap, ap₂}
-use mathlib.Core.List.{List, [], _∷_}
+use mathlib.Core.Bool.{cond}
+use mathlib.Core.List.{List, [], _∷_, map}
 use Prim.Native.Nat.{ℕ, zero, suc, _≤_, _<_, zero-le, suc-le-suc}
 use native.Mathlib.Nat.{not-suc-le-zero, le-of-suc-le-suc}
-use lib.ListN.{length, getD}
+use lib.Dec.{eqb, eqb·zero-suc, eqb·suc-zero, eqb·suc-suc}
+use lib.ListN.{length, getD, set}
 use Rattle.lists.specs.Tabulate.{tabulate}
 
 module _ {ℓ} {A : Type ℓ} where
@@ -36,3 +38,15 @@ module _ {ℓ} {A : Type ℓ} where
   unfolding tabulate
   tabulate-getD [] d = refl
   tabulate-getD (x ∷ l) d = ap (λ (r : List A). x ∷ r) (tabulate-getD l d)
+
+  -- place i set to x
+  pub set-tabulate : (n : ℕ) (f : ℕ → A) (i : ℕ) (x : A) → set (tabulate n f) i x ≡ tabulate n (λ a. cond (eqb a i) x (f a))
+  unfolding tabulate
+  set-tabulate zero f i x = refl
+  set-tabulate (suc n) f zero x = simp eqb·suc-zero
+  set-tabulate (suc n) f (suc i) x = simp (eqb·zero-suc, eqb·suc-suc, set-tabulate n (λ a. f (suc a)) i x)
+
+pub map-tabulate {ℓ ℓ′} : {A : Type ℓ} {B : Type ℓ′} (g : A → B) (n : ℕ) (f : ℕ → A) → map g (tabulate n f) ≡ tabulate n (λ i. g (f i))
+unfolding tabulate
+map-tabulate g zero f = refl
+map-tabulate g (suc n) f = ap (λ r. g (f 0) ∷ r) (map-tabulate g n (λ i. f (suc i)))

@@ -1,5 +1,5 @@
 -- The doubling tower with one floor of document 01, "Sheets to try": a projective plane. Its sheet, and what dimension 1 comes to.
--- Written by tests/make_projective_plane.py: the numbers are those of the Python model of document 01, tests/model.
+-- Written by tests/make_torsion_examples.py: the numbers are those of the Python model of document 01, tests/model.
 use mathlib.Core.List.{List, [], _∷_}
 use Prim.Native.Nat.{ℕ}
 use lib.IntN.{ℤ, pos, negℤ}

@@ -9,7 +9,7 @@ use mathlib.Core.List.{List, []}
 use mathlib.Core.Path.{_≡_, refl}
 use lib.Dec.{T, eqb, eqb→eq}
 use lib.ListN.{replicate}
-use Rattle.integers.specs.Division.{floor, modulo, divides}
+use Rattle.integers.specs.Division.{floor, modulo, residue, divides}
 use Rattle.lists.specs.Tabulate.{tabulate}
 use Rattle.lists.specs.Splice.{splice, splices}
 use Rattle.lists.specs.Same.{every, sameList, both, sameList-eq}
@@ -88,7 +88,7 @@ unfolding every sameList sameBytes textGood hostGood called sameCalled end endOf
     reductionsOf reductions firstStart afterFirst second product secondStart afterSecond countBelow boundary coefficient sign
     reduce run step next bring positive quotient rowPass columnPass columnKeeps rowKeeps rowIndivisible firstIndivisible
     release1 downRows alongRow better onRow onColumn checked andThen within largest rowOperation columnOperation follow tableWithin tableLargest rowLargest table
-    onRows onColumns inverse identity null mul apply sum floor modulo divides tabulate reported torsionCount
+    onRows onColumns inverse identity null mul apply sum floor modulo residue divides tabulate reported torsionCount
     programText textFor dimensionsText dimensionText generatorLines spaced decimal digits
     hostReport hostCoordinates callChecks chainChecks coefficientExceeds boundaryNotZero
     hostCoordinateLists chainsChecks cyclesChecks splices splice

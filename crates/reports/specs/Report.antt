@@ -1,11 +1,11 @@
--- The report and the coordinates that the two reductions give: document 01, "The report and the coordinates"; document 02, Note 4.
+-- The report and the coordinates that the two reductions give: document 01, "The report and the coordinates"; document 02, Notes 4 and 5.
 use mathlib.Core.Bool.{cond}
 use mathlib.Core.List.{List, [], _∷_, _++_, map}
 use Prim.Native.Nat.{ℕ, zero, suc, _-_, _/_}
 use lib.Dec.{eqb}
 use lib.ListN.{length, getD}
 use lib.IntN.{ℤ, pos, natAbs}
-use Rattle.integers.specs.Division.{modulo}
+use Rattle.integers.specs.Division.{residue}
 use Rattle.lists.specs.Tabulate.{tabulate}
 use Rattle.matrices.specs.Vector.{apply}
 use Rattle.reduction_steps.specs.Table.{Table, entry}
@@ -61,9 +61,9 @@ unfoldable pub reportList : ℕ → ℕ → ℕ → State → List ℤ
 reportList n s r x =
     pos (freeRank s r) ∷ pos (torsionCount r x) ∷ (map (kind x) (reported (kind x) r) ++ columnsOf (x .rowInverse) n (reported (kind x) s))
 
--- row i of Q times the chain z, modulo its order into 0 to order - 1; a free row, of order 0, is kept
+-- row i of Q times the chain z; of a row of order d the residue above -d/2 and up to d/2; a free row, of order 0, is kept
 unfoldable pub coordinateAt : ℕ → State → List ℤ → ℕ → ℤ
-coordinateAt n x z i = modulo (apply n (entry (x .rowFollower)) (λ j. getD z j (pos 0)) i) (kind x i)
+coordinateAt n x z i = residue (apply n (entry (x .rowFollower)) (λ j. getD z j (pos 0)) i) (kind x i)
 
 -- the coordinates of z, in the report's order
 unfoldable pub coordinateList : ℕ → ℕ → State → List ℤ → List ℤ

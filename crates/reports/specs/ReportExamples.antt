@@ -4,7 +4,7 @@ use mathlib.Core.List.{[], _∷_, map}
 use mathlib.Core.Path.{_≡_, refl}
 use Prim.Native.Nat.{ℕ}
 use lib.IntN.{ℤ, pos, negℤ}
-use Rattle.integers.specs.Division.{floor, modulo}
+use Rattle.integers.specs.Division.{floor, modulo, residue}
 use Rattle.lists.specs.Tabulate.{tabulate}
 use Rattle.matrices.specs.Sum.{sum}
 use Rattle.matrices.specs.Vector.{apply}
@@ -56,10 +56,13 @@ pub record ReportExamples : Type 0 where
       ∷ pos 0 ∷ pos 0 ∷ pos 1 ∷ pos 0
       ∷ pos 0 ∷ pos 0 ∷ pos 0 ∷ pos 1
       ∷ []
-  -- -1 modulo 2, -5 modulo 6, and -9 in the free row
+  -- -1 of order 2, -5 of order 6, and -9 in the free row
   pub coordinates : coordinateList 4 4 left (pos 5 ∷ minus 1 ∷ minus 5 ∷ minus 9 ∷ []) ≡ pos 1 ∷ pos 1 ∷ minus 9 ∷ []
-  -- 2 modulo 2, 17 modulo 6
-  pub multiples : coordinateList 4 4 left (pos 0 ∷ pos 2 ∷ pos 17 ∷ pos 0 ∷ []) ≡ pos 0 ∷ pos 5 ∷ pos 0 ∷ []
+  -- 2 of order 2, 17 of order 6
+  pub multiples : coordinateList 4 4 left (pos 0 ∷ pos 2 ∷ pos 17 ∷ pos 0 ∷ []) ≡ pos 0 ∷ minus 1 ∷ pos 0 ∷ []
+  -- half the order is kept, and minus half is raised to it
+  pub halves : (coordinateList 4 4 left (pos 0 ∷ pos 1 ∷ pos 3 ∷ pos 0 ∷ []) ≡ pos 1 ∷ pos 3 ∷ pos 0 ∷ [])
+      × (coordinateList 4 4 left (pos 0 ∷ minus 1 ∷ minus 3 ∷ pos 0 ∷ []) ≡ pos 1 ∷ pos 3 ∷ pos 0 ∷ [])
   -- H 1 1 2 2 6, G -12 1 0 0, G 0 0 1 0 and G 0 0 0 1
   pub text : dimensionText 1 4 (reduced 4 3 left)
       ≡ 72 ∷ 32 ∷ 49 ∷ 32 ∷ 49 ∷ 32 ∷ 50 ∷ 32 ∷ 50 ∷ 32 ∷ 54 ∷ 10
@@ -72,5 +75,5 @@ pub record ReportExamples : Type 0 where
 
 pub report-examples : ReportExamples
 unfolding reportList coordinateList coordinateAt torsionCount bitsOf halvings columnsOf reported dimensionText generatorLines spaced decimal digits
-    apply sum floor modulo tabulate
-report-examples = record { bits = refl; counts = refl; report = refl; coordinates = refl; multiples = refl; text = refl; wide = refl }
+    apply sum floor modulo residue tabulate
+report-examples = record { bits = refl; counts = refl; report = refl; coordinates = refl; multiples = refl; halves = (refl, refl); text = refl; wide = refl }

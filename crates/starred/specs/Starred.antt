@@ -4,7 +4,7 @@
 use mathlib.Core.Path.{_≡_, refl}
 use mathlib.Core.List.{List, [], _++_}
 use lib.Dec.{T}
-use Rattle.integers.specs.Division.{floor, modulo, divides}
+use Rattle.integers.specs.Division.{floor, modulo, residue, divides}
 use Rattle.lists.specs.Tabulate.{tabulate}
 use Rattle.lists.specs.Splice.{splice, splices}
 use Rattle.matrices.specs.Sum.{sum}
@@ -44,7 +44,7 @@ unfolding every good sameCalled sameAnswer sameCounts sameSlice sameList sameNum
     reductions firstStart afterFirst second product secondStart afterSecond countBelow boundary coefficient sign
     reduce run step next bring positive quotient rowPass columnPass columnKeeps rowKeeps rowIndivisible firstIndivisible
     release1 downRows alongRow better onRow onColumn checked andThen within largest rowOperation columnOperation follow tableWithin tableLargest rowLargest table
-    onRows onColumns inverse identity null mul apply sum floor modulo divides tabulate
+    onRows onColumns inverse identity null mul apply sum floor modulo residue divides tabulate
     reportList coordinateList coordinateAt torsionCount bitsOf halvings columnsOf reported
     coordinateListsCall chainsChecks cyclesChecks splices splice
 starred-sheets-and-calls = tt

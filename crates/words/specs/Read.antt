@@ -1,4 +1,4 @@
--- What a word holds, and what is read from its bits. Main results: `sfits-below`; for numbers within the limit of an entry `entry-fits`, `wide-fits`,
+-- What a word holds, and what is read from its bits. Main results: `sfits-below`, `fits-below`; for numbers within the limit of an entry `entry-fits`, `wide-fits`,
 -- `read-entry`, `read-wide`, `wide-small`; `cast-fits`, `cast-is` for a word made wider; `of-bits`, `zero-of-bits`, `positive-bits` for the bits.
 use mathlib.Core.Path.{_≡_, sym, ap, _∙_}
 use Prim.Native.Nat.{ℕ, _^_, _<_, _≤_}
@@ -22,6 +22,11 @@ mag-le (negsuc n) = omega arith
 
 pub sfits-below : (w : Width) (z : ℤ) → natAbs z < 2 ^ hbits w → SFits w z
 sfits-below w z l = record { sfits = NatL.lt-of-le-of-lt (mag-le z) l }
+
+-- what is no larger than a positive number that fits
+pub fits-below : (d z : ℤ) → pos 0 <ℤ d → SFits w64 d → natAbs z ≤ natAbs d → SFits w64 z
+fits-below (pos n) z p f l = sfits-below w64 z (NatL.lt-of-le-of-lt l (f .sfits))
+fits-below (negsuc n) z p f l = absurd (p .lt)
 
 -- ---- a number within the limit of an entry
 

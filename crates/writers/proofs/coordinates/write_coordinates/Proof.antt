@@ -11,7 +11,7 @@ use lib.Signed.{_≤ℤ_}
 use mir.Syntax.{w64}
 use mir.Val.{ofZ}
 use mir.Facts.{toZ-ofZ}
-use Rattle.integers.specs.Division.{modulo}
+use Rattle.integers.specs.Division.{residue}
 use Rattle.matrices.specs.Vector.{apply}
 use Rattle.reduction_steps.specs.Table.{entry}
 use Rattle.reports.specs.Report.{reported, coordinateAt, coordinateList}
@@ -29,7 +29,7 @@ use Rattle.writers.proofs.coordinates.write_coordinates.Tie as tie
 
 -- the coordinate at row i
 abbrev coordinate : Matrix → Matrix → List ℤ → List ℤ → ℕ → ℤ
-coordinate m q w z i = modulo (apply (q .width) (entry (linesOf q w)) (at z) i) (kindIn m w i)
+coordinate m q w z i = residue (apply (q .width) (entry (linesOf q w)) (at z) i) (kindIn m w i)
 
 abbrev Inv-loop : tie.InvT-loop
 Inv-loop w chain coordinates₀ from m q lines next₀ i₀ coordinates next i =
@@ -96,7 +96,7 @@ loop-again c =
     (progress-number {f = f} (loop .inv) more (start .pre .kinds .nonneg (loop .i)) (λ k. w .0 .taken (ap (ofZ w64) (kind .ensures ∙ k)))
     (slot (c .before .before)) (read w64 (w .2 .result))
     (toZ-ofZ (record { sfits = w .2 .ok }) ∙ w .2 .ensures
-    ∙ ap₂ modulo (toZ-ofZ (record { sfits = w .1 .ok }) ∙ w .1 .ensures) (toZ-ofZ (record { sfits = kind .ok }) ∙ kind .ensures))))
+    ∙ ap₂ residue (toZ-ofZ (record { sfits = w .1 .ok }) ∙ w .1 .ensures) (toZ-ofZ (record { sfits = kind .ok }) ∙ kind .ensures))))
     (λ w. rw (w .1, w .2)
     (progress-one (loop .inv) more (sym (kind .ensures) ∙ of-bits (record { sfits = kind .ok }) (w .0 .left))))
     (c .if1 .came)

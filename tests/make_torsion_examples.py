@@ -1,25 +1,26 @@
 #!/usr/bin/env python3
-"""Writes the data of the crate projective_plane: the doubling tower with one floor.
+"""Writes the data of the crates projective_plane and moore_space: sheets with one loop of finite order.
 
 The sheet, what its two reductions of dimension 1 leave, its report, the coordinates of its
 generator and of multiples of it, and the lines that the program prints are the model's.
 """
 
 import argparse
+from dataclasses import dataclass
 from pathlib import Path
 
 from make_reduction_examples import Case, numbers, table
 from model import homology
 from model.calls import program_output
 from model.matrices import boundary, identity, multiply
-from model.meshes import tower
+from model.meshes import moore_space, tower
 from model.reduction import ENTRY_LIMIT
 from model.sheet import LIBRARY_COUNT_LIMIT, closure, from_facets, parse
 
 DIMENSION = 1
+SECTIONS = ("vertices", "edges", "triangles", "tetrahedra")
 HEADER = """\
--- The doubling tower with one floor of document 01, "Sheets to try": a projective plane. Its sheet, and what dimension 1 comes to.
--- Written by tests/make_projective_plane.py: the numbers are those of the Python model of document 01, tests/model.
+-- Written by tests/make_torsion_examples.py: the numbers are those of the Python model of document 01, tests/model.
 use mathlib.Core.List.{List, [], _∷_}
 use Prim.Native.Nat.{ℕ}
 use lib.IntN.{ℤ, pos, negℤ}
@@ -29,6 +30,40 @@ use Rattle.reduction_steps.specs.State.{State}
 abbrev minus : ℕ → ℤ
 minus n = negℤ (pos n)
 """
+
+
+@dataclass(frozen=True)
+class Multiple:
+    """A multiple of the loop: its name, what it is, the factor and the coordinate that it must have."""
+
+    name: str
+    text: str
+    factor: int
+    coordinate: int
+
+
+@dataclass(frozen=True)
+class Example:
+    """A sheet, what it is, the file of its data and the loop with its multiples."""
+
+    file: str
+    text: str
+    facets: list
+    chains: list
+
+
+LOOP = Multiple("loop", "the generator, a loop", 1, 1)
+EXAMPLES = [
+    Example("projective_plane/specs/Plane.antt",
+            'The doubling tower with one floor of document 01, "Sheets to try": a projective plane', tower(1),
+            [LOOP, Multiple("twice", "twice the loop", 2, 0),
+             Multiple("backwards", "the loop run backwards", -1, 1)]),
+    Example("moore_space/specs/Space.antt",
+            "A disc whose rim runs three times round a triangle: a Moore space of order 3", moore_space(3),
+            [LOOP, Multiple("twice", "twice the loop", 2, -1),
+             Multiple("thrice", "three times the loop", 3, 0),
+             Multiple("backwards", "the loop run backwards", -1, -1)]),
+]
 
 
 def bytes_of(data):
@@ -97,34 +132,44 @@ def printed(data, generators):
     return "".join(lines[first:first + 1 + len(generators)])
 
 
-def content(facets):
-    """The text of the file."""
-    data = from_facets(facets)
+def counted(sheet):
+    """How many cells of each dimension there are."""
+    counts = [sheet.count(p) for p in range(len(SECTIONS))]
+    return ", ".join(f"{count} {name}" for count, name in zip(counts, SECTIONS) if count)
+
+
+def chains(example, data, loop):
+    """The loop and its multiples, each checked for its coordinate."""
+    for one in example.chains:
+        chain = times(one.factor, loop)
+        assert homology.coordinates(data, DIMENSION, chain) == [one.coordinate], one.text
+        yield definition(one.text, one.name, "List ℤ", numbers(chain))
+
+
+def content(example):
+    """The text of a file."""
+    data = from_facets(example.facets)
     sheet = parse(data, LIBRARY_COUNT_LIMIT)
     found = homology.classes(sheet, DIMENSION)
     report = homology.report(data, DIMENSION)
-    loop = report.generators[0]
-    for factor, coordinate in ((1, 1), (2, 0), (-1, 1)):
-        assert homology.coordinates(data, DIMENSION, times(factor, loop)) == [coordinate]
     left = state(found, sheet.count(DIMENSION + 1), peak_of(sheet))
     text = printed(data, report.generators)
-    return HEADER + "".join([
-        definition("6 vertices, 15 edges, 10 triangles", "cells", "Sections", sections(closure(facets))),
+    return f"-- {example.text}. Its sheet, and what dimension 1 comes to.\n" + HEADER + "".join([
+        definition(counted(sheet), "cells", "Sections", sections(closure(example.facets))),
         definition("their sheet", "sheet", "List ℕ", bytes_of(data)),
         definition("what the second reduction leaves", "left", "State", left),
         definition("b, t, the orders and the generator", "report", "List ℤ", numbers(report.numbers())),
-        definition("the generator, a loop", "loop", "List ℤ", numbers(loop)),
-        definition("twice the loop", "twice", "List ℤ", numbers(times(2, loop))),
-        definition("the loop run backwards", "backwards", "List ℤ", numbers(times(-1, loop))),
+        *chains(example, data, report.generators[0]),
         definition(", then ".join(text.splitlines()), "text", "List ℕ", bytes_of(text.encode())),
     ])
 
 
 def main():
     parser = argparse.ArgumentParser(description=__doc__.splitlines()[0])
-    parser.add_argument("crate", type=Path, metavar="CRATE", help="the folder of the crate")
-    crate = parser.parse_args().crate
-    (crate / "specs" / "Plane.antt").write_text(content(tower(1)), encoding="utf-8")
+    parser.add_argument("crates", type=Path, metavar="CRATES", help="the folder of the crates")
+    crates = parser.parse_args().crates
+    for example in EXAMPLES:
+        (crates / example.file).write_text(content(example), encoding="utf-8")
 
 
 if __name__ == "__main__":

@@ -1,0 +1,90 @@
+-- A Moore space of order 3: `reductions-space` gives the two reductions of dimension 1, and the calls and the text follow from it.
+--     cells-read     the cells of the sheet
+--     space-calls    the report, and the coordinates of the generator, of two and three times the generator and of its opposite: 1, -1, 0, -1
+use mathlib.Core.List.{List, [], _∷_, _++_}
+use mathlib.Core.Path.{_≡_, refl, sym, _∙_}
+use Prim.Native.Nat.{ℕ}
+use lib.IntN.{ℤ, pos, negℤ}
+use lib.ListN.{replicate}
+use Rattle.limits.specs.Limits.{entryLimit}
+use Rattle.integers.specs.Division.{floor, modulo, residue, divides}
+use Rattle.lists.specs.Tabulate.{tabulate}
+use Rattle.matrices.specs.Sum.{sum}
+use Rattle.matrices.specs.Matrix.{mul, identity, null}
+use Rattle.matrices.specs.Vector.{apply}
+use Rattle.matrices.specs.Operation.{inverse}
+use Rattle.complexes.specs.Cell.{without, same, rises, precedes, listed}
+use Rattle.complexes.specs.Boundary.{sign, coefficient, countBelow, boundary}
+use Rattle.sheet_format.specs.Layout.{start}
+use Rattle.sheet_format.specs.Check.{countField, offsetField, cellOf, cellsOf, sectionsOf, chainCells, some, verticesDoNotRise, cellsDoNotRise, faceMissing, refusal}
+use Rattle.reduction_steps.specs.Table.{table, rowLargest, tableLargest, tableWithin}
+use Rattle.reduction_steps.specs.State.{largest, within, checked, andThen}
+use Rattle.reduction_steps.specs.Pivot.{better, alongRow, downRows, release1, pivotRule}
+use Rattle.reduction_steps.specs.Step.{columnKeeps, rowKeeps, rowIndivisible, firstIndivisible, quotient, next}
+use Rattle.reports.specs.Reductions.{reduced, firstStart, product, secondStart, afterSecond}
+use Rattle.reports.specs.Report.{Counts, reported, columnsOf, torsionCount, halvings, bitsOf, reportList, coordinateAt, coordinateList}
+use Rattle.reports.specs.Call.{Called, done, coefficientExceeds, boundaryNotZero, callChecks, chainChecks, finished, reductionsOf, reportCall, coordinateCall}
+use Rattle.reports.specs.Text.{digits, decimal, spaced, generatorLines, dimensionText}
+use Rattle.quick_reduction.specs.Lines.{onList, lineLess, onLines, onEntries}
+use Rattle.quick_reduction.specs.Quick.{quickRows, quickColumns, quickRow, quickColumn, quickPositive, quickBring, quickRowPass, quickColumnPass, quickStep, quickRun, quickReduce, quickSecond, quickAfterFirst, quickReductions}
+use Rattle.quick_reduction.specs.QuickLaws.{quick-reductions}
+use Rattle.moore_space.specs.Space.{cells, sheet, left, report, loop, twice, thrice, backwards, text}
+
+-- the cells of the sheet
+pub cells-read : chainCells sheet ≡ cells
+unfolding countField cellOf cellsOf sectionsOf chainCells start tabulate
+cells-read = refl
+
+-- 17 rows of Q, 17 pivots
+quick : quickReductions pivotRule entryLimit (chainCells sheet) 1 ≡ reduced 17 17 left
+unfolding quickReductions quickAfterFirst quickSecond firstStart product secondStart afterSecond countBelow boundary coefficient sign
+    countField cellOf cellsOf sectionsOf chainCells without same start
+    quickReduce quickRun quickStep next quickBring quickPositive quotient quickRowPass quickColumnPass columnKeeps rowKeeps rowIndivisible firstIndivisible
+    release1 downRows alongRow better quickRow quickColumn checked andThen within largest quickRows quickColumns
+    onLines onEntries onList lineLess tableWithin tableLargest rowLargest table
+    inverse identity null mul sum floor divides tabulate
+quick = refl
+
+pub reductions-space : reductionsOf pivotRule (chainCells sheet) 1 ≡ reduced 17 17 left
+unfolding reductionsOf
+reductions-space = sym (quick-reductions pivotRule entryLimit (chainCells sheet) 1) ∙ quick
+
+-- ---- the calls in dimension 1
+
+-- n slots as they are lent: a slot left untouched shows
+abbrev pub nines : ℕ → List ℤ
+nines n = replicate n (pos 9)
+
+-- b = 0, t = 1, and no entry beyond 3, which needs two bits
+abbrev pub counts : Counts
+counts = record { free = 0; torsion = 1; peak = 3; bits = 2 }
+
+-- done, these numbers in the output and the other slots untouched, the work slice cleared
+abbrev gives : List ℤ → List ℤ → Called
+gives numbers rest = record { answer = done counts; output = numbers ++ rest; work = replicate 1560 (pos 0) }
+
+-- the coordinate call on a chain gives one coordinate
+abbrev Coordinate : List ℤ → ℤ → Type 0
+Coordinate chain x = coordinateCall 256 sheet 1 chain (nines 24) (nines 1560) ≡ gives (x ∷ []) (nines 23)
+
+pub record SpaceCalls : Type 0 where
+  pub report-call : reportCall 256 sheet 1 (nines 602) (nines 1560) ≡ gives report (nines 575)
+  pub coordinate-loop : Coordinate loop (pos 1)
+  pub coordinate-twice : Coordinate twice (negℤ (pos 1))
+  pub coordinate-thrice : Coordinate thrice (pos 0)
+  pub coordinate-backwards : Coordinate backwards (negℤ (pos 1))
+  pub printed : dimensionText 1 24 (reductionsOf pivotRule (chainCells sheet) 1) ≡ text
+
+pub space-calls : SpaceCalls
+unfolding reportCall coordinateCall callChecks chainChecks coefficientExceeds boundaryNotZero finished
+    refusal countField offsetField cellOf cellsOf sectionsOf chainCells some verticesDoNotRise cellsDoNotRise faceMissing without same rises precedes listed start
+    countBelow boundary coefficient sign apply sum floor modulo residue tabulate reportList coordinateList coordinateAt torsionCount bitsOf halvings columnsOf reported
+    dimensionText generatorLines spaced decimal digits
+space-calls = record {
+  report-call = rw reductions-space;
+  coordinate-loop = rw reductions-space;
+  coordinate-twice = rw reductions-space;
+  coordinate-thrice = rw reductions-space;
+  coordinate-backwards = rw reductions-space;
+  printed = rw reductions-space;
+}
