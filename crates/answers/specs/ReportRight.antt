@@ -1,5 +1,6 @@
 -- Numbers that read as the report of two reductions that are right (`Reads`) are a right report: report-is-right, has-counts.
--- `order-free`, `order-positive`: the orders of generators, 0 behind the t orders and positive before. `counts-unique`: reports that are right agree on the free rank and the number of orders.
+-- `order-free`, `order-positive`: an order is 0 behind the t orders and positive before. `counts-unique`: reports that are right agree on the free rank
+-- and the number of orders.
 use mathlib.Core.Path.{_≡_, refl, sym, _∙_, ap, subst}
 use mathlib.Core.Bool.{Bool, cond}
 use Prim.Native.Nat.{ℕ, suc, _+_, _*_, _≤_, _<_}

@@ -2,6 +2,7 @@
 --     plane-report, loop-coordinates, ..   a report and coordinates that are done
 --     twice-bounds, loop-differs           what demand 3 then says: the loop and its opposite differ by a boundary, the loop and twice it do not
 --     plane-backwards                      what the claims on generators then say: run backwards, the generator of order 2 has coordinate 1
+--     plane-only                           what the claim on all numbers of the range then says: it has no other
 --     plane-answered, loop-answered        the counts that the report call and the coordinate call answered, with peak 2 and 2 bits
 --     plane-limit, plane-enough            what the peak then says: at the entry limit 1 the reductions go too wide, at 2 they do not
 --     plane-lists, plane-list, ..          two chains in one call of the library and of the host, both done, and a list of each
@@ -19,6 +20,7 @@ use native.Mathlib.Omega.{arith}
 use lib.Dec.{T, ltb, ltb→lt}
 use lib.ListN.{length, getD, replicate}
 use lib.IntN.{ℤ, pos, negsuc, negℤ, _-ℤ_}
+use Rattle.integers.specs.Division.{NearestZero}
 use Rattle.lists.specs.Same.{every, both}
 use Rattle.lists.specs.Tabulate.{tabulate}
 use Rattle.lists.specs.TabulateLaws.{getD-tabulate}
@@ -41,6 +43,8 @@ use Rattle.imports.specs.Import.{nodeLists, complexOf, tooLong, importCall, imp
 use Rattle.imports.specs.ImportLaws.{mesh-cells}
 use Rattle.imports.specs.Sheet.{headerGives, ImportedSheet}
 use Rattle.imports.specs.Examples.{hollow, lent, hollowMesh, hollow-text, hollow-right, hollow-done, hollow-host-done}
+use Rattle.homology_groups.specs.ChainLaws.{boundary-same}
+use Rattle.homology_groups.specs.PresentationLaws.{combination-ext}
 use Rattle.reduction_steps.specs.Pivot.{release1, pivotRule}
 use Rattle.reduction_steps.specs.PivotLaws.{release1-is-rule}
 use Rattle.limits.specs.Limits.{libraryLimit, hostLimit, coefficientLimit}
@@ -57,7 +61,7 @@ use Rattle.projective_plane.specs.Plane.{cells, sheet, report, loop, twice, bac
 use Rattle.projective_plane.specs.Examples.{nines, counts, plane-calls, plane-too-wide}
 use Rattle.demands.specs.Claims.{TooWide, CoordinatesOf, ReportOf, CountsAnswered}
 use Rattle.demands.specs.Claims as claims
-use Rattle.demands.specs.Proofs.{reportNumbers, listNumbers, firstFaultyChain, hostFirstFaultyChain, listsLeave, notACycle, coordinateCounts, coordinatesDecide, generatorsBackwards, leastLimit, hostReportNumbers, hostCoordinateNumbers, hostListNumbers, wordsOrdered, importTooLong, importSheet, hostImportSheet}
+use Rattle.demands.specs.Proofs.{reportNumbers, listNumbers, firstFaultyChain, hostFirstFaultyChain, listsLeave, notACycle, coordinateCounts, coordinatesDecide, coordinatesCombine, coordinatesNearestZero, coordinatesOnly, generatorsBackwards, leastLimit, hostReportNumbers, hostCoordinateNumbers, hostListNumbers, wordsOrdered, importTooLong, importSheet, hostImportSheet}
 
 -- ---- a sheet of bytes
 
@@ -147,6 +151,23 @@ unfolding countField cellsOf sectionsOf tabulate
 plane-backwards =
     generatorsBackwards sheet 1 plane-bytes (slot backwards) (read backwards) plane-numbers backwards-coordinates plane-report 0 1 plane-counts 0 (omega arith)
     backwards-opposite .1 plane-order
+
+-- a list of 1 alone is in the range, and the loop run backwards less 1 times the generator is a boundary: so its coordinate is 1
+pub plane-only : pos 1 ≡ read backwards 0
+plane-only =
+    coordinatesOnly sheet 1 plane-bytes (slot backwards) (read backwards) plane-numbers backwards-coordinates plane-report 0 1 plane-counts (λ j. pos 1) nearest
+    (boundary-same (record { at = λ i h. ap (λ (x : ℤ). slot backwards i -ℤ x) (combination-ext one (λ j l. record { at = λ a m. refl }) .at i h) })
+    (coordinatesCombine sheet 1 plane-bytes (slot backwards) (read backwards) plane-numbers backwards-coordinates plane-report 0 1 plane-counts))
+    0 (omega arith)
+  where
+    one : (j : ℕ) → j < 1 + 0 → read backwards j ≡ pos 1
+    one zero l = plane-backwards
+    one (suc j) l = absurd (omega arith)
+
+    nearest : (j : ℕ) → j < 1 → NearestZero (orderIn plane-numbers 1 j) (pos 1)
+    nearest j l =
+        subst (λ (x : ℤ). NearestZero (orderIn plane-numbers 1 j) x) (one j (omega arith))
+        (coordinatesNearestZero sheet 1 plane-bytes (slot backwards) (read backwards) plane-numbers backwards-coordinates plane-report 0 1 plane-counts j l)
 
 -- ---- what demand 3 says of them
 
