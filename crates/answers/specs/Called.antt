@@ -7,7 +7,7 @@ use lib.ListN.{length, getD}
 use lib.IntN.{ℤ, pos, natAbs}
 use Rattle.complexes.specs.Complex.{Sections, count}
 use Rattle.reports.specs.Report.{Counts}
-use Rattle.reports.specs.Call.{Answer, done, refused, Called, cleared}
+use Rattle.trials.specs.Trial.{Answer, done, refused, Called, cleared}
 use Rattle.answers.specs.Homology.{IsCycle}
 use Rattle.answers.specs.Right.{slot}
 

@@ -12,7 +12,8 @@ use lib.ListN.{length, getD}
 use lib.IntN.{ℤ, pos}
 use Rattle.complexes.specs.Complex.{Sections}
 use Rattle.complexes.specs.ChainComplex.{ChainComplex}
-use Rattle.sheet_format.specs.Check.{chainCells, first}
+use Rattle.trials.specs.Trial.{first}
+use Rattle.sheet_format.specs.Check.{sectionsOf}
 use Rattle.sheet_format.specs.Sheet.{Bytes}
 use Rattle.sheet_format.specs.Accept.{accepted-chains}
 use Rattle.reduction_steps.specs.State.{State, within}
@@ -20,11 +21,15 @@ use Rattle.reduction_steps.specs.Pivot.{Rule, IsRule}
 use Rattle.reports.specs.Reductions.{Reductions, tooWide, reduced}
 use Rattle.reports.specs.Report.{Counts, countsOf}
 use Rattle.reports.specs.ReductionsLaws.{tooWide≢reduced}
-use Rattle.reports.specs.Call.{done, written, finished, callChecks, reductionsOf}
+use Rattle.trials.specs.Trial.{done}
+use Rattle.lists.specs.Splice.{written}
+use Rattle.reports.specs.Call.{finished}
+use Rattle.requests.specs.Call.{callChecks}
+use Rattle.reports.specs.Reductions.{reductionsOf}
 use Rattle.limits.specs.Limits.{entryLimit}
-use Rattle.reports.specs.CallLaws.{call, numbersLeft, ReducedWith, call-done, call-output}
-use Rattle.reports.specs.WrittenLaws.{length-written, getD-written-past}
-use Rattle.reports.specs.RefusalLaws.{callChecks-zero}
+use Rattle.requests.specs.CallLaws.{call, numbersLeft, ReducedWith, call-done, call-output}
+use Rattle.lists.specs.WrittenLaws.{length-written, getD-written-past}
+use Rattle.requests.specs.CheckLaws.{callChecks-zero}
 use Rattle.answers.specs.Wide.{GoesWide}
 use Rattle.answers.specs.Called.{answerNumber, IsDone, Answers, KeptPast, WorkLeft, Leaves}
 use Rattle.answers.specs.TwoReductions.{Right, reductions-right, reductions-within}
@@ -125,7 +130,7 @@ module _ (numbers : ℕ → ℕ → State → List ℤ) (output work : List ℤ)
 -- ---- an accepted sheet
 
 -- a call that passes the checks 1 to 9 has a chain complex
-pub passed-chains : (limit : ℕ) (b : List ℕ) (p : ℕ) (slots : Sections → ℕ → ℕ) (output work : ℕ) → Bytes b → first (callChecks limit b p slots output work) ≡ 0 → ChainComplex limit (chainCells b)
+pub passed-chains : (limit : ℕ) (b : List ℕ) (p : ℕ) (slots : Sections → ℕ → ℕ) (output work : ℕ) → Bytes b → first (callChecks limit b p slots output work) ≡ 0 → ChainComplex limit (sectionsOf b)
 passed-chains limit b p slots output work bytes e = accepted-chains limit b bytes (callChecks-zero limit b p slots output work .0 e .accepted)
 
 module _ {rule : Rule} (is : IsRule rule) {limit : ℕ} (K : Sections) (p : ℕ) (chains : ChainComplex limit K) where

@@ -13,50 +13,51 @@ use lib.IntN.{ℤ, natAbs}
 use Rattle.integers.specs.Order.{natAbs-zero}
 use Rattle.matrices.specs.Vector.{apply}
 use Rattle.complexes.specs.Boundary.{countBelow, boundary}
-use Rattle.sheet_format.specs.Check.{chainCells, some, first}
-use Rattle.sheet_format.specs.FirstLaws.{first-zero, first-append-absent}
+use Rattle.trials.specs.Trial.{first}
+use Rattle.sheet_format.specs.Check.{sectionsOf, some}
+use Rattle.trials.specs.FirstLaws.{first-zero, first-append-absent}
 use Rattle.sheet_format.specs.CheckLaws.{some-false}
 use Rattle.complexes.specs.Complex.{count}
-use Rattle.reports.specs.Call.{chainChecks, chainLengthDiffers, coefficientExceeds, boundaryNotZero}
-use Rattle.reports.specs.ChainsLaws.{coefficients-iff}
+use Rattle.requests.specs.Chains.{chainChecks, chainLengthDiffers, coefficientExceeds, boundaryNotZero}
+use Rattle.requests.specs.ChainsLaws.{coefficients-iff}
 use Rattle.answers.specs.Homology.{IsCycle}
 use Rattle.answers.specs.Right.{slot}
 use Rattle.answers.specs.Called.{NoCycle}
 
 -- ---- 12
 
-cycle-iff : (b : List ℕ) (p : ℕ) (z : List ℤ) → (boundaryNotZero (chainCells b) p z ≡ false) ↔ IsCycle (chainCells b) p (slot z)
+cycle-iff : (b : List ℕ) (p : ℕ) (z : List ℤ) → (boundaryNotZero (sectionsOf b) p z ≡ false) ↔ IsCycle (sectionsOf b) p (slot z)
 unfolding boundaryNotZero
 cycle-iff b p z = (forward, backward)
   where
     rows : ℕ
-    rows = countBelow (chainCells b) p
+    rows = countBelow (sectionsOf b) p
 
     value : ℕ → ℤ
-    value i = apply (count (chainCells b) p) (boundary (chainCells b) p) (slot z) i
+    value i = apply (count (sectionsOf b) p) (boundary (sectionsOf b) p) (slot z) i
 
     nonzero : ℕ → Bool
     nonzero i = not (eqb (natAbs (value i)) 0)
 
-    forward : some rows nonzero ≡ false → IsCycle (chainCells b) p (slot z)
+    forward : some rows nonzero ≡ false → IsCycle (sectionsOf b) p (slot z)
     forward e = record {
       vanishes = λ i l. natAbs-zero (value i) (eqb-true (natAbs (value i)) 0 (not-false (eqb (natAbs (value i)) 0) (some-false rows nonzero .0 e i l)));
     }
 
-    backward : IsCycle (chainCells b) p (slot z) → some rows nonzero ≡ false
+    backward : IsCycle (sectionsOf b) p (slot z) → some rows nonzero ≡ false
     backward c = some-false rows nonzero .1 (λ i l. ap (λ (t : ℤ). not (eqb (natAbs t) 0)) (c .vanishes i l))
 
 -- ---- the three
 
 pub record ChainPasses (limit : ℕ) (b : List ℕ) (p : ℕ) (z : List ℤ) : Type 0 where
-  pub size : length z ≡ count (chainCells b) p
+  pub size : length z ≡ count (sectionsOf b) p
   pub small : (i : ℕ) → natAbs (slot z i) ≤ limit
-  pub cycle : IsCycle (chainCells b) p (slot z)
+  pub cycle : IsCycle (sectionsOf b) p (slot z)
 
-size-iff : (b : List ℕ) (p : ℕ) (z : List ℤ) → (chainLengthDiffers (chainCells b) p z ≡ false) ↔ (length z ≡ count (chainCells b) p)
+size-iff : (b : List ℕ) (p : ℕ) (z : List ℤ) → (chainLengthDiffers (sectionsOf b) p z ≡ false) ↔ (length z ≡ count (sectionsOf b) p)
 size-iff b p z = (
-  λ e. eqb-true (length z) (count (chainCells b) p) (not-false (eqb (length z) (count (chainCells b) p)) e),
-  λ e. ap not (eq-eqb (length z) (count (chainCells b) p) e),
+  λ e. eqb-true (length z) (count (sectionsOf b) p) (not-false (eqb (length z) (count (sectionsOf b) p)) e),
+  λ e. ap not (eq-eqb (length z) (count (sectionsOf b) p) e),
 )
 
 pub chain-passes : (limit : ℕ) (b : List ℕ) (p : ℕ) (z : List ℤ) → first (chainChecks limit b p z) ≡ 0 → ChainPasses limit b p z
@@ -65,20 +66,20 @@ chain-passes limit b p z e =
     let (size, (small, (cycle, _))) = first-zero (chainChecks limit b p z) refl .0 e in
     record { size = size-iff b p z .0 size; small = coefficients-iff limit z .0 small; cycle = cycle-iff b p z .0 cycle }
 
-pub not-a-cycle-iff : (limit : ℕ) (b : List ℕ) (p : ℕ) (z : List ℤ) → (first (chainChecks limit b p z) ≡ 12) ↔ NoCycle limit (chainCells b) p z
+pub not-a-cycle-iff : (limit : ℕ) (b : List ℕ) (p : ℕ) (z : List ℤ) → (first (chainChecks limit b p z) ≡ 12) ↔ NoCycle limit (sectionsOf b) p z
 unfolding chainChecks
 not-a-cycle-iff limit b p z = (forward, backward)
   where
     -- the checks before 12
     earlier : List (ℕ × Bool)
-    earlier = (10, chainLengthDiffers (chainCells b) p z) ∷ (11, coefficientExceeds limit z) ∷ []
+    earlier = (10, chainLengthDiffers (sectionsOf b) p z) ∷ (11, coefficientExceeds limit z) ∷ []
 
     last : Bool → List (ℕ × Bool)
     last t = (12, t) ∷ []
 
-    forward : first (chainChecks limit b p z) ≡ 12 → NoCycle limit (chainCells b) p z
+    forward : first (chainChecks limit b p z) ≡ 12 → NoCycle limit (sectionsOf b) p z
     forward e =
-        let k = first-append-absent earlier (last (boundaryNotZero (chainCells b) p z)) refl 12 refl e in
+        let k = first-append-absent earlier (last (boundaryNotZero (sectionsOf b) p z)) refl 12 refl e in
         let (size, (small, _)) = first-zero earlier refl .0 (k .0) in
         record {
           size = size-iff b p z .0 size;
@@ -89,14 +90,14 @@ not-a-cycle-iff limit b p z = (forward, backward)
         zero≢twelve : _≡_ {A = ℕ} 0 12 → ⊥
         zero≢twelve h = omega arith
 
-    told : NoCycle limit (chainCells b) p z → (t : Bool) → boundaryNotZero (chainCells b) p z ≡ t → t ≡ true
+    told : NoCycle limit (sectionsOf b) p z → (t : Bool) → boundaryNotZero (sectionsOf b) p z ≡ t → t ≡ true
     told h true e = refl
     told h false e = absurd (h .no-cycle (cycle-iff b p z .0 e))
 
-    backward : NoCycle limit (chainCells b) p z → first (chainChecks limit b p z) ≡ 12
+    backward : NoCycle limit (sectionsOf b) p z → first (chainChecks limit b p z) ≡ 12
     backward h =
         rw (
           size-iff b p z .1 (h .size),
           coefficients-iff limit z .1 (h .small),
-          told h (boundaryNotZero (chainCells b) p z) refl,
+          told h (boundaryNotZero (sectionsOf b) p z) refl,
         )

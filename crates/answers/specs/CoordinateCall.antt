@@ -10,18 +10,24 @@ use lib.ListN.{length, getD}
 use lib.IntN.{ℤ, pos}
 use Rattle.complexes.specs.Complex.{count}
 use Rattle.complexes.specs.ChainComplex.{ChainComplex}
-use Rattle.sheet_format.specs.Check.{chainCells, first}
+use Rattle.trials.specs.Trial.{first}
+use Rattle.sheet_format.specs.Check.{sectionsOf}
 use Rattle.sheet_format.specs.Sheet.{Bytes}
 use Rattle.reduction_steps.specs.State.{State}
 use Rattle.reduction_steps.specs.Pivot.{pivotRule}
 use Rattle.reduction_steps.specs.PivotLaws.{pivotRule-is-rule}
 use Rattle.reports.specs.Report.{Counts, coordinateList}
 use Rattle.reports.specs.ReportLaws.{coordinates-fit}
-use Rattle.reports.specs.Call.{Called, done, written, callChecks, chainChecks, coordinateSlots, reductionsOf, coordinateCall}
+use Rattle.trials.specs.Trial.{Called, done}
+use Rattle.lists.specs.Splice.{written}
+use Rattle.requests.specs.Call.{callChecks}
+use Rattle.requests.specs.Chains.{chainChecks}
+use Rattle.reports.specs.Call.{coordinateSlots, coordinateCall}
+use Rattle.reports.specs.Reductions.{reductionsOf}
 use Rattle.limits.specs.Limits.{entryLimit, coefficientLimit}
-use Rattle.reports.specs.RefusalLaws.{callChecks-zero, call-chain-zero, call-chain-narrow, chainChecks-narrow}
-use Rattle.reports.specs.WrittenLaws.{getD-written}
-use Rattle.reports.specs.CallLaws.{numbersLeft, ReducedWith, call-output}
+use Rattle.requests.specs.CheckLaws.{callChecks-zero, call-chain-zero, call-chain-narrow, chainChecks-narrow}
+use Rattle.lists.specs.WrittenLaws.{getD-written}
+use Rattle.requests.specs.CallLaws.{numbersLeft, ReducedWith, call-output}
 use Rattle.answers.specs.Homology.{IsCycle}
 use Rattle.answers.specs.Right.{slot}
 use Rattle.answers.specs.Wide.{GoesWide}
@@ -40,7 +46,7 @@ module _ (limit : ℕ) (b : List ℕ) (p : ℕ) (z coordinates work : List ℤ) 
   coordinatesBefore = first (callChecks limit b p coordinateSlots (length coordinates) (length work) ++ chainChecks coefficientLimit b p z)
 
   abbrev pub coordinatesNumbers : ℕ → ℕ → State → List ℤ
-  coordinatesNumbers s r x = coordinateList (count (chainCells b) p) s x z
+  coordinatesNumbers s r x = coordinateList (count (sectionsOf b) p) s x z
 
   abbrev pub coordinatesLeft : ℕ → ℕ → State → List ℤ
   coordinatesLeft = numbersLeft coordinatesNumbers coordinates
@@ -54,22 +60,22 @@ module _ (limit : ℕ) (b : List ℕ) (p : ℕ) (z coordinates work : List ℤ) 
   pub coordinates-passed : (coordinatesBefore ≡ 0) ↔ ((sheetBefore ≡ 0) × (first (chainChecks coefficientLimit b p z) ≡ 0))
   coordinates-passed = call-chain-zero limit b p coordinateSlots (length coordinates) (length work) (chainChecks coefficientLimit b p z)
 
-  coordinates-chains : Bytes b → coordinatesBefore ≡ 0 → ChainComplex limit (chainCells b)
+  coordinates-chains : Bytes b → coordinatesBefore ≡ 0 → ChainComplex limit (sectionsOf b)
   coordinates-chains bytes e = passed-chains limit b p coordinateSlots (length coordinates) (length work) bytes (coordinates-passed .0 e .0)
 
-  pub chain-cycle : coordinatesBefore ≡ 0 → IsCycle (chainCells b) p (slot z)
+  pub chain-cycle : coordinatesBefore ≡ 0 → IsCycle (sectionsOf b) p (slot z)
   chain-cycle e = chain-passes coefficientLimit b p z (coordinates-passed .0 e .1) .cycle
 
-  pub coordinates-answer : Bytes b → Answers coordinatesBefore (GoesWide entryLimit pivotRule (chainCells b) p) (answerNumber (coordinatesCalled .answer))
+  pub coordinates-answer : Bytes b → Answers coordinatesBefore (GoesWide entryLimit pivotRule (sectionsOf b) p) (answerNumber (coordinatesCalled .answer))
   unfolding coordinateCall
-  coordinates-answer bytes = call-answers pivotRule-is-rule (chainCells b) p coordinatesBefore coordinates-narrow (coordinates-chains bytes) coordinatesLeft coordinates work
+  coordinates-answer bytes = call-answers pivotRule-is-rule (sectionsOf b) p coordinatesBefore coordinates-narrow (coordinates-chains bytes) coordinatesLeft coordinates work
 
   module _ (bytes : Bytes b) {counts : Counts} (e : coordinatesCalled .answer ≡ done counts) where
-    pub coordinates-answered : Answered pivotRule (chainCells b) p coordinatesBefore counts
+    pub coordinates-answered : Answered pivotRule (sectionsOf b) p coordinatesBefore counts
     unfolding coordinateCall
-    coordinates-answered = answered pivotRule-is-rule (chainCells b) p coordinatesBefore (coordinates-chains bytes) coordinatesLeft coordinates work counts e
+    coordinates-answered = answered pivotRule-is-rule (sectionsOf b) p coordinatesBefore (coordinates-chains bytes) coordinatesLeft coordinates work counts e
 
-    abbrev c : ReducedWith (reductionsOf pivotRule (chainCells b) p) counts
+    abbrev c : ReducedWith (reductionsOf pivotRule (sectionsOf b) p) counts
     c = coordinates-answered .counted
 
     size : length (coordinatesNumbers (c .rows) (c .rank) (c .state)) ≡ counts .torsion + counts .free
@@ -77,9 +83,9 @@ module _ (limit : ℕ) (b : List ℕ) (p : ℕ) (z coordinates work : List ℤ) 
 
     output-is : coordinatesCalled .output ≡ written (coordinatesNumbers (c .rows) (c .rank) (c .state)) coordinates
     unfolding coordinateCall
-    output-is = call-output coordinatesBefore (reductionsOf pivotRule (chainCells b) p) coordinatesLeft coordinates work (coordinates-answered .passes) (c .rows) (c .rank) (c .state) (c .reductions)
+    output-is = call-output coordinatesBefore (reductionsOf pivotRule (sectionsOf b) p) coordinatesLeft coordinates work (coordinates-answered .passes) (c .rows) (c .rank) (c .state) (c .reductions)
 
-    pub coordinates-read : ReadsCoordinates (chainCells b) p (c .rows) (c .rank) (c .state) z (slot (coordinatesCalled .output))
+    pub coordinates-read : ReadsCoordinates (sectionsOf b) p (c .rows) (c .rank) (c .state) z (slot (coordinatesCalled .output))
     coordinates-read = record {
       places = λ j l.
           ap (λ (o : List ℤ). getD o j (pos 0)) output-is
@@ -89,15 +95,15 @@ module _ (limit : ℕ) (b : List ℕ) (p : ℕ) (z coordinates work : List ℤ) 
     coordinates-kept : KeptPast (pos 0) (counts .torsion + counts .free) coordinates (coordinatesCalled .output)
     unfolding coordinateCall
     coordinates-kept =
-        output-kept coordinatesNumbers coordinates work coordinatesBefore (reductionsOf pivotRule (chainCells b) p) (coordinates-answered .passes) c (counts .torsion + counts .free) size (le-trans fits slots)
+        output-kept coordinatesNumbers coordinates work coordinatesBefore (reductionsOf pivotRule (sectionsOf b) p) (coordinates-answered .passes) c (counts .torsion + counts .free) size (le-trans fits slots)
       where
-        fits : counts .torsion + counts .free ≤ coordinateSlots (chainCells b) p
-        fits = rw size at (coordinates-fit (count (chainCells b) p) (c .rows) (c .state) z (coordinates-answered .right .rows-bound))
+        fits : counts .torsion + counts .free ≤ coordinateSlots (sectionsOf b) p
+        fits = rw size at (coordinates-fit (count (sectionsOf b) p) (c .rows) (c .state) z (coordinates-answered .right .rows-bound))
 
-        slots : coordinateSlots (chainCells b) p ≤ length coordinates
+        slots : coordinateSlots (sectionsOf b) p ≤ length coordinates
         slots = callChecks-zero limit b p coordinateSlots (length coordinates) (length work) .0 (coordinates-passed .0 (coordinates-answered .passes) .0) .output-slots
 
   pub coordinates-leave : Bytes b → Leaves (λ f t. t + f) coordinates work coordinatesCalled
   unfolding coordinateCall
   coordinates-leave bytes =
-      call-leaves coordinatesLeft coordinates work coordinatesBefore (reductionsOf pivotRule (chainCells b) p) (λ f t. t + f) coordinates-narrow (λ counts e. coordinates-kept bytes e)
+      call-leaves coordinatesLeft coordinates work coordinatesBefore (reductionsOf pivotRule (sectionsOf b) p) (λ f t. t + f) coordinates-narrow (λ counts e. coordinates-kept bytes e)

@@ -12,20 +12,27 @@ use Rattle.lists.specs.Splice.{splices}
 use Rattle.lists.specs.SplicesLaws.{Fit, length-splices, splices-in, splices-between, splices-past}
 use Rattle.complexes.specs.Complex.{count}
 use Rattle.complexes.specs.ChainComplex.{ChainComplex}
-use Rattle.sheet_format.specs.Check.{chainCells, first}
+use Rattle.trials.specs.Trial.{first}
+use Rattle.sheet_format.specs.Check.{sectionsOf}
 use Rattle.sheet_format.specs.Sheet.{Bytes}
 use Rattle.reduction_steps.specs.State.{State}
 use Rattle.reduction_steps.specs.Pivot.{pivotRule}
 use Rattle.reduction_steps.specs.PivotLaws.{pivotRule-is-rule}
 use Rattle.reports.specs.Report.{Counts, coordinateList}
 use Rattle.reports.specs.ReportLaws.{coordinates-fit}
-use Rattle.reports.specs.Call.{Called, done, written, callChecks, chainChecks, coordinateSlots, workSlots, reductionsOf, coordinateCall}
-use Rattle.reports.specs.Lists.{chainAt, listSlots, chainsChecks, coordinateListsCall}
-use Rattle.reports.specs.ChainsLaws.{length-chainAt, fault, chains-narrow, chains-zero}
+use Rattle.trials.specs.Trial.{Called, done}
+use Rattle.lists.specs.Splice.{written}
+use Rattle.requests.specs.Call.{callChecks, workSlots}
+use Rattle.requests.specs.Chains.{chainChecks}
+use Rattle.reports.specs.Call.{coordinateSlots, coordinateCall}
+use Rattle.reports.specs.Reductions.{reductionsOf}
+use Rattle.requests.specs.Chains.{chainAt, chainsChecks}
+use Rattle.reports.specs.Lists.{listSlots, coordinateListsCall}
+use Rattle.requests.specs.ChainsLaws.{length-chainAt, fault, chains-narrow, chains-zero}
 use Rattle.limits.specs.Limits.{entryLimit, coefficientLimit}
-use Rattle.reports.specs.RefusalLaws.{Passed, callChecks-zero, call-chain-zero, call-chain-narrow}
-use Rattle.reports.specs.WrittenLaws.{getD-written}
-use Rattle.reports.specs.CallLaws.{ReducedWith, call-answer, call-output}
+use Rattle.requests.specs.CheckLaws.{Passed, callChecks-zero, call-chain-zero, call-chain-narrow}
+use Rattle.lists.specs.WrittenLaws.{getD-written}
+use Rattle.requests.specs.CallLaws.{ReducedWith, call-answer, call-output}
 use Rattle.answers.specs.Right.{slot}
 use Rattle.answers.specs.Wide.{GoesWide}
 use Rattle.answers.specs.Called.{answerNumber, Answers, KeptPast, Leaves}
@@ -34,15 +41,15 @@ use Rattle.answers.specs.Calls.{call-leaves, passed-chains, call-answers
 use Rattle.answers.specs.CoordinateCall.{coordinatesBefore, coordinatesLeft, coordinates-passed}
 
 -- of a chain with n_p coefficients, 10 to 12 tell what 11 and 12 tell
-pub chain-told : (limit : ℕ) (b : List ℕ) (p : ℕ) (chains : List ℤ) (i : ℕ) → length (chainAt (count (chainCells b) p) chains i) ≡ count (chainCells b) p
-    → first (chainChecks limit b p (chainAt (count (chainCells b) p) chains i)) ≡ fault limit b p chains i
+pub chain-told : (limit : ℕ) (b : List ℕ) (p : ℕ) (chains : List ℤ) (i : ℕ) → length (chainAt (count (sectionsOf b) p) chains i) ≡ count (sectionsOf b) p
+    → first (chainChecks limit b p (chainAt (count (sectionsOf b) p) chains i)) ≡ fault limit b p chains i
 unfolding chainChecks
-chain-told limit b p chains i e = rw (eq-eqb (length (chainAt (count (chainCells b) p) chains i)) (count (chainCells b) p) e)
+chain-told limit b p chains i e = rw (eq-eqb (length (chainAt (count (sectionsOf b) p) chains i)) (count (sectionsOf b) p) e)
 
 module _ (limit : ℕ) (b : List ℕ) (p number : ℕ) (chains coordinates work : List ℤ) where
   -- n_p
   abbrev n : ℕ
-  n = count (chainCells b) p
+  n = count (sectionsOf b) p
 
   -- the refusals 1 to 12
   abbrev pub listsBefore : ℕ
@@ -63,21 +70,21 @@ module _ (limit : ℕ) (b : List ℕ) (p number : ℕ) (chains coordinates work 
       call-chain-narrow limit b p (listSlots number) (length coordinates) (length work) (chainsChecks coefficientLimit b p number chains)
       (chains-narrow coefficientLimit b p chains number)
 
-  lists-chains : Bytes b → listsBefore ≡ 0 → ChainComplex limit (chainCells b)
+  lists-chains : Bytes b → listsBefore ≡ 0 → ChainComplex limit (sectionsOf b)
   lists-chains bytes e =
       passed-chains limit b p (listSlots number) (length coordinates) (length work) bytes
       (call-chain-zero limit b p (listSlots number) (length coordinates) (length work) (chainsChecks coefficientLimit b p number chains) .0 e .0)
 
-  pub lists-answer : Bytes b → Answers listsBefore (GoesWide entryLimit pivotRule (chainCells b) p) (answerNumber (listsCalled .answer))
+  pub lists-answer : Bytes b → Answers listsBefore (GoesWide entryLimit pivotRule (sectionsOf b) p) (answerNumber (listsCalled .answer))
   unfolding coordinateListsCall
-  lists-answer bytes = call-answers pivotRule-is-rule (chainCells b) p listsBefore lists-narrow (lists-chains bytes) listsLeft coordinates work
+  lists-answer bytes = call-answers pivotRule-is-rule (sectionsOf b) p listsBefore lists-narrow (lists-chains bytes) listsLeft coordinates work
 
   module _ (bytes : Bytes b) {counts : Counts} (e : listsCalled .answer ≡ done counts) where
-    pub lists-answered : Answered pivotRule (chainCells b) p listsBefore counts
+    pub lists-answered : Answered pivotRule (sectionsOf b) p listsBefore counts
     unfolding coordinateListsCall
-    lists-answered = answered pivotRule-is-rule (chainCells b) p listsBefore (lists-chains bytes) listsLeft coordinates work counts e
+    lists-answered = answered pivotRule-is-rule (sectionsOf b) p listsBefore (lists-chains bytes) listsLeft coordinates work counts e
 
-    abbrev c : ReducedWith (reductionsOf pivotRule (chainCells b) p) counts
+    abbrev c : ReducedWith (reductionsOf pivotRule (sectionsOf b) p) counts
     c = lists-answered .counted
 
     passed : Passed limit b p (listSlots number) (length coordinates) (length work)
@@ -93,7 +100,7 @@ module _ (limit : ℕ) (b : List ℕ) (p number : ℕ) (chains coordinates work 
     output-is : listsCalled .output ≡ listsLeft (c .rows) (c .rank) (c .state)
     unfolding coordinateListsCall
     output-is =
-        call-output listsBefore (reductionsOf pivotRule (chainCells b) p) listsLeft coordinates work (lists-answered .passes) (c .rows) (c .rank) (c .state) (c .reductions)
+        call-output listsBefore (reductionsOf pivotRule (sectionsOf b) p) listsLeft coordinates work (lists-answered .passes) (c .rows) (c .rank) (c .state) (c .reductions)
 
     list-size : (z : List ℤ) → length (coordinateList n (c .rows) (c .state) z) ≡ counts .torsion + counts .free
     list-size z = cc (coordinates-length (lists-answered .right) z, c .torsion, c .free)
@@ -118,7 +125,7 @@ module _ (limit : ℕ) (b : List ℕ) (p number : ℕ) (chains coordinates work 
           ∙ splices-between n (list (c .rows) (c .state)) coordinates number fit i j (pos 0) next (omega (arith, list-size (chainAt n chains i))) m
 
       -- the single call on chain i
-      module _ (coordinates′ work′ : List ℤ) (room : n ≤ length coordinates′) (space : workSlots (chainCells b) p ≤ length work′) where
+      module _ (coordinates′ work′ : List ℤ) (room : n ≤ length coordinates′) (space : workSlots (sectionsOf b) p ≤ length work′) where
         abbrev single : Called
         single = coordinateCall limit b p (chainAt n chains i) coordinates′ work′
 
@@ -133,14 +140,14 @@ module _ (limit : ℕ) (b : List ℕ) (p number : ℕ) (chains coordinates work 
         pub single-answer : single .answer ≡ done counts
         unfolding coordinateCall
         single-answer =
-            call-answer (coordinatesBefore limit b p (chainAt n chains i) coordinates′ work′) (reductionsOf pivotRule (chainCells b) p)
+            call-answer (coordinatesBefore limit b p (chainAt n chains i) coordinates′ work′) (reductionsOf pivotRule (sectionsOf b) p)
             (coordinatesLeft limit b p (chainAt n chains i) coordinates′ work′) coordinates′ work′ before (c .rows) (c .rank) (c .state) (c .reductions)
             ∙ (λ k. done (record { free = sym (c .free) k; torsion = sym (c .torsion) k; peak = sym (c .peak) k; bits = sym (c .bits) k }))
 
         single-output : single .output ≡ written (list (c .rows) (c .state) i) coordinates′
         unfolding coordinateCall
         single-output =
-            call-output (coordinatesBefore limit b p (chainAt n chains i) coordinates′ work′) (reductionsOf pivotRule (chainCells b) p)
+            call-output (coordinatesBefore limit b p (chainAt n chains i) coordinates′ work′) (reductionsOf pivotRule (sectionsOf b) p)
             (coordinatesLeft limit b p (chainAt n chains i) coordinates′ work′) coordinates′ work′ before (c .rows) (c .rank) (c .state) (c .reductions)
 
         pub lists-single : (j : ℕ) → j < counts .torsion + counts .free → slot (listsCalled .output) (i * n + j) ≡ slot (single .output) j
@@ -155,4 +162,4 @@ module _ (limit : ℕ) (b : List ℕ) (p number : ℕ) (chains coordinates work 
   pub lists-leave : Bytes b → Leaves (λ f t. number * n) coordinates work listsCalled
   unfolding coordinateListsCall
   lists-leave bytes =
-      call-leaves listsLeft coordinates work listsBefore (reductionsOf pivotRule (chainCells b) p) (λ f t. number * n) lists-narrow (λ counts e. lists-kept bytes e)
+      call-leaves listsLeft coordinates work listsBefore (reductionsOf pivotRule (sectionsOf b) p) (λ f t. number * n) lists-narrow (λ counts e. lists-kept bytes e)

@@ -21,7 +21,7 @@ use Rattle.reduction_laws.specs.Shape.{within-iff, within-entry}
 use Rattle.reports.specs.Report.{kind, reported, columnsOf, freeRank, torsionCount, reportList, coordinateAt, coordinateList}
 use Rattle.reports.specs.ReportLaws.{length-reported-le}
 use Rattle.limits.specs.Limits.{libraryLimit, entryLimit, coefficientLimit}
-use Rattle.reports.specs.HostLaws.{Word}
+use Rattle.host_calls.specs.BytesLaws.{Word}
 use Rattle.answers.specs.Right.{slot}
 use Rattle.answers.specs.TwoReductions.{Right}
 

@@ -14,11 +14,13 @@ use Rattle.reduction_steps.specs.State.{State, within}
 use Rattle.reduction_steps.specs.Pivot.{Rule, IsRule}
 use Rattle.reports.specs.Reductions.{Reductions, tooWide, reduced}
 use Rattle.limits.specs.Limits.{libraryLimit, hostLimit, entryLimit}
-use Rattle.reports.specs.Call.{reductionsOf}
-use Rattle.reports.specs.WrittenLaws.{length-written, getD-written-past}
-use Rattle.reports.specs.Host.{HostCalled, numbersBytes, finishedWith, numberAt}
-use Rattle.reports.specs.HostLaws.{Word, length-numbersBytes, numberAt-numbersBytes}
-use Rattle.reports.specs.HostCallLaws.{hostCall, bytesLeft}
+use Rattle.reports.specs.Reductions.{reductionsOf}
+use Rattle.lists.specs.WrittenLaws.{length-written, getD-written-past}
+use Rattle.host_calls.specs.Host.{HostCalled}
+use Rattle.host_calls.specs.Bytes.{numbersBytes, numberAt}
+use Rattle.reports.specs.Host.{finishedWith}
+use Rattle.host_calls.specs.BytesLaws.{Word, length-numbersBytes, numberAt-numbersBytes}
+use Rattle.host_calls.specs.HostCallLaws.{hostCall, bytesLeft}
 use Rattle.answers.specs.Right.{slot}
 use Rattle.answers.specs.Wide.{GoesWide}
 use Rattle.answers.specs.Called.{Answers, KeptPast}

@@ -12,22 +12,30 @@ use Rattle.lists.specs.Splice.{splices}
 use Rattle.lists.specs.SplicesLaws.{Fit, length-splices, splices-in, splices-between, splices-past}
 use Rattle.complexes.specs.Complex.{count}
 use Rattle.complexes.specs.ChainComplex.{ChainComplex}
-use Rattle.sheet_format.specs.Check.{chainCells, first}
+use Rattle.trials.specs.Trial.{first}
+use Rattle.sheet_format.specs.Check.{sectionsOf}
 use Rattle.sheet_format.specs.Sheet.{Bytes}
 use Rattle.reduction_steps.specs.State.{State}
 use Rattle.reduction_steps.specs.Pivot.{pivotRule}
 use Rattle.reduction_steps.specs.PivotLaws.{pivotRule-is-rule}
 use Rattle.reports.specs.Report.{freeRank, torsionCount, coordinateList}
 use Rattle.reports.specs.ReportLaws.{coordinates-fit}
-use Rattle.reports.specs.Call.{callChecks, chainChecks, coordinateSlots, workSlots, reductionsOf}
-use Rattle.reports.specs.Lists.{chainAt, chainBytes, listSlots, chainsChecks, hostCoordinateLists}
-use Rattle.reports.specs.ChainsLaws.{length-chainAt, fault, fault-small, chains-narrow, chains-zero}
+use Rattle.requests.specs.Call.{callChecks, workSlots}
+use Rattle.requests.specs.Chains.{chainChecks}
+use Rattle.reports.specs.Call.{coordinateSlots}
+use Rattle.reports.specs.Reductions.{reductionsOf}
+use Rattle.requests.specs.Chains.{chainAt, chainsChecks}
+use Rattle.host_calls.specs.Bytes.{chainBytes}
+use Rattle.reports.specs.Lists.{listSlots, hostCoordinateLists}
+use Rattle.requests.specs.ChainsLaws.{length-chainAt, fault, fault-small, chains-narrow, chains-zero}
 use Rattle.limits.specs.Limits.{hostLimit, entryLimit, coefficientLimit}
-use Rattle.reports.specs.RefusalLaws.{Passed, callChecks-zero, call-chain-zero, call-chain-narrow}
-use Rattle.reports.specs.Host.{HostCalled, numbersBytes, chainFrom, slotsIn, hostCoordinates, numberAt}
-use Rattle.reports.specs.HostLaws.{Word, length-numbersBytes, numberAt-numbersBytes, numberAt-same}
-use Rattle.reports.specs.HostCallLaws.{bytesLeft}
-use Rattle.reports.specs.HostChainsLaws.{chainFrom-size, chainFrom-part}
+use Rattle.requests.specs.CheckLaws.{Passed, callChecks-zero, call-chain-zero, call-chain-narrow}
+use Rattle.host_calls.specs.Host.{HostCalled, slotsIn}
+use Rattle.host_calls.specs.Bytes.{numbersBytes, chainFrom, numberAt}
+use Rattle.reports.specs.Host.{hostCoordinates}
+use Rattle.host_calls.specs.BytesLaws.{Word, length-numbersBytes, numberAt-numbersBytes, numberAt-same}
+use Rattle.host_calls.specs.HostCallLaws.{bytesLeft}
+use Rattle.host_calls.specs.HostChainsLaws.{chainFrom-size, chainFrom-part}
 use Rattle.answers.specs.Right.{slot}
 use Rattle.answers.specs.Wide.{GoesWide}
 use Rattle.answers.specs.Called.{Answers, KeptPast}
@@ -41,7 +49,7 @@ use Rattle.answers.specs.CoordinateLists.{chain-told}
 module _ (b : List ℕ) (bytes : Bytes b) (p number : ℕ) (chains output : List ℕ) where
   -- n_p
   abbrev n : ℕ
-  n = count (chainCells b) p
+  n = count (sectionsOf b) p
 
   -- the coefficients of all chains
   abbrev given : List ℤ
@@ -50,7 +58,7 @@ module _ (b : List ℕ) (bytes : Bytes b) (p number : ℕ) (chains output : List
   -- the refusals 1 to 12 of the call, which has work slots enough
   abbrev pub hostListsBefore : ℕ
   hostListsBefore =
-      first (callChecks hostLimit b p (listSlots number) (slotsIn output) (workSlots (chainCells b) p) ++ chainsChecks coefficientLimit b p number given)
+      first (callChecks hostLimit b p (listSlots number) (slotsIn output) (workSlots (sectionsOf b) p) ++ chainsChecks coefficientLimit b p number given)
 
   -- list i
   abbrev list : ℕ → State → ℕ → List ℤ
@@ -62,38 +70,38 @@ module _ (b : List ℕ) (bytes : Bytes b) (p number : ℕ) (chains output : List
   abbrev called : HostCalled
   called = hostCoordinateLists b p number chains output
 
-  passed-both : hostListsBefore ≡ 0 → (Passed hostLimit b p (listSlots number) (slotsIn output) (workSlots (chainCells b) p))
+  passed-both : hostListsBefore ≡ 0 → (Passed hostLimit b p (listSlots number) (slotsIn output) (workSlots (sectionsOf b) p))
       × (length given ≡ number * n) × ((i : ℕ) → i < number → fault coefficientLimit b p given i ≡ 0)
   passed-both e =
-      let both = call-chain-zero hostLimit b p (listSlots number) (slotsIn output) (workSlots (chainCells b) p) (chainsChecks coefficientLimit b p number given) .0 e in
+      let both = call-chain-zero hostLimit b p (listSlots number) (slotsIn output) (workSlots (sectionsOf b) p) (chainsChecks coefficientLimit b p number given) .0 e in
       let (size, faults) = chains-zero coefficientLimit b p given number .0 (both .1) in
-      (callChecks-zero hostLimit b p (listSlots number) (slotsIn output) (workSlots (chainCells b) p) .0 (both .0), size, faults)
+      (callChecks-zero hostLimit b p (listSlots number) (slotsIn output) (workSlots (sectionsOf b) p) .0 (both .0), size, faults)
 
-  chain-complex : hostListsBefore ≡ 0 → ChainComplex hostLimit (chainCells b)
+  chain-complex : hostListsBefore ≡ 0 → ChainComplex hostLimit (sectionsOf b)
   chain-complex e =
-      passed-chains hostLimit b p (listSlots number) (slotsIn output) (workSlots (chainCells b) p) bytes
-      (callChecks-zero hostLimit b p (listSlots number) (slotsIn output) (workSlots (chainCells b) p) .1 (passed-both e .0))
+      passed-chains hostLimit b p (listSlots number) (slotsIn output) (workSlots (sectionsOf b) p) bytes
+      (callChecks-zero hostLimit b p (listSlots number) (slotsIn output) (workSlots (sectionsOf b) p) .1 (passed-both e .0))
 
-  pub host-lists-answer : Answers hostListsBefore (GoesWide entryLimit pivotRule (chainCells b) p) (called .number)
+  pub host-lists-answer : Answers hostListsBefore (GoesWide entryLimit pivotRule (sectionsOf b) p) (called .number)
   unfolding hostCoordinateLists
   host-lists-answer =
-      host-answers pivotRule-is-rule (chainCells b) p hostListsBefore chain-complex left output
-      (call-chain-narrow hostLimit b p (listSlots number) (slotsIn output) (workSlots (chainCells b) p) (chainsChecks coefficientLimit b p number given)
+      host-answers pivotRule-is-rule (sectionsOf b) p hostListsBefore chain-complex left output
+      (call-chain-narrow hostLimit b p (listSlots number) (slotsIn output) (workSlots (sectionsOf b) p) (chainsChecks coefficientLimit b p number given)
       (chains-narrow coefficientLimit b p given number))
 
   pub host-lists-left : called .number ≢ 0 → called .output ≡ output
   unfolding hostCoordinateLists
-  host-lists-left = host-left left output hostListsBefore (reductionsOf pivotRule (chainCells b) p)
+  host-lists-left = host-left left output hostListsBefore (reductionsOf pivotRule (sectionsOf b) p)
 
   module _ (e : called .number ≡ 0) where
-    pub host-listed : HostDone pivotRule (chainCells b) p hostListsBefore
+    pub host-listed : HostDone pivotRule (sectionsOf b) p hostListsBefore
     unfolding hostCoordinateLists
-    host-listed = host-done pivotRule-is-rule (chainCells b) p hostListsBefore chain-complex left output e
+    host-listed = host-done pivotRule-is-rule (sectionsOf b) p hostListsBefore chain-complex left output e
 
-    abbrev h : HostDone pivotRule (chainCells b) p hostListsBefore
+    abbrev h : HostDone pivotRule (sectionsOf b) p hostListsBefore
     h = host-listed
 
-    passed : Passed hostLimit b p (listSlots number) (slotsIn output) (workSlots (chainCells b) p)
+    passed : Passed hostLimit b p (listSlots number) (slotsIn output) (workSlots (sectionsOf b) p)
     passed = passed-both (h .passes) .0
 
     -- the bytes are those of the chains
@@ -102,7 +110,7 @@ module _ (b : List ℕ) (bytes : Bytes b) (p number : ℕ) (chains output : List
 
     output-is : called .output ≡ left (h .rows) (h .rank) (h .state)
     unfolding hostCoordinateLists
-    output-is = host-output left output hostListsBefore (reductionsOf pivotRule (chainCells b) p) (h .passes) (h .rows) (h .rank) (h .state) (h .reductions)
+    output-is = host-output left output hostListsBefore (reductionsOf pivotRule (sectionsOf b) p) (h .passes) (h .rows) (h .rank) (h .state) (h .reductions)
 
     -- how many coordinates a list has
     abbrev total : ℕ
@@ -185,8 +193,8 @@ module _ (b : List ℕ) (bytes : Bytes b) (p number : ℕ) (chains output : List
 
         before : hostCoordinatesBefore b bytes p (chainBytes n chains i) output′ ≡ 0
         before =
-            call-chain-zero hostLimit b p coordinateSlots (slotsIn output′) (workSlots (chainCells b) p) (chainChecks coefficientLimit b p alone) .1 (
-              callChecks-zero hostLimit b p coordinateSlots (slotsIn output′) (workSlots (chainCells b) p) .1
+            call-chain-zero hostLimit b p coordinateSlots (slotsIn output′) (workSlots (sectionsOf b) p) (chainChecks coefficientLimit b p alone) .1 (
+              callChecks-zero hostLimit b p coordinateSlots (slotsIn output′) (workSlots (sectionsOf b) p) .1
                   (record { accepted = passed .accepted; dimension = passed .dimension; output-slots = room; work-slots = passed .work-slots }),
               ap (λ (z : List ℤ). first (chainChecks coefficientLimit b p z)) alone-is
                   ∙ chain-told coefficientLimit b p given i (length-chainAt n number given (passed-both (h .passes) .1) i next) ∙ passed-both (h .passes) .2 i next,
@@ -196,7 +204,7 @@ module _ (b : List ℕ) (bytes : Bytes b) (p number : ℕ) (chains output : List
         unfolding hostCoordinates
         host-single-number =
             host-number (bytesLeft (λ s r x. coordinateList n s x alone) output′) output′ (hostCoordinatesBefore b bytes p (chainBytes n chains i) output′)
-            (reductionsOf pivotRule (chainCells b) p) before (h .rows) (h .rank) (h .state) (h .reductions)
+            (reductionsOf pivotRule (sectionsOf b) p) before (h .rows) (h .rank) (h .state) (h .reductions)
 
         pub host-lists-single : (j : ℕ) → j < total → numberAt (called .output) (i * n + j) ≡ numberAt (single .output) j
         unfolding hostCoordinates
@@ -205,7 +213,7 @@ module _ (b : List ℕ) (bytes : Bytes b) (p number : ℕ) (chains output : List
             ∙ sym (ap (λ (z : List ℤ). slot (coordinateList n (h .rows) (h .state) z) j) alone-is)
             ∙ sym (host-reads (λ s r x. coordinateList n s x alone) output′ done′ j (omega (arith, list-size alone)) (word alone alone-is j))
           where
-            done′ : HostDone pivotRule (chainCells b) p (hostCoordinatesBefore b bytes p (chainBytes n chains i) output′)
+            done′ : HostDone pivotRule (sectionsOf b) p (hostCoordinatesBefore b bytes p (chainBytes n chains i) output′)
             done′ = record {
               passes = before;
               rows = h .rows;

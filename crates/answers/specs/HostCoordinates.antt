@@ -13,18 +13,24 @@ use Rattle.lists.specs.Tabulate.{tabulate}
 use Rattle.lists.specs.TabulateLaws.{getD-tabulate}
 use Rattle.complexes.specs.Complex.{count}
 use Rattle.complexes.specs.ChainComplex.{ChainComplex}
-use Rattle.sheet_format.specs.Check.{chainCells, first}
+use Rattle.trials.specs.Trial.{first}
+use Rattle.sheet_format.specs.Check.{sectionsOf}
 use Rattle.sheet_format.specs.Sheet.{Bytes}
 use Rattle.reduction_steps.specs.State.{State}
 use Rattle.reduction_steps.specs.Pivot.{pivotRule}
 use Rattle.reduction_steps.specs.PivotLaws.{pivotRule-is-rule}
 use Rattle.reports.specs.Report.{freeRank, torsionCount, coordinateList}
 use Rattle.reports.specs.ReportLaws.{coordinates-fit}
-use Rattle.reports.specs.Call.{callChecks, chainChecks, coordinateSlots, workSlots, reductionsOf}
+use Rattle.requests.specs.Call.{callChecks, workSlots}
+use Rattle.requests.specs.Chains.{chainChecks}
+use Rattle.reports.specs.Call.{coordinateSlots}
+use Rattle.reports.specs.Reductions.{reductionsOf}
 use Rattle.limits.specs.Limits.{hostLimit, entryLimit, coefficientLimit}
-use Rattle.reports.specs.RefusalLaws.{callChecks-zero, call-chain-zero, call-chain-narrow, chainChecks-narrow}
-use Rattle.reports.specs.Host.{coefficientIn, otherLength, chainFrom, slotsIn, hostCoordinates, numberAt}
-use Rattle.reports.specs.HostCallLaws.{bytesLeft}
+use Rattle.requests.specs.CheckLaws.{callChecks-zero, call-chain-zero, call-chain-narrow, chainChecks-narrow}
+use Rattle.host_calls.specs.Bytes.{coefficientIn, otherLength, chainFrom, numberAt}
+use Rattle.host_calls.specs.Host.{slotsIn}
+use Rattle.reports.specs.Host.{hostCoordinates}
+use Rattle.host_calls.specs.HostCallLaws.{bytesLeft}
 use Rattle.answers.specs.Right.{slot}
 use Rattle.answers.specs.Wide.{GoesWide}
 use Rattle.answers.specs.Called.{Answers, KeptPast}
@@ -54,43 +60,43 @@ given-coefficient n chain e i l = go (eqb (length chain) (4 * n)) e
 module _ (b : List ℕ) (bytes : Bytes b) (p : ℕ) (chain output : List ℕ) where
   -- the chain that the bytes give
   abbrev pub given : List ℤ
-  given = chainFrom (count (chainCells b) p) chain
+  given = chainFrom (count (sectionsOf b) p) chain
 
   -- the refusals 1 to 9 of fildwuk_coordinates, which has work slots enough; and those with 10 to 12 after them
   abbrev pub hostSheetBefore : ℕ
-  hostSheetBefore = first (callChecks hostLimit b p coordinateSlots (slotsIn output) (workSlots (chainCells b) p))
+  hostSheetBefore = first (callChecks hostLimit b p coordinateSlots (slotsIn output) (workSlots (sectionsOf b) p))
 
   abbrev pub hostCoordinatesBefore : ℕ
   hostCoordinatesBefore =
-      first (callChecks hostLimit b p coordinateSlots (slotsIn output) (workSlots (chainCells b) p) ++ chainChecks coefficientLimit b p given)
+      first (callChecks hostLimit b p coordinateSlots (slotsIn output) (workSlots (sectionsOf b) p) ++ chainChecks coefficientLimit b p given)
 
   abbrev numbers : ℕ → ℕ → State → List ℤ
-  numbers s r x = coordinateList (count (chainCells b) p) s x given
+  numbers s r x = coordinateList (count (sectionsOf b) p) s x given
 
   abbrev left : ℕ → ℕ → State → List ℕ
   left = bytesLeft numbers output
 
   passed : (hostCoordinatesBefore ≡ 0) ↔ ((hostSheetBefore ≡ 0) × (first (chainChecks coefficientLimit b p given) ≡ 0))
-  passed = call-chain-zero hostLimit b p coordinateSlots (slotsIn output) (workSlots (chainCells b) p) (chainChecks coefficientLimit b p given)
+  passed = call-chain-zero hostLimit b p coordinateSlots (slotsIn output) (workSlots (sectionsOf b) p) (chainChecks coefficientLimit b p given)
 
-  chains : hostCoordinatesBefore ≡ 0 → ChainComplex hostLimit (chainCells b)
-  chains e = passed-chains hostLimit b p coordinateSlots (slotsIn output) (workSlots (chainCells b) p) bytes (passed .0 e .0)
+  chains : hostCoordinatesBefore ≡ 0 → ChainComplex hostLimit (sectionsOf b)
+  chains e = passed-chains hostLimit b p coordinateSlots (slotsIn output) (workSlots (sectionsOf b) p) bytes (passed .0 e .0)
 
-  pub host-coordinates-answer : Answers hostCoordinatesBefore (GoesWide entryLimit pivotRule (chainCells b) p) (hostCoordinates b p chain output .number)
+  pub host-coordinates-answer : Answers hostCoordinatesBefore (GoesWide entryLimit pivotRule (sectionsOf b) p) (hostCoordinates b p chain output .number)
   unfolding hostCoordinates
   host-coordinates-answer =
-      host-answers pivotRule-is-rule (chainCells b) p hostCoordinatesBefore chains left output
-      (call-chain-narrow hostLimit b p coordinateSlots (slotsIn output) (workSlots (chainCells b) p) (chainChecks coefficientLimit b p given) (chainChecks-narrow coefficientLimit b p given))
+      host-answers pivotRule-is-rule (sectionsOf b) p hostCoordinatesBefore chains left output
+      (call-chain-narrow hostLimit b p coordinateSlots (slotsIn output) (workSlots (sectionsOf b) p) (chainChecks coefficientLimit b p given) (chainChecks-narrow coefficientLimit b p given))
 
   pub host-coordinates-left : hostCoordinates b p chain output .number ≢ 0 → hostCoordinates b p chain output .output ≡ output
   unfolding hostCoordinates
-  host-coordinates-left = host-left left output hostCoordinatesBefore (reductionsOf pivotRule (chainCells b) p)
+  host-coordinates-left = host-left left output hostCoordinatesBefore (reductionsOf pivotRule (sectionsOf b) p)
 
   -- the chain is a cycle, and the two reductions behind its coordinates are right
   pub record HostCoordinated : Type 0 where
-    pub behind : HostDone pivotRule (chainCells b) p hostCoordinatesBefore
+    pub behind : HostDone pivotRule (sectionsOf b) p hostCoordinatesBefore
     pub chain-passed : ChainPasses coefficientLimit b p given
-    pub reads : ReadsCoordinates (chainCells b) p (behind .rows) (behind .rank) (behind .state) given (numberAt (hostCoordinates b p chain output .output))
+    pub reads : ReadsCoordinates (sectionsOf b) p (behind .rows) (behind .rank) (behind .state) given (numberAt (hostCoordinates b p chain output .output))
     pub kept : KeptPast 0 (8 * (torsionCount (behind .rank) (behind .state) + freeRank (behind .rows) (behind .rank))) output
         (hostCoordinates b p chain output .output)
 
@@ -106,8 +112,8 @@ module _ (b : List ℕ) (bytes : Bytes b) (p : ℕ) (chain output : List ℕ) wh
     kept = rw (coordinates-length (h .right) given) at (host-kept numbers output h fits);
   }
     where
-      h : HostDone pivotRule (chainCells b) p hostCoordinatesBefore
-      h = host-done pivotRule-is-rule (chainCells b) p hostCoordinatesBefore chains left output e
+      h : HostDone pivotRule (sectionsOf b) p hostCoordinatesBefore
+      h = host-done pivotRule-is-rule (sectionsOf b) p hostCoordinatesBefore chains left output e
 
       cycle : ChainPasses coefficientLimit b p given
       cycle = chain-passes coefficientLimit b p given (passed .0 (h .passes) .1)
@@ -116,6 +122,6 @@ module _ (b : List ℕ) (bytes : Bytes b) (p : ℕ) (chain output : List ℕ) wh
       fits =
           omega (
             arith,
-            coordinates-fit (count (chainCells b) p) (h .rows) (h .state) given (h .right .rows-bound),
-            callChecks-zero hostLimit b p coordinateSlots (slotsIn output) (workSlots (chainCells b) p) .0 (passed .0 (h .passes) .0) .output-slots,
+            coordinates-fit (count (sectionsOf b) p) (h .rows) (h .state) given (h .right .rows-bound),
+            callChecks-zero hostLimit b p coordinateSlots (slotsIn output) (workSlots (sectionsOf b) p) .0 (passed .0 (h .passes) .0) .output-slots,
           )

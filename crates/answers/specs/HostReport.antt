@@ -9,18 +9,23 @@ use lib.ListN.{length}
 use lib.IntN.{ℤ}
 use Rattle.complexes.specs.Complex.{count}
 use Rattle.complexes.specs.ChainComplex.{ChainComplex}
-use Rattle.sheet_format.specs.Check.{chainCells, first}
+use Rattle.trials.specs.Trial.{first}
+use Rattle.sheet_format.specs.Check.{sectionsOf}
 use Rattle.sheet_format.specs.Sheet.{Bytes}
 use Rattle.reduction_steps.specs.State.{State}
 use Rattle.reduction_steps.specs.Pivot.{pivotRule}
 use Rattle.reduction_steps.specs.PivotLaws.{pivotRule-is-rule}
 use Rattle.reports.specs.Report.{freeRank, torsionCount, reportList}
 use Rattle.reports.specs.ReportLaws.{report-fits}
-use Rattle.reports.specs.Call.{callChecks, reportSlots, workSlots, reductionsOf}
+use Rattle.requests.specs.Call.{callChecks, workSlots}
+use Rattle.reports.specs.Call.{reportSlots}
+use Rattle.reports.specs.Reductions.{reductionsOf}
 use Rattle.limits.specs.Limits.{hostLimit, entryLimit}
-use Rattle.reports.specs.RefusalLaws.{callChecks-narrow, callChecks-zero}
-use Rattle.reports.specs.Host.{slotsIn, hostReport, numberAt}
-use Rattle.reports.specs.HostCallLaws.{bytesLeft}
+use Rattle.requests.specs.CheckLaws.{callChecks-narrow, callChecks-zero}
+use Rattle.host_calls.specs.Host.{slotsIn}
+use Rattle.reports.specs.Host.{hostReport}
+use Rattle.host_calls.specs.Bytes.{numberAt}
+use Rattle.host_calls.specs.HostCallLaws.{bytesLeft}
 use Rattle.answers.specs.Right.{reportLength}
 use Rattle.answers.specs.Wide.{GoesWide}
 use Rattle.answers.specs.Called.{Answers, KeptPast}
@@ -33,31 +38,31 @@ use Rattle.answers.specs.HostCalls.{host-left, host-reads, host-kept, Ho
 module _ (b : List ℕ) (bytes : Bytes b) (p : ℕ) (output : List ℕ) where
   -- the refusals 1 to 9 of fildwuk_report, which has work slots enough
   abbrev pub hostReportBefore : ℕ
-  hostReportBefore = first (callChecks hostLimit b p reportSlots (slotsIn output) (workSlots (chainCells b) p))
+  hostReportBefore = first (callChecks hostLimit b p reportSlots (slotsIn output) (workSlots (sectionsOf b) p))
 
   abbrev numbers : ℕ → ℕ → State → List ℤ
-  numbers s r x = reportList (count (chainCells b) p) s r x
+  numbers s r x = reportList (count (sectionsOf b) p) s r x
 
   abbrev left : ℕ → ℕ → State → List ℕ
   left = bytesLeft numbers output
 
-  chains : hostReportBefore ≡ 0 → ChainComplex hostLimit (chainCells b)
-  chains = passed-chains hostLimit b p reportSlots (slotsIn output) (workSlots (chainCells b) p) bytes
+  chains : hostReportBefore ≡ 0 → ChainComplex hostLimit (sectionsOf b)
+  chains = passed-chains hostLimit b p reportSlots (slotsIn output) (workSlots (sectionsOf b) p) bytes
 
-  pub host-report-answers : Answers hostReportBefore (GoesWide entryLimit pivotRule (chainCells b) p) (hostReport b p output .number)
+  pub host-report-answers : Answers hostReportBefore (GoesWide entryLimit pivotRule (sectionsOf b) p) (hostReport b p output .number)
   unfolding hostReport
   host-report-answers =
-      host-answers pivotRule-is-rule (chainCells b) p hostReportBefore chains left output (callChecks-narrow hostLimit b p reportSlots (slotsIn output) (workSlots (chainCells b) p))
+      host-answers pivotRule-is-rule (sectionsOf b) p hostReportBefore chains left output (callChecks-narrow hostLimit b p reportSlots (slotsIn output) (workSlots (sectionsOf b) p))
 
   pub host-report-left : hostReport b p output .number ≢ 0 → hostReport b p output .output ≡ output
   unfolding hostReport
-  host-report-left = host-left left output hostReportBefore (reductionsOf pivotRule (chainCells b) p)
+  host-report-left = host-left left output hostReportBefore (reductionsOf pivotRule (sectionsOf b) p)
 
   -- the two reductions behind a report that is done are right
   pub record HostReported : Type 0 where
-    pub behind : HostDone pivotRule (chainCells b) p hostReportBefore
-    pub reads : Reads (chainCells b) p (behind .rows) (behind .rank) (behind .state) (numberAt (hostReport b p output .output))
-    pub kept : KeptPast 0 (8 * reportLength (chainCells b) p (freeRank (behind .rows) (behind .rank)) (torsionCount (behind .rank) (behind .state))) output
+    pub behind : HostDone pivotRule (sectionsOf b) p hostReportBefore
+    pub reads : Reads (sectionsOf b) p (behind .rows) (behind .rank) (behind .state) (numberAt (hostReport b p output .output))
+    pub kept : KeptPast 0 (8 * reportLength (sectionsOf b) p (freeRank (behind .rows) (behind .rank)) (torsionCount (behind .rank) (behind .state))) output
         (hostReport b p output .output)
 
   pub host-reported : hostReport b p output .number ≡ 0 → HostReported
@@ -71,13 +76,13 @@ module _ (b : List ℕ) (bytes : Bytes b) (p : ℕ) (output : List ℕ) where
     kept = rw (report-length (h .right)) at (host-kept numbers output h fits);
   }
     where
-      h : HostDone pivotRule (chainCells b) p hostReportBefore
-      h = host-done pivotRule-is-rule (chainCells b) p hostReportBefore chains left output e
+      h : HostDone pivotRule (sectionsOf b) p hostReportBefore
+      h = host-done pivotRule-is-rule (sectionsOf b) p hostReportBefore chains left output e
 
       fits : 8 * length (numbers (h .rows) (h .rank) (h .state)) ≤ length output
       fits =
           omega (
             arith,
-            report-fits (count (chainCells b) p) (h .rows) (h .rank) (h .state) (h .right .rank-bound) (h .right .rows-bound),
-            callChecks-zero hostLimit b p reportSlots (slotsIn output) (workSlots (chainCells b) p) .0 (h .passes) .output-slots,
+            report-fits (count (sectionsOf b) p) (h .rows) (h .rank) (h .state) (h .right .rank-bound) (h .right .rows-bound),
+            callChecks-zero hostLimit b p reportSlots (slotsIn output) (workSlots (sectionsOf b) p) .0 (h .passes) .output-slots,
           )

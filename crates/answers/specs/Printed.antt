@@ -9,8 +9,9 @@ use Rattle.sheet_format.specs.Check.{sectionsOf}
 use Rattle.reduction_steps.specs.Pivot.{pivotRule}
 use Rattle.limits.specs.Limits.{hostLimit, entryLimit}
 use Rattle.reports.specs.Report.{Counts}
-use Rattle.reports.specs.Call.{done, reportCall}
-use Rattle.reports.specs.Text.{refusalLine, reportText, programText}
+use Rattle.trials.specs.Trial.{done}
+use Rattle.reports.specs.Call.{reportCall}
+use Rattle.program_text.specs.Text.{refusalLine, reportText, programText}
 use Rattle.answers.specs.Wide.{GoesWide}
 
 -- the text of dimension p: `R 13` where the reduction goes too wide, else the text of the report that a report call at the same count limit leaves

@@ -11,7 +11,8 @@ use lib.IntN.{ℤ, pos}
 use Rattle.complexes.specs.Complex.{count}
 use Rattle.complexes.specs.ChainComplex.{ChainComplex}
 use Rattle.sheet_format.specs.Layout.{top}
-use Rattle.sheet_format.specs.Check.{first, chainCells, refusal}
+use Rattle.trials.specs.Trial.{first}
+use Rattle.sheet_format.specs.Check.{sectionsOf, refusal}
 use Rattle.sheet_format.specs.Sheet.{Bytes}
 use Rattle.sheet_format.specs.Accept.{accepted-chains}
 use Rattle.reduction_steps.specs.State.{State}
@@ -20,13 +21,17 @@ use Rattle.reduction_steps.specs.PivotLaws.{pivotRule-is-rule}
 use Rattle.reports.specs.Reductions.{Reductions, tooWide, reduced}
 use Rattle.reports.specs.Report.{kind, reported, freeRank, torsionCount, countsOf, reportList}
 use Rattle.reports.specs.ReportLaws.{length-coordinateList}
-use Rattle.reports.specs.RefusalLaws.{callChecks-zero}
-use Rattle.reports.specs.CallLaws.{numbersLeft, call-answer, call-output}
-use Rattle.reports.specs.Call.{done, written, reportSlots, workSlots, callChecks, reductionsOf, reportCall}
+use Rattle.requests.specs.CheckLaws.{callChecks-zero}
+use Rattle.requests.specs.CallLaws.{numbersLeft, call-answer, call-output}
+use Rattle.trials.specs.Trial.{done}
+use Rattle.lists.specs.Splice.{written}
+use Rattle.reports.specs.Call.{reportSlots, reportCall}
+use Rattle.requests.specs.Call.{workSlots, callChecks}
+use Rattle.reports.specs.Reductions.{reductionsOf}
 use Rattle.limits.specs.Limits.{hostLimit}
-use Rattle.reports.specs.Text.{line, refusalLine, generatorLines, reportText, dimensionText, dimensionsText, textFor, programText}
-use Rattle.reports.specs.TextLaws.{reportText-reportList}
-use Rattle.reports.specs.LineLaws.{refusalLine-injective, feeds, feeds-append, feeds-line}
+use Rattle.program_text.specs.Text.{line, refusalLine, generatorLines, reportText, dimensionText, dimensionsText, textFor, programText}
+use Rattle.program_text.specs.TextLaws.{reportText-reportList}
+use Rattle.program_text.specs.LineLaws.{refusalLine-injective, feeds, feeds-append, feeds-line}
 use Rattle.answers.specs.Printed.{DimensionPrinted, too-wide, reports, inTurn, DimensionsPrinted}
 use Rattle.answers.specs.TwoReductions.{Right}
 use Rattle.answers.specs.Numbers.{coordinates-length}
@@ -34,7 +39,7 @@ use Rattle.answers.specs.Calls.{reductionsOf-wide, reductionsOf-right}
 
 -- the text of dimension p
 abbrev textOf : List ℕ → ℕ → List ℕ
-textOf b p = dimensionText p (count (chainCells b) p) (reductionsOf pivotRule (chainCells b) p)
+textOf b p = dimensionText p (count (sectionsOf b) p) (reductionsOf pivotRule (sectionsOf b) p)
 
 turns : (b : List ℕ) (more p : ℕ) → inTurn (p + more) (textOf b) ≡ inTurn p (textOf b) ++ dimensionsText b more p
 unfolding inTurn dimensionsText
@@ -54,40 +59,40 @@ turns-all b = ap (λ (k : ℕ). inTurn k (textOf b)) (sym (zero-add (suc top))) 
 -- ---- one dimension
 
 module _ (b : List ℕ) (bytes : Bytes b) (accepted : refusal hostLimit b ≡ 0) where
-  chains : ChainComplex hostLimit (chainCells b)
+  chains : ChainComplex hostLimit (sectionsOf b)
   chains = accepted-chains hostLimit b bytes accepted
 
   module _ (p : ℕ) where
     abbrev n : ℕ
-    n = count (chainCells b) p
+    n = count (sectionsOf b) p
 
     -- slices as long as check 9 wants
     abbrev report : List ℤ
-    report = replicate (reportSlots (chainCells b) p) (pos 0)
+    report = replicate (reportSlots (sectionsOf b) p) (pos 0)
 
     abbrev work : List ℤ
-    work = replicate (workSlots (chainCells b) p) (pos 0)
+    work = replicate (workSlots (sectionsOf b) p) (pos 0)
 
     passes : p ≤ top → first (callChecks hostLimit b p reportSlots (length report) (length work)) ≡ 0
     passes h =
         callChecks-zero hostLimit b p reportSlots (length report) (length work) .1 (record {
           accepted = accepted;
           dimension = h;
-          output-slots = omega (arith, length-replicate (reportSlots (chainCells b) p) (pos 0));
-          work-slots = omega (arith, length-replicate (workSlots (chainCells b) p) (pos 0));
+          output-slots = omega (arith, length-replicate (reportSlots (sectionsOf b) p) (pos 0));
+          work-slots = omega (arith, length-replicate (workSlots (sectionsOf b) p) (pos 0));
         })
 
-    module _ (h : p ≤ top) (s r : ℕ) (x : State) (e : reductionsOf pivotRule (chainCells b) p ≡ reduced s r x) where
+    module _ (h : p ≤ top) (s r : ℕ) (x : State) (e : reductionsOf pivotRule (sectionsOf b) p ≡ reduced s r x) where
       abbrev left : ℕ → ℕ → State → List ℤ
       left = numbersLeft (λ s r x. reportList n s r x) report
 
       report-done : reportCall hostLimit b p report work .answer ≡ done (countsOf s r x)
       unfolding reportCall
-      report-done = call-answer (first (callChecks hostLimit b p reportSlots (length report) (length work))) (reductionsOf pivotRule (chainCells b) p) left report work (passes h) s r x e
+      report-done = call-answer (first (callChecks hostLimit b p reportSlots (length report) (length work))) (reductionsOf pivotRule (sectionsOf b) p) left report work (passes h) s r x e
 
       report-left : reportCall hostLimit b p report work .output ≡ written (reportList n s r x) report
       unfolding reportCall
-      report-left = call-output (first (callChecks hostLimit b p reportSlots (length report) (length work))) (reductionsOf pivotRule (chainCells b) p) left report work (passes h) s r x e
+      report-left = call-output (first (callChecks hostLimit b p reportSlots (length report) (length work))) (reductionsOf pivotRule (sectionsOf b) p) left report work (passes h) s r x e
 
       -- the numbers of the report give the text
       report-text : dimensionText p n (reduced s r x)
@@ -97,12 +102,12 @@ module _ (b : List ℕ) (bytes : Bytes b) (accepted : refusal hostLimit b ≡ 0)
           ∙ ap (λ (l : List ℤ). reportText p n (torsionCount r x) (length (reported (kind x) s)) l) (sym report-left)
           ∙ ap (λ (k : ℕ). reportText p n (torsionCount r x) k (reportCall hostLimit b p report work .output)) (sym (length-coordinateList n s x []) ∙ coordinates-length right [])
         where
-          right : Right (chainCells b) p s r x
-          right = reductionsOf-right pivotRule-is-rule (chainCells b) p chains s r x e
+          right : Right (sectionsOf b) p s r x
+          right = reductionsOf-right pivotRule-is-rule (sectionsOf b) p chains s r x e
 
-    printed : p ≤ top → (R : Reductions) → reductionsOf pivotRule (chainCells b) p ≡ R → DimensionPrinted b p (dimensionText p n R)
-    unfolding dimensionText chainCells
-    printed h tooWide e = too-wide (reductionsOf-wide pivotRule-is-rule (chainCells b) p chains .0 e) refl
+    printed : p ≤ top → (R : Reductions) → reductionsOf pivotRule (sectionsOf b) p ≡ R → DimensionPrinted b p (dimensionText p n R)
+    unfolding dimensionText
+    printed h tooWide e = too-wide (reductionsOf-wide pivotRule-is-rule (sectionsOf b) p chains .0 e) refl
     printed h (reduced s r x) e = reports report work (countsOf s r x) (report-done h s r x e) (report-text h s r x e)
 
   -- ---- all dimensions
@@ -112,7 +117,7 @@ module _ (b : List ℕ) (bytes : Bytes b) (accepted : refusal hostLimit b ≡ 0)
   dimensions-printed = record {
     texts = textOf b;
     in-turn = ap (λ (k : ℕ). textFor k b) accepted ∙ sym (turns-all b);
-    each = λ p l. printed p l (reductionsOf pivotRule (chainCells b) p) refl;
+    each = λ p l. printed p l (reductionsOf pivotRule (sectionsOf b) p) refl;
   }
 
 -- ---- a refused sheet
@@ -135,7 +140,7 @@ turns-feeds : (b : List ℕ) (n : ℕ) → n ≤ feeds (inTurn n (textOf b))
 unfolding inTurn
 turns-feeds b zero = omega arith
 turns-feeds b (suc n) =
-    omega (arith, turns-feeds b n, text-feeds n (count (chainCells b) n) (reductionsOf pivotRule (chainCells b) n), feeds-append (inTurn n (textOf b)) (textOf b n))
+    omega (arith, turns-feeds b n, text-feeds n (count (sectionsOf b) n) (reductionsOf pivotRule (sectionsOf b) n), feeds-append (inTurn n (textOf b)) (textOf b n))
 
 module _ (b : List ℕ) where
   accepted-other : refusal hostLimit b ≡ 0 → (k : ℕ) → programText b ≢ refusalLine k

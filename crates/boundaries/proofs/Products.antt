@@ -16,7 +16,7 @@ use Rattle.complexes.specs.Complex.{Sections, count, Complex}
 use Rattle.complexes.specs.Boundary.{sign, boundary}
 use Rattle.complexes.specs.CoefficientLaws.{natAbs-sign}
 use Rattle.sheet_format.specs.Layout.{top}
-use Rattle.sheet_format.specs.Check.{sectionsOf, chainCells}
+use Rattle.sheet_format.specs.Check.{sectionsOf}
 use Rattle.lines.specs.Slice.{entryLimit, at, lineAt, Small}
 use Rattle.lines.specs.Matrices.{contents, end, Off}
 use Rattle.lines.specs.declared.matrix.Matrix.{Matrix}
@@ -43,8 +43,8 @@ contents-kept q m w w′ l off i k = off (lineAt (q .at) (q .width) i + k) (inr 
 
 pub product-entry : (b : List ℕ) {top limit : ℕ} (complex : Complex top limit (sectionsOf b)) (p j : ℕ) → j < count (sectionsOf b) (suc p)
     → (places : List ℕ) → AreFaces b p j places → (n : ℕ) → n ≡ count (sectionsOf b) p → (Q : theory.Matrix) (i : ℕ)
-    → sum (p + 2) (λ t. Q i (getD places t 0) *ℤ sign t) ≡ mul n Q (boundary (chainCells b) (suc p)) i j
-unfolding mul chainCells
+    → sum (p + 2) (λ t. Q i (getD places t 0) *ℤ sign t) ≡ mul n Q (boundary (sectionsOf b) (suc p)) i j
+unfolding mul
 product-entry b complex p j below places faces n e Q i =
     ap (λ (m : ℕ). sum m (λ t. Q i (getD places t 0) *ℤ sign t)) two
     ∙ sym (sum-places b complex p j below (λ t. getD places t 0) (faces .face) (Q i))

@@ -6,7 +6,7 @@ ghost use Rattle.matrices.specs.Matrix.{Eq, identity, null};
 ghost use Rattle.complexes.specs.Complex.{count};
 ghost use Rattle.complexes.specs.Boundary.{boundary};
 ghost use Rattle.sheet_format.specs.Layout.{top};
-ghost use Rattle.sheet_format.specs.Check.{chainCells};
+ghost use Rattle.sheet_format.specs.Check.{sectionsOf};
 ghost use Rattle.lines.specs.Matrices.{Held, contents};
 ghost use Rattle.faces.specs.Face.{Accepted};
 ghost use Rattle.boundaries.specs.Filled.{MatrixFilled, ColumnFilled};
@@ -18,10 +18,10 @@ use lines::matrix::Matrix;
 // Writes column j of the boundary matrix of dimension p + 1. The search for the faces of cell j starts at `places`, which become theirs.
 fn fill_column(s: &[u8], p: usize, m: Matrix, w: &mut [i32], j: usize, places: &mut [usize; FACES])
     requires { ⌜ Accepted (now s) × (p < top) × (length (now places) ≡ suc top) ⌝ }
-    requires { ⌜ (m .lines ≡ count (chainCells (now s)) p) × (m .width ≡ count (chainCells (now s)) (suc p)) × (j < m .width) ⌝ }
+    requires { ⌜ (m .lines ≡ count (sectionsOf (now s)) p) × (m .width ≡ count (sectionsOf (now s)) (suc p)) × (j < m .width) ⌝ }
     requires { ⌜ Held (length (now w)) m ⌝ }
     requires { ⌜ ((i : ℕ) → i < m .lines → contents m (now w) i j ≡ null i j) ⌝ }
-    ensures { λ r. ⌜ ColumnFilled m (now (w .entry)) (boundary (chainCells (now (s .entry))) (suc p)) j (now (w .exit)) ⌝ }
+    ensures { λ r. ⌜ ColumnFilled m (now (w .entry)) (boundary (sectionsOf (now (s .entry))) (suc p)) j (now (w .exit)) ⌝ }
     ensures { λ r. ⌜ length (now (places .exit)) ≡ suc top ⌝ }
 {
     face_places(s, p, j, places);
@@ -36,9 +36,9 @@ fn fill_column(s: &[u8], p: usize, m: Matrix, w: &mut [i32], j: usize, places: &
 // Writes the boundary matrix of dimension p + 1.
 pub fn fill_boundary(s: &[u8], p: usize, m: Matrix, w: &mut [i32])
     requires { ⌜ Accepted (now s) × (p < top) ⌝ }
-    requires { ⌜ (m .lines ≡ count (chainCells (now s)) p) × (m .width ≡ count (chainCells (now s)) (suc p)) ⌝ }
+    requires { ⌜ (m .lines ≡ count (sectionsOf (now s)) p) × (m .width ≡ count (sectionsOf (now s)) (suc p)) ⌝ }
     requires { ⌜ Held (length (now w)) m × Eq (m .lines) (m .width) (contents m (now w)) null ⌝ }
-    ensures { λ r. ⌜ MatrixFilled m (now (w .entry)) (boundary (chainCells (now (s .entry))) (suc p)) (now (w .exit)) ⌝ }
+    ensures { λ r. ⌜ MatrixFilled m (now (w .entry)) (boundary (sectionsOf (now (s .entry))) (suc p)) (now (w .exit)) ⌝ }
 {
     let mut places = [0usize; FACES];
     let mut j: usize = 0;

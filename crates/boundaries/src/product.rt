@@ -9,7 +9,7 @@ ghost use Rattle.complexes.specs.Complex.{count};
 ghost use Rattle.complexes.specs.Boundary as spec;
 ghost use Rattle.complexes.specs.Boundary.{boundary};
 ghost use Rattle.sheet_format.specs.Layout.{top};
-ghost use Rattle.sheet_format.specs.Check.{chainCells};
+ghost use Rattle.sheet_format.specs.Check.{sectionsOf};
 ghost use Rattle.lines.specs.Slice.{Small, Under, at};
 ghost use Rattle.lines.specs.Matrices.{Held, contents, end, Became};
 ghost use Rattle.faces.specs.Face.{Accepted};
@@ -79,11 +79,11 @@ fn multiply_column(
 // Makes of m the product of q and the boundary matrix of dimension p + 1.
 pub fn multiply(s: &[u8], p: usize, q: Matrix, m: Matrix, w: &mut [i32], peak: u64) -> Effect
     requires { ⌜ Accepted (now s) ⌝ }
-    requires { ⌜ (q .width ≡ count (chainCells (now s)) p) × (m .width ≡ count (chainCells (now s)) (suc p)) × (m .lines ≡ q .lines) ⌝ }
+    requires { ⌜ (q .width ≡ count (sectionsOf (now s)) p) × (m .width ≡ count (sectionsOf (now s)) (suc p)) × (m .lines ≡ q .lines) ⌝ }
     requires { ⌜ Held (length (now w)) q × (end m ≤ q .at) × Under peak (now w) ⌝ }
     ensures { λ r. ⌜
         Became m (now (w .entry))
-        (mul (q .width) (contents q (now (w .entry))) (boundary (chainCells (now (s .entry))) (suc p))) peak r
+        (mul (q .width) (contents q (now (w .entry))) (boundary (sectionsOf (now (s .entry))) (suc p))) peak r
         (now (w .exit))
         ⌝ }
 {

@@ -11,11 +11,13 @@ use lib.IntN.{ℤ}
 use lib.ListN.{length}
 use Rattle.reduction_steps.specs.Pivot.{pivotRule}
 use Rattle.sheet_format.specs.Sheet.{Bytes}
-use Rattle.sheet_format.specs.Check.{first, chainCells}
+use Rattle.trials.specs.Trial.{first}
+use Rattle.sheet_format.specs.Check.{sectionsOf}
 use Rattle.limits.specs.Limits.{libraryLimit}
 use Rattle.faces.specs.Face.{Accepted}
-use Rattle.reports.specs.Call.{callChecks, reductionsOf}
-use Rattle.reports.specs.RefusalLaws.{Passed, callChecks-zero}
+use Rattle.requests.specs.Call.{callChecks}
+use Rattle.reports.specs.Reductions.{reductionsOf}
+use Rattle.requests.specs.CheckLaws.{Passed, callChecks-zero}
 use Rattle.reports.specs.Reductions.{Reductions, tooWide}
 use Rattle.refusal.specs.Number.{numberOf}
 use Rattle.refusal.specs.declared.Refusal.{Refusal}
@@ -60,9 +62,9 @@ asked l = record { limit = l .limit; sheet = l .sheet; dimension = l .dimension;
 module _ (l : Asked) (request : Request) where
   pub record Granted (n : Sizes) : Type 0 where
     pub passed : Passed (l .limit) (l .sheet) (l .dimension) (slotsAsked request) (l .slots) (l .work)
-    pub sizes : SizesRead (chainCells (l .sheet)) (l .dimension) n
+    pub sizes : SizesRead (sectionsOf (l .sheet)) (l .dimension) n
     pub library : Accepted (l .sheet)
-    pub chains : ChainComplex libraryLimit (chainCells (l .sheet))
+    pub chains : ChainComplex libraryLimit (sectionsOf (l .sheet))
 
   abbrev Answered : Admission → Type 0
   Answered = Admits (l .limit) (l .sheet) (l .dimension) request (l .slots) (l .work)
@@ -80,7 +82,7 @@ module _ (l : Asked) (request : Request) where
         record { passed = passed; sizes = k .1; library = library; chains = sheet-chains bytes library }
 
 -- what is granted for some chains is granted for others that want as many slots
-pub regrant : (l : Asked) {m number : ℕ} {n : Sizes} → m * count (chainCells (l .sheet)) (l .dimension) ≡ number * count (chainCells (l .sheet)) (l .dimension)
+pub regrant : (l : Asked) {m number : ℕ} {n : Sizes} → m * count (sectionsOf (l .sheet)) (l .dimension) ≡ number * count (sectionsOf (l .sheet)) (l .dimension)
     → Granted l (Coordinates number) n → Granted l (Coordinates m) n
 regrant l e g =
     record {
@@ -99,13 +101,13 @@ regrant l e g =
 
 module _ (l : Asked) where
   abbrev pub twice : Reductions
-  twice = reductionsOf pivotRule (chainCells (l .sheet)) (l .dimension)
+  twice = reductionsOf pivotRule (sectionsOf (l .sheet)) (l .dimension)
 
   abbrev Twice : answer.Reductions → List ℤ → Type 0
-  Twice r w = TwiceReduced (chainCells (l .sheet)) (l .dimension) twice (l .work) r w
+  Twice r w = TwiceReduced (sectionsOf (l .sheet)) (l .dimension) twice (l .work) r w
 
   abbrev pub Reduces : Reduced → List ℤ → Type 0
-  Reduces x w = ReducedTwice (chainCells (l .sheet)) (l .dimension) twice (l .work) x w
+  Reduces x w = ReducedTwice (sectionsOf (l .sheet)) (l .dimension) twice (l .work) x w
 
   module _ (r : answer.Reductions) {w : List ℤ} where
     pub twice-done : {x : Reduced} → r ≡ variants.Done x → Twice r w → Reduces x w

@@ -10,7 +10,7 @@ use Rattle.reports.specs.Reductions.{Reductions, tooWide, reduced}
 use Rattle.reports.specs.Report.{countsOf}
 use Rattle.reports.specs.Call as definition
 use Rattle.reports.specs.Call.{finished}
-use Rattle.reports.specs.CallLaws.{call}
+use Rattle.requests.specs.CallLaws.{call}
 use Rattle.refusal.specs.Number.{numberOf}
 use Rattle.refusal.specs.declared.Refusal.{Refusal}
 use Rattle.refusal.specs.declared.Refusal.the-variants as refusal

@@ -19,7 +19,7 @@ use Rattle.reduction_steps.specs.State.{State, largest}
 use Rattle.reduction_laws.specs.Tables.{entry-table, table-ext, tableLargest-table, tableWithin-table, tableWithin-false}
 use Rattle.reduction_laws.specs.Shape.{Shaped}
 use Rattle.reports.specs.Reductions.{firstSizes, secondSizes, secondStart, product, absent}
-use Rattle.reports.specs.Call.{workSlots}
+use Rattle.requests.specs.Call.{workSlots}
 use Rattle.limits.specs.Limits.{entryLimit}
 use Rattle.answers.specs.Starts.{second-shaped, entry-drop}
 use Rattle.lines.specs.Slice.{lineAt}

@@ -16,7 +16,7 @@ use Rattle.reduction_steps.specs.Table.{Table, table, tableLargest}
 use Rattle.reduction_steps.specs.State.{State, largest}
 use Rattle.reduction_laws.specs.Tables.{table-ext, tableLargest-table}
 use Rattle.reports.specs.Reductions.{firstStart, absent}
-use Rattle.reports.specs.Call.{workSlots}
+use Rattle.requests.specs.Call.{workSlots}
 use Rattle.lines.specs.Slice.{entryLimit, lineAt, Under}
 use Rattle.lines.specs.Matrices.{contents, Held, Holds}
 use Rattle.lines.specs.declared.matrix.Matrix.{Matrix}

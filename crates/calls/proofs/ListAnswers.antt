@@ -11,16 +11,19 @@ use lib.IntN.{ℤ, pos}
 use lib.ListN.{length, replicate}
 use Rattle.lists.specs.Splice.{splices}
 use Rattle.complexes.specs.Complex.{count}
-use Rattle.sheet_format.specs.Check.{chainCells, first}
+use Rattle.trials.specs.Trial.{first}
+use Rattle.sheet_format.specs.Check.{sectionsOf}
 use Rattle.reduction_steps.specs.State.{State}
 use Rattle.reduction_steps.specs.PivotLaws.{pivotRule-is-rule}
 use Rattle.reports.specs.Report.{coordinateList}
-use Rattle.reports.specs.Call.{Called, callChecks}
-use Rattle.reports.specs.Lists.{chainAt, listSlots, cyclesChecks, chainsChecks, coordinateListsCall}
-use Rattle.reports.specs.ChainsLaws.{chain-inside, length-chainAt, cycles-zero, chains-sized, fault-small}
+use Rattle.trials.specs.Trial.{Called}
+use Rattle.requests.specs.Call.{callChecks}
+use Rattle.requests.specs.Chains.{chainAt, cyclesChecks, chainsChecks}
+use Rattle.reports.specs.Lists.{listSlots, coordinateListsCall}
+use Rattle.requests.specs.ChainsLaws.{chain-inside, length-chainAt, cycles-zero, chains-sized, fault-small}
 use Rattle.reports.specs.Reductions.{tooWide}
 use Rattle.limits.specs.Limits.{coefficientLimit}
-use Rattle.reports.specs.RefusalLaws.{callChecks-zero, call-told, call-passed}
+use Rattle.requests.specs.CheckLaws.{callChecks-zero, call-told, call-passed}
 use Rattle.refusal.specs.Number.{numberOf}
 use Rattle.refusal.specs.NumberLaws.{number-positive}
 use Rattle.refusal.specs.declared.Refusal.{Refusal}
@@ -40,7 +43,7 @@ use Rattle.calls.proofs.Writing.{follower-width, can-coordinate}
 module _ (l : Lent) (number : ℕ) (chains : List ℤ) where
   -- n_p
   abbrev cells : ℕ
-  cells = count (chainCells (l .sheet)) (l .dimension)
+  cells = count (sectionsOf (l .sheet)) (l .dimension)
 
   -- the refusals before the reductions: 1 to 9, then 10 to 12
   abbrev callChecked : List (ℕ × Bool)

@@ -21,7 +21,8 @@ use Rattle.reduction_laws.specs.SmithForm as machine
 use Rattle.reports.specs.Reductions as reports
 use Rattle.reports.specs.Reductions.{firstSizes, firstStart, secondSizes, secondStart, product, afterSecond}
 use Rattle.reports.specs.ReductionsLaws.{first-wide, product-wide, after-second, second-wide}
-use Rattle.reports.specs.Call.{workSlots, reductionsOf}
+use Rattle.requests.specs.Call.{workSlots}
+use Rattle.reports.specs.Reductions.{reductionsOf}
 use Rattle.limits.specs.Limits.{entryLimit, libraryLimit}
 use Rattle.answers.specs.TwoReductions.{first-reduced, reductions-right}
 use Rattle.lines.specs.Matrices.{contents, Held, Holds, Exceeds, Became}

@@ -8,9 +8,10 @@ use borrow.Author.Tests.{lt-ltb, le-ltb}
 use lib.Dec.{ltb}
 use Rattle.complexes.specs.Complex.{Sections}
 use Rattle.sheet_format.specs.Layout.{top}
-use Rattle.sheet_format.specs.Check.{chainCells, first, refusal}
-use Rattle.reports.specs.Call.{workSlots, callChecks}
-use Rattle.reports.specs.RefusalLaws.{sheet-told, sheet-passed}
+use Rattle.trials.specs.Trial.{first}
+use Rattle.sheet_format.specs.Check.{sectionsOf, refusal}
+use Rattle.requests.specs.Call.{workSlots, callChecks}
+use Rattle.requests.specs.CheckLaws.{sheet-told, sheet-passed}
 use Rattle.refusal.specs.Number.{numberOf}
 use Rattle.refusal.specs.NumberLaws.{number-positive}
 use Rattle.refusal.specs.declared.Refusal.{Refusal}
@@ -26,14 +27,14 @@ module _ (limit : ℕ) (b : List ℕ) (p : ℕ) (slots : Sections → ℕ → �
     pub dimension-refused : top < p → before ≡ 8
     dimension-refused h = sheet-passed limit b p slots output work accepted ∙ rw (lt-ltb top p h)
 
-    pub output-short : p ≤ top → output < slots (chainCells b) p → before ≡ 9
+    pub output-short : p ≤ top → output < slots (sectionsOf b) p → before ≡ 9
     output-short h k =
-        sheet-passed limit b p slots output work accepted ∙ rw (le-ltb top p h, lt-ltb output (slots (chainCells b) p) k)
+        sheet-passed limit b p slots output work accepted ∙ rw (le-ltb top p h, lt-ltb output (slots (sectionsOf b) p) k)
 
-    pub work-short : p ≤ top → work < workSlots (chainCells b) p → before ≡ 9
+    pub work-short : p ≤ top → work < workSlots (sectionsOf b) p → before ≡ 9
     work-short h k =
         sheet-passed limit b p slots output work accepted
-        ∙ rw (le-ltb top p h, lt-ltb work (workSlots (chainCells b) p) k) (either (ltb output (slots (chainCells b) p)))
+        ∙ rw (le-ltb top p h, lt-ltb work (workSlots (sectionsOf b) p) k) (either (ltb output (slots (sectionsOf b) p)))
       where
         either : (t : Bool) → first ((9, t || true) ∷ []) ≡ 9
         either true = refl

@@ -5,13 +5,17 @@ use Prim.Native.Nat.{ℕ}
 use lib.IntN.{ℤ, pos}
 use lib.ListN.{length, replicate}
 use Rattle.complexes.specs.Complex.{count}
-use Rattle.sheet_format.specs.Check.{chainCells, first}
+use Rattle.trials.specs.Trial.{first}
+use Rattle.sheet_format.specs.Check.{sectionsOf}
 use Rattle.reduction_steps.specs.State.{State}
 use Rattle.reduction_steps.specs.PivotLaws.{pivotRule-is-rule}
 use Rattle.reports.specs.Report.{reportList}
-use Rattle.reports.specs.Call.{Called, reportSlots, callChecks, reportCall, written}
+use Rattle.trials.specs.Trial.{Called}
+use Rattle.reports.specs.Call.{reportSlots, reportCall}
+use Rattle.requests.specs.Call.{callChecks}
+use Rattle.lists.specs.Splice.{written}
 use Rattle.reports.specs.Reductions.{tooWide}
-use Rattle.reports.specs.RefusalLaws.{callChecks-zero}
+use Rattle.requests.specs.CheckLaws.{callChecks-zero}
 use Rattle.refusal.specs.Number.{numberOf}
 use Rattle.refusal.specs.declared.Refusal.{Refusal}
 use Rattle.refusal.specs.declared.Refusal.the-variants as refusal
@@ -34,7 +38,7 @@ module _ (l : Lent) where
 
   -- what the report leaves
   abbrev left : ℕ → ℕ → State → List ℤ
-  left s r x = written (reportList (count (chainCells (l .sheet)) (l .dimension)) s r x) (l .output)
+  left s r x = written (reportList (count (sectionsOf (l .sheet)) (l .dimension)) s r x) (l .output)
 
   abbrev called : Called
   called = reportCall (l .limit) (l .sheet) (l .dimension) (l .output) (l .work)

@@ -12,11 +12,11 @@ use Rattle.complexes.specs.ChainComplex.{ChainComplex}
 use Rattle.complexes.specs.Boundary.{countBelow}
 use Rattle.sheet_format.specs.Sheet.{Bytes}
 use Rattle.sheet_format.specs.Accept.{accepted-chains}
-use Rattle.sheet_format.specs.Check.{countField, chainCells, refusal}
+use Rattle.sheet_format.specs.Check.{countField, sectionsOf, refusal}
 use Rattle.sheet_format.specs.CheckLaws.{Passes, refusal-zero, countExceeds-false}
-use Rattle.sheet_format.specs.SheetLaws.{count-chainCells}
+use Rattle.sheet_format.specs.SheetLaws.{count-sectionsOf}
 use Rattle.fields.specs.Read.{ReadsBelow}
-use Rattle.reports.specs.Call.{workSlots}
+use Rattle.requests.specs.Call.{workSlots}
 use Rattle.limits.specs.Limits.{libraryLimit}
 use Rattle.faces.specs.Face.{Accepted}
 use Rattle.operations.specs.Layouts.{firstLayout, secondLayout}
@@ -34,8 +34,8 @@ unfolding countBelow
 rows-section K zero h = absurd (omega arith)
 rows-section K (suc p) h = ap (count K) (omega arith)
 
-pub rows-before : (b : List ℕ) (p : ℕ) → p ≢ 0 → countBelow (chainCells b) p ≡ countField b (p - 1)
-rows-before b p d = rows-section (chainCells b) p (pos-of-ne-zero d) ∙ count-chainCells b (p - 1)
+pub rows-before : (b : List ℕ) (p : ℕ) → p ≢ 0 → countBelow (sectionsOf b) p ≡ countField b (p - 1)
+rows-before b p d = rows-section (sectionsOf b) p (pos-of-ne-zero d) ∙ count-sectionsOf b (p - 1)
 
 pub accepted-library : {limit : ℕ} {b : List ℕ} → limit ≤ libraryLimit → refusal limit b ≡ 0 → Accepted b
 accepted-library {limit} {b} h e = record {
@@ -53,17 +53,17 @@ accepted-library {limit} {b} h e = record {
     passes : Passes limit b
     passes = refusal-zero limit b .0 e
 
-pub sheet-chains : {b : List ℕ} → Bytes b → Accepted b → ChainComplex libraryLimit (chainCells b)
+pub sheet-chains : {b : List ℕ} → Bytes b → Accepted b → ChainComplex libraryLimit (sectionsOf b)
 sheet-chains {b} bytes h = accepted-chains libraryLimit b bytes (h .none-applies)
 
-pub sizes-read : (b : List ℕ) {p cells rows columns : ℕ} → ReadsBelow 65536 (countField b p) cells → ReadsBelow 65536 (countBelow (chainCells b) p) rows
-    → ReadsBelow 65536 (countField b (p + 1)) columns → SizesRead (chainCells b) p (record { cells = cells; rows = rows; columns = columns })
+pub sizes-read : (b : List ℕ) {p cells rows columns : ℕ} → ReadsBelow 65536 (countField b p) cells → ReadsBelow 65536 (countBelow (sectionsOf b) p) rows
+    → ReadsBelow 65536 (countField b (p + 1)) columns → SizesRead (sectionsOf b) p (record { cells = cells; rows = rows; columns = columns })
 sizes-read b {p} c r d = record {
   is =
       cc (
-        c .is ∙ sym (count-chainCells b p),
+        c .is ∙ sym (count-sectionsOf b p),
         r .is,
-        d .is ∙ ap (countField b) (add-one p) ∙ sym (count-chainCells b (suc p)),
+        d .is ∙ ap (countField b) (add-one p) ∙ sym (count-sectionsOf b (suc p)),
       );
   cells-below = c .below;
   rows-below = r .below;

@@ -10,7 +10,9 @@ use Rattle.complexes.specs.Complex.{Sections, count}
 use Rattle.complexes.specs.ChainComplex.{ChainComplex}
 use Rattle.complexes.specs.Boundary.{countBelow}
 use Rattle.reduction_steps.specs.Pivot.{Rule, IsRule}
-use Rattle.reports.specs.Call.{workSlots, reportSlots, reductionsOf}
+use Rattle.requests.specs.Call.{workSlots}
+use Rattle.reports.specs.Call.{reportSlots}
+use Rattle.reports.specs.Reductions.{reductionsOf}
 use Rattle.limits.specs.Limits.{entryLimit, coefficientLimit, libraryLimit}
 use Rattle.answers.specs.TwoReductions.{Right, reductions-right}
 use Rattle.lines.specs.Slice.{at}

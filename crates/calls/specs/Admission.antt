@@ -4,8 +4,9 @@ use mathlib.Core.List.{List}
 use Prim.Native.Nat.{ℕ, suc, _+_, _*_, _<_}
 use Rattle.complexes.specs.Complex.{Sections, count}
 use Rattle.complexes.specs.Boundary.{countBelow}
-use Rattle.sheet_format.specs.Check.{chainCells, first}
-use Rattle.reports.specs.Call.{callChecks}
+use Rattle.trials.specs.Trial.{first}
+use Rattle.sheet_format.specs.Check.{sectionsOf}
+use Rattle.requests.specs.Call.{callChecks}
 use Rattle.refusal.specs.Number.{numberOf}
 use Rattle.calls.specs.declared.admission.Sizes.{Sizes}
 use Rattle.calls.specs.declared.admission.Request.{Request}
@@ -31,5 +32,5 @@ slotsFor (Coordinates number) n = number * n .cells
 -- the first of the checks 1 to 9 that applies, or the sizes of the dimension
 abbrev pub Admits : ℕ → List ℕ → ℕ → Request → ℕ → ℕ → Admission → Type 0
 Admits limit b p request output work (Admitted sizes) =
-    (first (callChecks limit b p (λ K q. slotsFor request (sizesIn K q)) output work) ≡ 0) × SizesRead (chainCells b) p sizes
+    (first (callChecks limit b p (λ K q. slotsFor request (sizesIn K q)) output work) ≡ 0) × SizesRead (sectionsOf b) p sizes
 Admits limit b p request output work (Refused x) = first (callChecks limit b p (λ K q. slotsFor request (sizesIn K q)) output work) ≡ numberOf x

@@ -4,7 +4,7 @@ use mathlib.Core.List.{List}
 use lib.IntN.{ℤ}
 use Rattle.refusal.specs.Number.{numberOf}
 use Rattle.reports.specs.Call as call
-use Rattle.reports.specs.Call.{Called}
+use Rattle.trials.specs.Trial.{Called}
 pub use Rattle.writers.specs.Written.{countsIn}
 use Rattle.calls.specs.declared.answer.Answer.{Answer}
 use Rattle.calls.specs.declared.answer.Answer.the-variants.{Done, Refused}

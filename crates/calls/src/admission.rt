@@ -5,7 +5,7 @@ ghost use lib.Dec.{ltb};
 ghost use Rattle.complexes.specs.Boundary.{countBelow};
 ghost use Rattle.fields.specs.Read.{ReadsBelow};
 ghost use Rattle.sheet_format.specs.Layout.{top};
-ghost use Rattle.sheet_format.specs.Check.{chainCells};
+ghost use Rattle.sheet_format.specs.Check.{sectionsOf};
 ghost use Rattle.calls.specs.Admission.{SizesRead, slotsFor, Admits};
 use fields::field::TOP;
 use fields::field::count;
@@ -35,7 +35,7 @@ pub enum Admission {
 
 // The number of rows of the boundary matrix of dimension p.
 fn rows_of(s: &[u8], p: usize) -> usize
-    ensures { λ r. ⌜ ReadsBelow 65536 (countBelow (chainCells (now (s .entry))) p) r ⌝ }
+    ensures { λ r. ⌜ ReadsBelow 65536 (countBelow (sectionsOf (now (s .entry))) p) r ⌝ }
 {
     if p == 0 { 0 } else { count(s, p - 1) }
 }
@@ -43,7 +43,7 @@ fn rows_of(s: &[u8], p: usize) -> usize
 // The sizes of dimension p.
 fn sizes_of(s: &[u8], p: usize) -> Sizes
     requires { ⌜ p ≤ top ⌝ }
-    ensures { λ r. ⌜ SizesRead (chainCells (now (s .entry))) p r ⌝ }
+    ensures { λ r. ⌜ SizesRead (sectionsOf (now (s .entry))) p r ⌝ }
 {
     Sizes {
         cells: count(s, p),

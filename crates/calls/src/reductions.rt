@@ -3,9 +3,10 @@ ghost use mathlib.Core.Path.{_≡_};
 ghost use Prim.Native.Nat.{_≤_};
 ghost use lib.ListN.{length};
 ghost use Rattle.sheet_format.specs.Layout.{top};
-ghost use Rattle.sheet_format.specs.Check.{chainCells};
+ghost use Rattle.sheet_format.specs.Check.{sectionsOf};
 ghost use Rattle.reduction_steps.specs.Pivot.{pivotRule};
-ghost use Rattle.reports.specs.Call.{workSlots, reductionsOf};
+ghost use Rattle.requests.specs.Call.{workSlots};
+ghost use Rattle.reports.specs.Reductions.{reductionsOf};
 ghost use Rattle.faces.specs.Face.{Accepted};
 ghost use Rattle.calls.specs.Admission.{SizesRead};
 ghost use Rattle.calls.specs.Slices.{firstLayoutOf, startPeak, Filled, TwiceReduced};
@@ -30,9 +31,9 @@ pub enum Reductions {
 // Sets up the first reduction: the boundary matrix of dimension p, V and its inverse.
 fn fill_first(s: &[u8], p: usize, layout: Layout, w: &mut [i32])
     requires { ⌜ Accepted (now s) × (p ≤ top) ⌝ }
-    requires { ⌜ workSlots (chainCells (now s)) p ≤ length (now w) ⌝ }
-    requires { ⌜ layout ≡ firstLayoutOf (chainCells (now s)) p ⌝ }
-    ensures { λ r. ⌜ Filled (chainCells (now (s .entry))) p (length (now (w .entry))) (now (w .exit)) ⌝ }
+    requires { ⌜ workSlots (sectionsOf (now s)) p ≤ length (now w) ⌝ }
+    requires { ⌜ layout ≡ firstLayoutOf (sectionsOf (now s)) p ⌝ }
+    ensures { λ r. ⌜ Filled (sectionsOf (now (s .entry))) p (length (now (w .entry))) (now (w .exit)) ⌝ }
 {
     clear(w);
     if 0 < p {
@@ -52,9 +53,9 @@ fn start_peak(cells: usize) -> u64
 // Reduces the boundary matrix of dimension p, then Q times the one of p + 1.
 pub fn reduce_twice(s: &[u8], p: usize, sizes: Sizes, w: &mut [i32]) -> Reductions
     requires { ⌜ Accepted (now s) × (p ≤ top) ⌝ }
-    requires { ⌜ workSlots (chainCells (now s)) p ≤ length (now w) ⌝ }
-    requires { ⌜ SizesRead (chainCells (now s)) p sizes ⌝ }
-    ensures { λ r. ⌜ TwiceReduced (chainCells (now (s .entry))) p (reductionsOf pivotRule (chainCells (now (s .entry))) p) (length (now (w .entry))) r (now (w .exit)) ⌝ }
+    requires { ⌜ workSlots (sectionsOf (now s)) p ≤ length (now w) ⌝ }
+    requires { ⌜ SizesRead (sectionsOf (now s)) p sizes ⌝ }
+    ensures { λ r. ⌜ TwiceReduced (sectionsOf (now (s .entry))) p (reductionsOf pivotRule (sectionsOf (now (s .entry))) p) (length (now (w .entry))) r (now (w .exit)) ⌝ }
 {
     let first = Layout::first(sizes.cells, sizes.rows, sizes.columns);
     fill_first(s, p, first, w);

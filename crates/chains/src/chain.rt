@@ -5,8 +5,8 @@ ghost use lib.ListN.{length, getD};
 ghost use lib.IntN.{natAbs, pos};
 ghost use Rattle.complexes.specs.Complex.{count};
 ghost use Rattle.sheet_format.specs.Layout.{top};
-ghost use Rattle.sheet_format.specs.Check.{chainCells};
-ghost use Rattle.reports.specs.Call.{coefficientExceeds, boundaryNotZero};
+ghost use Rattle.sheet_format.specs.Check.{sectionsOf};
+ghost use Rattle.requests.specs.Chains.{coefficientExceeds, boundaryNotZero};
 ghost use Rattle.limits.specs.Limits.{coefficientLimit};
 ghost use Rattle.faces.specs.Face.{Accepted};
 ghost use Rattle.chains.specs.Sums.{Sums, AddsFaces};
@@ -48,10 +48,10 @@ fn add_faces(
     places: &mut [usize; FACES],
 )
     requires { ⌜ Accepted (now s) ⌝ }
-    requires { ⌜ (p < top) × (j < count (chainCells (now s)) (suc p)) × (length (now places) ≡ suc top) ⌝ }
+    requires { ⌜ (p < top) × (j < count (sectionsOf (now s)) (suc p)) × (length (now places) ≡ suc top) ⌝ }
     requires { ⌜ natAbs x ≤ coefficientLimit ⌝ }
-    requires { ⌜ Sums (chainCells (now s)) p (now sums) ⌝ }
-    ensures { λ r. ⌜ AddsFaces (chainCells (now (s .entry))) p j x (now (sums .entry)) (now (sums .exit)) ⌝ }
+    requires { ⌜ Sums (sectionsOf (now s)) p (now sums) ⌝ }
+    ensures { λ r. ⌜ AddsFaces (sectionsOf (now (s .entry))) p j x (now (sums .entry)) (now (sums .exit)) ⌝ }
     ensures { λ r. ⌜ length (now (places .exit)) ≡ suc top ⌝ }
 {
     face_places(s, p, j, places);
@@ -66,9 +66,9 @@ fn add_faces(
 // Check 12: whether the chain of dimension p has a nonzero boundary.
 pub fn boundary_not_zero(s: &[u8], p: usize, chain: &[i32]) -> bool
     requires { ⌜ Accepted (now s) ⌝ }
-    requires { ⌜ (p ≤ top) × (length (now chain) ≡ count (chainCells (now s)) p) ⌝ }
+    requires { ⌜ (p ≤ top) × (length (now chain) ≡ count (sectionsOf (now s)) p) ⌝ }
     requires { ⌜ ((i : ℕ) → natAbs (getD (now chain) i (pos 0)) ≤ coefficientLimit) ⌝ }
-    ensures { λ r. ⌜ r ≡ boundaryNotZero (chainCells (now (s .entry))) p (now (chain .entry)) ⌝ }
+    ensures { λ r. ⌜ r ≡ boundaryNotZero (sectionsOf (now (s .entry))) p (now (chain .entry)) ⌝ }
 {
     if p == 0 {
         return false;

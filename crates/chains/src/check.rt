@@ -4,10 +4,11 @@ ghost use Prim.Native.Nat.{_≤_, _*_};
 ghost use lib.ListN.{length};
 ghost use Rattle.complexes.specs.Complex.{count};
 ghost use Rattle.sheet_format.specs.Layout.{top};
-ghost use Rattle.sheet_format.specs.Check.{chainCells, first};
-ghost use Rattle.reports.specs.Call.{cycleChecks};
-ghost use Rattle.reports.specs.Lists.{cyclesChecks};
-ghost use Rattle.reports.specs.ListsLaws.{nonempty};
+ghost use Rattle.trials.specs.Trial.{first};
+ghost use Rattle.sheet_format.specs.Check.{sectionsOf};
+ghost use Rattle.requests.specs.Chains.{cycleChecks};
+ghost use Rattle.requests.specs.Chains.{cyclesChecks};
+ghost use Rattle.requests.specs.ListsLaws.{nonempty};
 ghost use Rattle.limits.specs.Limits.{coefficientLimit};
 ghost use Rattle.faces.specs.Face.{Accepted};
 ghost use Rattle.chains.specs.Check.{checkNumber};
@@ -25,7 +26,7 @@ pub enum Check {
 // The first of 11 and 12 that applies to the chain.
 pub fn check_chain(s: &[u8], p: usize, chain: &[i32]) -> Check
     requires { ⌜ Accepted (now s) ⌝ }
-    requires { ⌜ (p ≤ top) × (length (now chain) ≡ count (chainCells (now s)) p) ⌝ }
+    requires { ⌜ (p ≤ top) × (length (now chain) ≡ count (sectionsOf (now s)) p) ⌝ }
     ensures { λ r. ⌜ first (cycleChecks coefficientLimit (now (s .entry)) p (now (chain .entry))) ≡ checkNumber r ⌝ }
 {
     if coefficient_exceeds(chain, Sheet::COEFFICIENT_LIMIT) {
@@ -47,7 +48,7 @@ pub fn nonempty(number: usize, cells: usize) -> usize
 // The first of 11 and 12 that applies to the first faulty of the `number` chains.
 pub fn check_chains(s: &[u8], p: usize, cells: usize, number: usize, chains: &[i32]) -> Check
     requires { ⌜ Accepted (now s) ⌝ }
-    requires { ⌜ (p ≤ top) × (cells ≡ count (chainCells (now s)) p) × (length (now chains) ≡ number * cells) ⌝ }
+    requires { ⌜ (p ≤ top) × (cells ≡ count (sectionsOf (now s)) p) × (length (now chains) ≡ number * cells) ⌝ }
     ensures { λ r. ⌜ first (cyclesChecks coefficientLimit (now (s .entry)) p number (now (chains .entry))) ≡ checkNumber r ⌝ }
 {
     let mut i: usize = 0;

@@ -16,7 +16,8 @@ use Rattle.complexes.specs.Cell.{Cell, precedes}
 use Rattle.complexes.specs.Complex.{Sections, count}
 use Rattle.complexes.specs.Packed.{wordVertices, packed, Numbered}
 use Rattle.sheet_format.specs.Layout.{top, layout, longest}
-use Rattle.sheet_format.specs.Check.{first, refusal, sectionsOf}
+use Rattle.trials.specs.Trial.{first}
+use Rattle.sheet_format.specs.Check.{refusal, sectionsOf}
 use Rattle.sheet_format.specs.Sheet.{Bytes, IsSheet}
 use Rattle.closures.specs.Form.{IsClosure}
 use Rattle.mesh_format.specs.Mesh.{Mesh}
@@ -28,11 +29,18 @@ use Rattle.homology_groups.specs.Chain.{Chain, combination}
 use Rattle.reduction_steps.specs.Pivot.{pivotRule}
 use Rattle.reports.specs.Reductions.{reductions}
 use Rattle.reports.specs.Report.{Counts}
-use Rattle.reports.specs.Call.{done, callChecks, chainChecks, reportSlots, coordinateSlots, workSlots, reportCall, coordinateCall}
-use Rattle.reports.specs.Lists.{chainAt, chainBytes, listSlots, chainsChecks, coordinateListsCall, hostCoordinateLists, FirstFault}
+use Rattle.trials.specs.Trial.{done}
+use Rattle.requests.specs.Call.{callChecks, workSlots}
+use Rattle.requests.specs.Chains.{chainChecks}
+use Rattle.reports.specs.Call.{reportSlots, coordinateSlots, reportCall, coordinateCall}
+use Rattle.requests.specs.Chains.{chainAt, chainsChecks, FirstFault}
+use Rattle.host_calls.specs.Bytes.{chainBytes}
+use Rattle.reports.specs.Lists.{listSlots, coordinateListsCall, hostCoordinateLists}
 use Rattle.limits.specs.Limits.{libraryLimit, hostLimit, entryLimit, coefficientLimit}
-use Rattle.reports.specs.Host.{chainFrom, coefficientIn, slotsIn, hostReport, hostCoordinates, numberAt}
-use Rattle.reports.specs.Text.{refusalLine, programText}
+use Rattle.host_calls.specs.Bytes.{chainFrom, coefficientIn, numberAt}
+use Rattle.host_calls.specs.Host.{slotsIn}
+use Rattle.reports.specs.Host.{hostReport, hostCoordinates}
+use Rattle.program_text.specs.Text.{refusalLine, programText}
 use Rattle.answers.specs.Homology.{IsBoundary}
 use Rattle.answers.specs.Right.{slot, orderIn, generatorIn, IsRight, reportLength, HasCounts}
 use Rattle.answers.specs.Wide.{GoesWide}

@@ -32,7 +32,8 @@ use Rattle.complexes.specs.Packed.{packed, Numbered}
 use Rattle.complexes.specs.ChainComplex.{ChainComplex, complex-chains}
 use Rattle.complexes.specs.Boundary.{sign, coefficient, countBelow, boundary}
 use Rattle.sheet_format.specs.Layout.{top, start, cellBytes, sectionBytes, sectionsBytes, headerBytes, layout}
-use Rattle.sheet_format.specs.Check.{first, countField, offsetField, cellOf, cellsOf, sectionsOf, chainCells, some, verticesDoNotRise, cellsDoNotRise, faceMissing, refusal}
+use Rattle.trials.specs.Trial.{first}
+use Rattle.sheet_format.specs.Check.{countField, offsetField, cellOf, cellsOf, sectionsOf, some, verticesDoNotRise, cellsDoNotRise, faceMissing, refusal}
 use Rattle.sheet_format.specs.Sheet.{Bytes}
 use Rattle.sheet_format.specs.Starred.{hollowTriangle}
 use Rattle.sheet_format.specs.Accept.{accepted-complex}
@@ -48,10 +49,17 @@ use Rattle.homology_groups.specs.PresentationLaws.{combination-ext}
 use Rattle.reduction_steps.specs.Pivot.{release1, pivotRule}
 use Rattle.reduction_steps.specs.PivotLaws.{release1-is-rule}
 use Rattle.limits.specs.Limits.{libraryLimit, hostLimit, coefficientLimit}
-use Rattle.reports.specs.Call.{Called, callChecks, chainChecks, coefficientExceeds, boundaryNotZero, reportSlots, coordinateSlots, workSlots, reportCall, coordinateCall}
-use Rattle.reports.specs.Lists.{chainAt, chainBytes, listSlots, cyclesChecks, chainsChecks, coordinateListsCall, hostCoordinateLists, FirstFault}
-use Rattle.reports.specs.Host.{coefficientAt, coefficientIn, chainFrom, slotsIn, numberAt, hostReport, hostCoordinates}
-use Rattle.reports.specs.RefusalLaws.{callChecks-zero}
+use Rattle.trials.specs.Trial.{Called}
+use Rattle.requests.specs.Call.{callChecks, workSlots}
+use Rattle.requests.specs.Chains.{chainChecks, coefficientExceeds, boundaryNotZero}
+use Rattle.reports.specs.Call.{reportSlots, coordinateSlots, reportCall, coordinateCall}
+use Rattle.requests.specs.Chains.{chainAt, cyclesChecks, chainsChecks, FirstFault}
+use Rattle.host_calls.specs.Bytes.{chainBytes}
+use Rattle.reports.specs.Lists.{listSlots, coordinateListsCall, hostCoordinateLists}
+use Rattle.host_calls.specs.Bytes.{coefficientAt, coefficientIn, chainFrom, numberAt}
+use Rattle.host_calls.specs.Host.{slotsIn}
+use Rattle.reports.specs.Host.{hostReport, hostCoordinates}
+use Rattle.requests.specs.CheckLaws.{callChecks-zero}
 use Rattle.answers.specs.Homology.{IsBoundary}
 use Rattle.answers.specs.Right.{slot, orderIn, generatorIn, HasCounts}
 use Rattle.answers.specs.Wide.{GoesWide}
@@ -223,7 +231,7 @@ narrow : TooWide sheet 1 → ⊥
 narrow = reportNumbers 256 sheet 1 (nines 242) (nines 600) plane-bytes .is-done .0 (ap (λ (c : Called). answerNumber (c .answer)) (plane-calls .report-call)) .1
 
 report-admitted : first (callChecks hostLimit sheet 1 reportSlots (slotsIn (replicate 1936 9)) (workSlots (sectionsOf sheet) 1)) ≡ 0
-unfolding callChecks chainChecks refusal countField offsetField cellOf cellsOf sectionsOf chainCells some verticesDoNotRise cellsDoNotRise faceMissing without same rises precedes listed start countBelow tabulate
+unfolding callChecks chainChecks refusal countField offsetField cellOf cellsOf sectionsOf some verticesDoNotRise cellsDoNotRise faceMissing without same rises precedes listed start countBelow tabulate
 report-admitted = refl
 
 pub plane-host-report : ReportOf sheet 1 (numberAt (hostReport sheet 1 (replicate 1936 9) .output))
@@ -235,7 +243,7 @@ coordinates-admitted :
     (callChecks hostLimit sheet 1 coordinateSlots (slotsIn (replicate 120 9)) (workSlots (sectionsOf sheet) 1)
     ++ chainChecks coefficientLimit sheet 1 (chainFrom (count (sectionsOf sheet) 1) (replicate 60 0)))
     ≡ 0
-unfolding callChecks chainChecks refusal countField offsetField cellOf cellsOf sectionsOf chainCells some verticesDoNotRise cellsDoNotRise faceMissing without same rises precedes listed start countBelow tabulate
+unfolding callChecks chainChecks refusal countField offsetField cellOf cellsOf sectionsOf some verticesDoNotRise cellsDoNotRise faceMissing without same rises precedes listed start countBelow tabulate
     chainFrom coefficientAt coefficientExceeds boundaryNotZero boundary coefficient sign apply sum
 coordinates-admitted = refl
 
@@ -251,7 +259,7 @@ plane-accepted = callChecks-zero hostLimit sheet 1 reportSlots (slotsIn (replica
 
 -- the loop and twice the loop
 lists-admitted : first (callChecks 256 sheet 1 (listSlots 2) (length (nines 30)) (length (nines 600)) ++ chainsChecks coefficientLimit sheet 1 2 (loop ++ twice)) ≡ 0
-unfolding callChecks refusal countField offsetField cellOf cellsOf sectionsOf chainCells some verticesDoNotRise cellsDoNotRise faceMissing without same rises precedes listed start countBelow tabulate
+unfolding callChecks refusal countField offsetField cellOf cellsOf sectionsOf some verticesDoNotRise cellsDoNotRise faceMissing without same rises precedes listed start countBelow tabulate
     chainsChecks cyclesChecks coefficientExceeds boundaryNotZero boundary coefficient sign apply sum
 lists-admitted = refl
 
@@ -270,7 +278,7 @@ host-lists-admitted :
     (callChecks hostLimit sheet 1 (listSlots 2) (slotsIn (replicate 240 9)) (workSlots (sectionsOf sheet) 1)
     ++ chainsChecks coefficientLimit sheet 1 2 (chainFrom (2 * count (sectionsOf sheet) 1) (replicate 120 0)))
     ≡ 0
-unfolding callChecks refusal countField offsetField cellOf cellsOf sectionsOf chainCells some verticesDoNotRise cellsDoNotRise faceMissing without same rises precedes listed start countBelow tabulate
+unfolding callChecks refusal countField offsetField cellOf cellsOf sectionsOf some verticesDoNotRise cellsDoNotRise faceMissing without same rises precedes listed start countBelow tabulate
     chainsChecks cyclesChecks chainFrom coefficientAt coefficientExceeds boundaryNotZero boundary coefficient sign apply sum
 host-lists-admitted = refl
 
@@ -285,7 +293,7 @@ plane-host-list = claims.CoordinatesOf.by-host-list 2 (replicate 120 0) (replica
 -- ---- no cycle
 
 pub triangle-no-cycle : NoCycle coefficientLimit (sectionsOf hollowTriangle) 1 (pos 1 ∷ pos 0 ∷ pos 0 ∷ [])
-unfolding chainChecks countField cellOf cellsOf sectionsOf chainCells some without same start countBelow tabulate coefficientExceeds boundaryNotZero boundary coefficient sign apply sum
+unfolding chainChecks countField cellOf cellsOf sectionsOf some without same start countBelow tabulate coefficientExceeds boundaryNotZero boundary coefficient sign apply sum
 triangle-no-cycle = notACycle coefficientLimit hollowTriangle 1 (pos 1 ∷ pos 0 ∷ pos 0 ∷ []) .0 told
   where
     told : first (chainChecks coefficientLimit hollowTriangle 1 (pos 1 ∷ pos 0 ∷ pos 0 ∷ [])) ≡ 12
@@ -296,7 +304,7 @@ abbrev pub faulty : List ℤ
 faulty = pos 1 ∷ pos 0 ∷ pos 0 ∷ pos 32768 ∷ pos 0 ∷ pos 0 ∷ []
 
 pub triangle-first : FirstFault (λ i. first (chainChecks coefficientLimit hollowTriangle 1 (chainAt (count (sectionsOf hollowTriangle) 1) faulty i))) 2 12
-unfolding every coordinateListsCall callChecks chainsChecks cyclesChecks countField offsetField cellOf cellsOf sectionsOf chainCells some verticesDoNotRise cellsDoNotRise faceMissing without same rises precedes listed start refusal countBelow tabulate coefficientExceeds boundaryNotZero boundary coefficient sign apply sum
+unfolding every coordinateListsCall callChecks chainsChecks cyclesChecks countField offsetField cellOf cellsOf sectionsOf some verticesDoNotRise cellsDoNotRise faceMissing without same rises precedes listed start refusal countBelow tabulate coefficientExceeds boundaryNotZero boundary coefficient sign apply sum
 triangle-first = firstFaultyChain 256 hollowTriangle 1 2 faulty (nines 6) (nines 27) (record { small = numbers-below 256 (omega arith) hollowTriangle tt }) passed refl 12 (λ e. absurd (omega arith)) (λ e. absurd (omega arith)) .0 told
   where
     passed : first (callChecks 256 hollowTriangle 1 (listSlots 2) (length (nines 6)) (length (nines 27))) ≡ 0
@@ -311,7 +319,7 @@ faulty-bytes = 1 ∷ (replicate 11 0 ++ (0 ∷ 128 ∷ replicate 10 0))
 
 pub triangle-host-first :
     FirstFault (λ i. first (chainChecks coefficientLimit hollowTriangle 1 (chainFrom (count (sectionsOf hollowTriangle) 1) (chainBytes (count (sectionsOf hollowTriangle) 1) faulty-bytes i)))) 2 12
-unfolding every hostCoordinateLists callChecks chainsChecks cyclesChecks chainFrom coefficientAt countField offsetField cellOf cellsOf sectionsOf chainCells some verticesDoNotRise cellsDoNotRise faceMissing without same rises precedes listed start refusal countBelow tabulate coefficientExceeds boundaryNotZero boundary coefficient sign apply sum
+unfolding every hostCoordinateLists callChecks chainsChecks cyclesChecks chainFrom coefficientAt countField offsetField cellOf cellsOf sectionsOf some verticesDoNotRise cellsDoNotRise faceMissing without same rises precedes listed start refusal countBelow tabulate coefficientExceeds boundaryNotZero boundary coefficient sign apply sum
 triangle-host-first =
     hostFirstFaultyChain hollowTriangle 1 2 faulty-bytes (replicate 48 9) (record { small = numbers-below 256 (omega arith) hollowTriangle tt }) passed refl 12 (λ e. absurd (omega arith))
     (λ e. absurd (omega arith)) .0 told

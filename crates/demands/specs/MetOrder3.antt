@@ -12,7 +12,8 @@ use Rattle.lists.specs.Tabulate.{tabulate}
 use Rattle.lists.specs.TabulateLaws.{getD-tabulate}
 use Rattle.sheet_format.specs.Check.{countField, cellsOf, sectionsOf}
 use Rattle.sheet_format.specs.Sheet.{Bytes}
-use Rattle.reports.specs.Call.{Called, reportCall, coordinateCall}
+use Rattle.trials.specs.Trial.{Called}
+use Rattle.reports.specs.Call.{reportCall, coordinateCall}
 use Rattle.answers.specs.Right.{slot, orderIn, generatorIn, HasCounts}
 use Rattle.moore_space.specs.Space.{sheet, report, backwards}
 use Rattle.moore_space.specs.Examples.{nines, counts, space-calls}

@@ -1,4 +1,4 @@
--- The owner's demands: what `Claims` states, proved. The claims speak of the cells of the sheet, the calls of `chainCells`, which are these.
+-- The owner's demands: what `Claims` states, proved. The claims speak of the cells of the sheet, the calls of `sectionsOf`, which are these.
 use mathlib.Core.Path.{_≡_, refl, sym, _∙_, ap, ap₂, subst}
 use mathlib.Core.Logic.{_↔_, _⊎_}
 use mathlib.Core.List.{List, [], _∷_, _++_}
@@ -13,7 +13,8 @@ use Rattle.integers.specs.Division.{residue, NearestZero}
 use Rattle.integers.specs.Residue.{nearest-two, nearest-three, residue-minus-one, residue-minus-one-of-two}
 use Rattle.complexes.specs.Complex.{count}
 use Rattle.complexes.specs.PackedLaws.{packed-fits, packed-precedes, packed-injective}
-use Rattle.sheet_format.specs.Check.{first, sectionsOf, chainCells}
+use Rattle.trials.specs.Trial.{first}
+use Rattle.sheet_format.specs.Check.{sectionsOf}
 use Rattle.sheet_format.specs.Sheet.{Bytes}
 use Rattle.sheet_format.specs.Accept.{accepted-iff, sections-layout}
 use Rattle.closures.specs.ClosureLaws.{closure-unique}
@@ -28,15 +29,23 @@ use Rattle.reduction_steps.specs.State.{State}
 use Rattle.reduction_steps.specs.Pivot.{pivotRule}
 use Rattle.reports.specs.Report.{Counts, freeRank, torsionCount, bitsOf, countsOf}
 use Rattle.reports.specs.BitsLaws.{bits-zero, bits-below, bits-least, bits-le}
-use Rattle.reports.specs.CallLaws.{counted-is}
+use Rattle.requests.specs.CallLaws.{counted-is}
 use Rattle.reports.specs.Reductions.{Reductions, tooWide, reduced}
-use Rattle.reports.specs.Call.{done, callChecks, chainChecks, workSlots, reductionsOf, reportCall, coordinateCall}
-use Rattle.reports.specs.Lists.{chainAt, chainBytes, listSlots, cyclesChecks, chainsChecks, coordinateListsCall, hostCoordinateLists, FirstFault}
-use Rattle.reports.specs.RefusalLaws.{call-passed}
-use Rattle.reports.specs.ChainsLaws.{length-chainAt, fault, cycles-told, chains-sized}
-use Rattle.reports.specs.Host.{chainFrom, coefficientIn, slotsIn, hostCoordinates, numberAt}
-use Rattle.reports.specs.HostChainsLaws.{length-chainFrom, coefficientIn-part, chainFrom-part}
-use Rattle.reports.specs.TextLaws.{programText-take}
+use Rattle.trials.specs.Trial.{done}
+use Rattle.requests.specs.Call.{callChecks, workSlots}
+use Rattle.requests.specs.Chains.{chainChecks}
+use Rattle.reports.specs.Reductions.{reductionsOf}
+use Rattle.reports.specs.Call.{reportCall, coordinateCall}
+use Rattle.requests.specs.Chains.{chainAt, cyclesChecks, chainsChecks, FirstFault}
+use Rattle.host_calls.specs.Bytes.{chainBytes}
+use Rattle.reports.specs.Lists.{listSlots, coordinateListsCall, hostCoordinateLists}
+use Rattle.requests.specs.CheckLaws.{call-passed}
+use Rattle.requests.specs.ChainsLaws.{length-chainAt, fault, cycles-told, chains-sized}
+use Rattle.host_calls.specs.Bytes.{chainFrom, coefficientIn, numberAt}
+use Rattle.host_calls.specs.Host.{slotsIn}
+use Rattle.reports.specs.Host.{hostCoordinates}
+use Rattle.host_calls.specs.HostChainsLaws.{length-chainFrom, coefficientIn-part, chainFrom-part}
+use Rattle.program_text.specs.TextLaws.{programText-take}
 use Rattle.answers.specs.Called.{answerNumber}
 use Rattle.answers.specs.Homology.{IsCycle, IsBoundary}
 use Rattle.answers.specs.Right.{slot, orderIn, generatorIn, IsRight, HasCounts}
@@ -65,15 +74,12 @@ use Rattle.demands.specs.Claims as claims
 -- ==== Demand 1
 
 pub reportNumbers : ReportNumbers
-unfolding chainCells
 reportNumbers = report-answers
 
 pub coordinateNumbers : CoordinateNumbers
-unfolding chainCells
 coordinateNumbers = coordinates-answer
 
 pub listNumbers : ListNumbers
-unfolding chainCells
 listNumbers = lists-answer
 
 -- the first fault among numbers that are the same
@@ -86,7 +92,6 @@ fault-same number k same h = record {
 }
 
 pub firstFaultyChain : FirstFaultyChain
-unfolding chainCells
 firstFaultyChain limit b p number chains coordinates work bytes passed size k nonzero narrow = (
   λ e. fault-same number k (λ i l. sym (same i l)) (iff .0 (sym before ∙ answers .0 e)),
   λ f. answers .1 (before ∙ iff .1 (fault-same number k same f)),
@@ -105,22 +110,19 @@ firstFaultyChain limit b p number chains coordinates work bytes passed size k no
     iff : (first (cyclesChecks coefficientLimit b p number chains) ≡ k) ↔ FirstFault (fault coefficientLimit b p chains) number k
     iff = cycles-told coefficientLimit b p chains number k nonzero
 
-    same : (i : ℕ) → i < number → first (chainChecks coefficientLimit b p (chainAt (count (chainCells b) p) chains i)) ≡ fault coefficientLimit b p chains i
-    same i l = chain-told coefficientLimit b p chains i (length-chainAt (count (chainCells b) p) number chains size i l)
+    same : (i : ℕ) → i < number → first (chainChecks coefficientLimit b p (chainAt (count (sectionsOf b) p) chains i)) ≡ fault coefficientLimit b p chains i
+    same i l = chain-told coefficientLimit b p chains i (length-chainAt (count (sectionsOf b) p) number chains size i l)
 
 pub notACycle : NotACycle
-unfolding chainCells
 notACycle = not-a-cycle-iff
 
 pub reportLeaves : ReportLeaves
-unfolding chainCells
 reportLeaves = report-leaves
 
 pub coordinatesLeave : CoordinatesLeave
 coordinatesLeave = coordinates-leave
 
 pub listsLeave : ListsLeave
-unfolding chainCells
 listsLeave = lists-leave
 
 -- ==== Demand 2
@@ -136,20 +138,17 @@ pub sheetCells : SheetCells
 sheetCells limit small b s = sym (sections-layout (s .complex) small) ∙ ap sectionsOf (s .bytes)
 
 pub reports : Reports
-unfolding chainCells
 reports limit b p report work bytes counts e =
     let d = report-answered limit b p report work bytes e in
     as-counted (λ f t. IsRight (sectionsOf b) p f t (slot (reportCall limit b p report work .output))) (d .counted .free) (d .counted .torsion)
     (report-is-right (d .right) (report-reads limit b p report work bytes e))
 
 pub coordinateCounts : CoordinateCounts
-unfolding chainCells
 coordinateCounts limit b p z coordinates work bytes counts e =
     let d = coordinates-answered limit b p z coordinates work bytes e in
     as-counted (λ f t. HasCounts (sectionsOf b) p f t) (d .counted .free) (d .counted .torsion) (has-counts (d .right))
 
 pub listCounts : ListCounts
-unfolding chainCells
 listCounts limit b p number chains coordinates work bytes counts e =
     let d = lists-answered limit b p number chains coordinates work bytes e in
     as-counted (λ f t. HasCounts (sectionsOf b) p f t) (d .counted .free) (d .counted .torsion) (has-counts (d .right))
@@ -160,7 +159,6 @@ sameCounts b p f t f′ t′ = counts-unique
 -- ==== Many chains in one call
 
 pub listsSingle : ListsSingle
-unfolding chainCells
 listsSingle limit b p number chains coordinates work bytes counts e i l coordinates′ work′ room space = record {
   answer = single-answer limit b p number chains coordinates work bytes e i l coordinates′ work′ room space;
   same = lists-single limit b p number chains coordinates work bytes e i l coordinates′ work′ room space;
@@ -168,7 +166,6 @@ listsSingle limit b p number chains coordinates work bytes counts e i l coordina
 }
 
 pub hostListsSingle : HostListsSingle
-unfolding chainCells
 hostListsSingle b p number chains coordinates bytes e f t counts i l coordinates′ room =
     let h = host-listed b bytes p number chains coordinates e in
     let own = counts-unique counts (has-counts (h .right)) in
@@ -194,7 +191,7 @@ record CoordinatesBehind (b : List ℕ) (p : ℕ) (z : Chain) (c : ℕ → ℤ) 
   rows : ℕ
   rank : ℕ
   state : State
-  reductions : reductionsOf pivotRule (chainCells b) p ≡ reduced rows rank state
+  reductions : reductionsOf pivotRule (sectionsOf b) p ≡ reduced rows rank state
   right : Right (sectionsOf b) p rows rank state
   chain : List ℤ
   agrees : (i : ℕ) → i < count (sectionsOf b) p → slot chain i ≡ z i
@@ -204,7 +201,6 @@ record CoordinatesBehind (b : List ℕ) (p : ℕ) (z : Chain) (c : ℕ → ℤ) 
 -- of a single call
 single-behind : (limit : ℕ) (b : List ℕ) (p : ℕ) → Bytes b → (z coordinates work : List ℤ) (counts : Counts) → coordinateCall limit b p z coordinates work .answer ≡ done counts
     → CoordinatesBehind b p (slot z) (slot (coordinateCall limit b p z coordinates work .output))
-unfolding chainCells
 single-behind limit b p bytes z coordinates work counts e =
     let d = coordinates-answered limit b p z coordinates work bytes e in
     record {
@@ -221,7 +217,6 @@ single-behind limit b p bytes z coordinates work counts e =
 
 host-behind : (b : List ℕ) (p : ℕ) → Bytes b → (chain coordinates : List ℕ) → hostCoordinates b p chain coordinates .number ≡ 0
     → CoordinatesBehind b p (coefficientIn chain) (numberAt (hostCoordinates b p chain coordinates .output))
-unfolding chainCells
 host-behind b p bytes chain coordinates e =
     let d = host-coordinated b bytes p chain coordinates e in
     let R = d .behind in
@@ -255,7 +250,6 @@ behind-same b p f t counts same list B =
     }
 
 coordinates-behind : (b : List ℕ) (p : ℕ) → Bytes b → (z : Chain) (c : ℕ → ℤ) → CoordinatesOf b p z c → CoordinatesBehind b p z c
-unfolding chainCells
 coordinates-behind b p bytes _ _ (claims.CoordinatesOf.by-library limit z coordinates work counts e) = single-behind limit b p bytes z coordinates work counts e
 coordinates-behind b p bytes _ _ (claims.CoordinatesOf.by-host chain coordinates e) = host-behind b p bytes chain coordinates e
 coordinates-behind b p bytes _ _ (claims.CoordinatesOf.by-library-list limit number chains coordinates work counts e i l) =
@@ -298,12 +292,11 @@ record ReportBehind (b : List ℕ) (p : ℕ) (report : ℕ → ℤ) : Type 0 whe
   rows : ℕ
   rank : ℕ
   state : State
-  reductions : reductionsOf pivotRule (chainCells b) p ≡ reduced rows rank state
+  reductions : reductionsOf pivotRule (sectionsOf b) p ≡ reduced rows rank state
   right : Right (sectionsOf b) p rows rank state
   reads : Reads (sectionsOf b) p rows rank state report
 
 report-behind : (b : List ℕ) (p : ℕ) → Bytes b → (report : ℕ → ℤ) → ReportOf b p report → ReportBehind b p report
-unfolding chainCells
 report-behind b p bytes _ (claims.ReportOf.by-library limit report work counts e) =
     let d = report-answered limit b p report work bytes e in
     record {
@@ -388,26 +381,22 @@ generatorsBackwards b p bytes z c report of-z of-report f t counts j l is =
 -- ==== The host calls
 
 pub hostReportNumbers : HostReportNumbers
-unfolding chainCells
 hostReportNumbers b p report bytes = host-report-answers b bytes p report
 
 pub hostCoordinateNumbers : HostCoordinateNumbers
-unfolding chainCells
 hostCoordinateNumbers b p chain coordinates bytes = host-coordinates-answer b bytes p chain coordinates
 
 pub hostListNumbers : HostListNumbers
-unfolding chainCells
 hostListNumbers b p number chains coordinates bytes = host-lists-answer b bytes p number chains coordinates
 
 pub hostFirstFaultyChain : HostFirstFaultyChain
-unfolding chainCells
 hostFirstFaultyChain b p number chains coordinates bytes passed size k nonzero narrow = (
   λ e. fault-same number k (λ i l. sym (same i l)) (iff .0 (sym before ∙ answers .0 e)),
   λ f. answers .1 (before ∙ iff .1 (fault-same number k same f)),
 )
   where
     n : ℕ
-    n = count (chainCells b) p
+    n = count (sectionsOf b) p
 
     given : List ℤ
     given = chainFrom (number * n) chains
@@ -416,13 +405,13 @@ hostFirstFaultyChain b p number chains coordinates bytes passed size k nonzero n
     sized = length-chainFrom (number * n) chains size
 
     answers : (hostCoordinateLists b p number chains coordinates .number ≡ k)
-        ↔ (first (callChecks hostLimit b p (listSlots number) (slotsIn coordinates) (workSlots (chainCells b) p) ++ chainsChecks coefficientLimit b p number given) ≡ k)
+        ↔ (first (callChecks hostLimit b p (listSlots number) (slotsIn coordinates) (workSlots (sectionsOf b) p) ++ chainsChecks coefficientLimit b p number given) ≡ k)
     answers = host-lists-answer b bytes p number chains coordinates .earlier k nonzero narrow
 
-    before : first (callChecks hostLimit b p (listSlots number) (slotsIn coordinates) (workSlots (chainCells b) p) ++ chainsChecks coefficientLimit b p number given)
+    before : first (callChecks hostLimit b p (listSlots number) (slotsIn coordinates) (workSlots (sectionsOf b) p) ++ chainsChecks coefficientLimit b p number given)
         ≡ first (cyclesChecks coefficientLimit b p number given)
     before =
-        call-passed hostLimit b p (listSlots number) (slotsIn coordinates) (workSlots (chainCells b) p) (chainsChecks coefficientLimit b p number given) passed
+        call-passed hostLimit b p (listSlots number) (slotsIn coordinates) (workSlots (sectionsOf b) p) (chainsChecks coefficientLimit b p number given) passed
         ∙ chains-sized coefficientLimit b p given number sized
 
     iff : (first (cyclesChecks coefficientLimit b p number given) ≡ k) ↔ FirstFault (fault coefficientLimit b p given) number k
@@ -443,7 +432,6 @@ pub hostListsLeft : HostListsLeft
 hostListsLeft b p number chains coordinates bytes = host-lists-left b bytes p number chains coordinates
 
 pub hostReports : HostReports
-unfolding chainCells
 hostReports b p report bytes e =
     let d = host-reported b bytes p report e in
     let R = d .behind in
@@ -455,14 +443,12 @@ hostReports b p report bytes e =
     }
 
 pub hostCoordinateCounts : HostCoordinateCounts
-unfolding chainCells
 hostCoordinateCounts b p chain coordinates bytes e =
     let d = host-coordinated b bytes p chain coordinates e in
     let R = d .behind in
     record { free = freeRank (R .rows) (R .rank); torsion = torsionCount (R .rank) (R .state); counts = has-counts (R .right); past = d .kept }
 
 pub hostListCounts : HostListCounts
-unfolding chainCells
 hostListCounts b p number chains coordinates bytes e =
     let h = host-listed b bytes p number chains coordinates e in
     record {
@@ -520,7 +506,7 @@ hostImportSheet text sheet = import-number hostLimit (omega arith) text sheet
 -- the call that stands behind the counts that were answered
 record CountsBehind (b : List ℕ) (p : ℕ) (counts : Counts) : Type 0 where
   before : ℕ
-  answer : Answered pivotRule (chainCells b) p before counts
+  answer : Answered pivotRule (sectionsOf b) p before counts
 
 counts-behind : (b : List ℕ) (p : ℕ) → Bytes b → (counts : Counts) → CountsAnswered b p counts → CountsBehind b p counts
 counts-behind b p bytes _ (claims.CountsAnswered.by-report limit report work counts e) =
@@ -537,7 +523,7 @@ oneCounts b p bytes c d of-c of-d =
     same-reduced (λ s r x. c ≡ countsOf s r x) (D .reductions) (C .reductions) (counted-is C) ∙ sym (counted-is D)
 
 module _ (b : List ℕ) (p : ℕ) (bytes : Bytes b) (counts : Counts) (of-counts : CountsAnswered b p counts) where
-  abbrev behind : Answered pivotRule (chainCells b) p (counts-behind b p bytes counts of-counts .before) counts
+  abbrev behind : Answered pivotRule (sectionsOf b) p (counts-behind b p bytes counts of-counts .before) counts
   behind = counts-behind b p bytes counts of-counts .answer
 
   peak-is : counts .peak ≡ behind .counted .state .peak
@@ -550,7 +536,6 @@ module _ (b : List ℕ) (p : ℕ) (bytes : Bytes b) (counts : Counts) (of-counts
   bits-fit = subst (λ (n : ℕ). counts .peak < 2 ^ n) (sym bits-are) (bits-below (counts .peak))
 
   peak-none : (counts .peak ≡ 0) ↔ (count (sectionsOf b) p ≡ 0)
-  unfolding chainCells
   peak-none = (λ e. behind .headroom .none .0 (sym peak-is ∙ e), λ e. peak-is ∙ behind .headroom .none .1 e)
 
   bits-none : (counts .bits ≡ 0) ↔ (count (sectionsOf b) p ≡ 0)
@@ -560,7 +545,7 @@ module _ (b : List ℕ) (p : ℕ) (bytes : Bytes b) (counts : Counts) (of-counts
   )
 
   at-limit : (L : ℕ) → 1 ≤ L → AtEntryLimit b p L counts
-  unfolding chainCells reductionsOf
+  unfolding reductionsOf
   at-limit L one =
       let d = behind .limits L one in
       record {

@@ -5,7 +5,7 @@ use Prim.Native.Nat.{ℕ, zero, suc}
 use native.Mathlib.Omega.{arith}
 use Rattle.reports.specs.Reductions.{Reductions, tooWide, reduced}
 use Rattle.reports.specs.Host.{finishedWith}
-use Rattle.reports.specs.HostCallLaws.{hostCall}
+use Rattle.host_calls.specs.HostCallLaws.{hostCall}
 use Rattle.reduction_steps.specs.State.{State}
 use Rattle.refusal.specs.Number.{numberOf}
 use Rattle.refusal.specs.NumberLaws.{number-positive}

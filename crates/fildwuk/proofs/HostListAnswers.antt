@@ -11,19 +11,22 @@ use lib.IntN.{ℤ}
 use lib.ListN.{length}
 use Rattle.lists.specs.Splice.{splices}
 use Rattle.complexes.specs.Complex.{count}
-use Rattle.sheet_format.specs.Check.{chainCells, first}
+use Rattle.trials.specs.Trial.{first}
+use Rattle.sheet_format.specs.Check.{sectionsOf}
 use Rattle.reduction_steps.specs.State.{State}
 use Rattle.reduction_steps.specs.PivotLaws.{pivotRule-is-rule}
 use Rattle.reports.specs.Report.{coordinateList}
-use Rattle.reports.specs.Call.{callChecks, workSlots}
-use Rattle.reports.specs.Host.{HostCalled, numbersBytes, chainFrom, slotsIn}
-use Rattle.reports.specs.Lists.{chainAt, listSlots, cyclesChecks, chainsChecks, hostCoordinateLists}
-use Rattle.reports.specs.ChainsLaws.{length-chainAt, cycles-zero, chains-sized, fault-small}
-use Rattle.reports.specs.HostChainsLaws.{length-chainFrom, chainFrom-other}
-use Rattle.reports.specs.HostCallLaws.{workRoom, counts-within, same-work}
+use Rattle.requests.specs.Call.{callChecks, workSlots}
+use Rattle.host_calls.specs.Host.{HostCalled, slotsIn}
+use Rattle.host_calls.specs.Bytes.{numbersBytes, chainFrom}
+use Rattle.requests.specs.Chains.{chainAt, cyclesChecks, chainsChecks}
+use Rattle.reports.specs.Lists.{listSlots, hostCoordinateLists}
+use Rattle.requests.specs.ChainsLaws.{length-chainAt, cycles-zero, chains-sized, fault-small}
+use Rattle.host_calls.specs.HostChainsLaws.{length-chainFrom, chainFrom-other}
+use Rattle.host_calls.specs.HostCallLaws.{workRoom, counts-within, same-work}
 use Rattle.reports.specs.Reductions.{tooWide}
 use Rattle.limits.specs.Limits.{hostLimit, coefficientLimit}
-use Rattle.reports.specs.RefusalLaws.{callChecks-zero, call-told, call-passed}
+use Rattle.requests.specs.CheckLaws.{callChecks-zero, call-told, call-passed}
 use Rattle.refusal.specs.Number.{numberOf}
 use Rattle.refusal.specs.NumberLaws.{number-positive}
 use Rattle.refusal.specs.declared.Refusal.{Refusal}
@@ -45,7 +48,7 @@ hostAsked b p output work = record { limit = hostLimit; sheet = b; dimension = p
 module _ (b : List ℕ) (p number : ℕ) (chains output : List ℕ) {work : ℕ} (space : work ≡ workRoom) where
   -- n_p
   abbrev cells : ℕ
-  cells = count (chainCells b) p
+  cells = count (sectionsOf b) p
 
   abbrev coefficients : List ℤ
   coefficients = chainFrom (number * cells) chains
@@ -58,7 +61,7 @@ module _ (b : List ℕ) (p number : ℕ) (chains output : List ℕ) {work : ℕ}
   chainChecked = chainsChecks coefficientLimit b p number coefficients
 
   abbrev before-reductions : ℕ
-  before-reductions = first (callChecked (workSlots (chainCells b) p) ++ chainChecked)
+  before-reductions = first (callChecked (workSlots (sectionsOf b) p) ++ chainChecked)
 
   -- what the coordinates leave
   abbrev left : ℕ → ℕ → State → List ℕ
@@ -72,15 +75,15 @@ module _ (b : List ℕ) (p number : ℕ) (chains output : List ℕ) {work : ℕ}
 
   pub lists-refuse : (x : Refusal) → first (callChecked work) ≡ numberOf x → HostAnswers called (numberOf x) output
   unfolding hostCoordinateLists
-  lists-refuse x e = refuses before-reductions (twice asked) left output x (call-told hostLimit b p (listSlots number) (slotsIn output) (workSlots (chainCells b) p) chainChecked (λ q. absurd (omega (arith, told, number-positive x))) ∙ told)
+  lists-refuse x e = refuses before-reductions (twice asked) left output x (call-told hostLimit b p (listSlots number) (slotsIn output) (workSlots (sectionsOf b) p) chainChecked (λ q. absurd (omega (arith, told, number-positive x))) ∙ told)
     where
-      told : first (callChecked (workSlots (chainCells b) p)) ≡ numberOf x
+      told : first (callChecked (workSlots (sectionsOf b) p)) ≡ numberOf x
       told = sym (same-work b p (listSlots number) (slotsIn output) work space) ∙ e
 
   module _ {n : Sizes} (g : Granted asked (Coordinates number) n) where
     chains-next : before-reductions ≡ first chainChecked
     chains-next =
-        call-passed hostLimit b p (listSlots number) (slotsIn output) (workSlots (chainCells b) p) chainChecked
+        call-passed hostLimit b p (listSlots number) (slotsIn output) (workSlots (sectionsOf b) p) chainChecked
         (sym (same-work b p (listSlots number) (slotsIn output) work space) ∙ callChecks-zero hostLimit b p (listSlots number) (slotsIn output) work .1 (g .passed))
 
     pub length-refuses : length chains ≢ 4 * (number * cells) → HostAnswers called 10 output

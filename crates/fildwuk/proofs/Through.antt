@@ -9,15 +9,18 @@ use lib.Seq.{take-append-le, length-take-le}
 use lib.IntN.{ℤ}
 use Rattle.lists.specs.Splice.{splice}
 use Rattle.complexes.specs.Complex.{count}
-use Rattle.sheet_format.specs.Check.{chainCells, countField}
+use Rattle.sheet_format.specs.Check.{sectionsOf, countField}
 use Rattle.sheet_format.specs.Sheet.{Bytes}
-use Rattle.sheet_format.specs.SheetLaws.{count-chainCells}
+use Rattle.sheet_format.specs.SheetLaws.{count-sectionsOf}
 use Rattle.refusal.specs.declared.Refusal.{Refusal}
 use Rattle.refusal.specs.Number.{numberOf}
-use Rattle.reports.specs.Call.{Called, reportCall}
+use Rattle.trials.specs.Trial.{Called}
+use Rattle.reports.specs.Call.{reportCall}
 use Rattle.limits.specs.Limits.{hostLimit}
-use Rattle.reports.specs.Host.{HostCalled, numbersBytes, slotsIn, hostReport}
-use Rattle.reports.specs.HostCallLaws.{HostRefused, HostDone, reportRoom, workRoom, report-refused, report-done}
+use Rattle.host_calls.specs.Host.{HostCalled, slotsIn}
+use Rattle.host_calls.specs.Bytes.{numbersBytes}
+use Rattle.reports.specs.Host.{hostReport}
+use Rattle.host_calls.specs.HostCallLaws.{HostRefused, HostDone, reportRoom, workRoom, report-refused, report-done}
 use Rattle.answers.specs.HostSizes.{ReportSized, report-sized}
 use Rattle.writers.specs.declared.reduced.Counts.{Counts}
 use Rattle.calls.specs.declared.answer.Answer as library
@@ -116,8 +119,8 @@ module _ (l : Lent reportRoom) {r : library.Answer} {after work′ : List ℤ}
       abbrev numbers-of : ℕ
       numbers-of = 2 + x .torsion + (x .torsion + x .free) * cells
 
-      cells-are : numbers-of ≡ 2 + x .torsion + (x .torsion + x .free) * count (chainCells (l .sheet)) (l .dimension)
-      cells-are = cc (is, count-chainCells (l .sheet) (l .dimension))
+      cells-are : numbers-of ≡ 2 + x .torsion + (x .torsion + x .free) * count (sectionsOf (l .sheet)) (l .dimension)
+      cells-are = cc (is, count-sectionsOf (l .sheet) (l .dimension))
 
       pub report-room : 2 + x .torsion + (x .torsion + x .free) * cells ≤ length (slots l)
       report-room = omega (arith, cells-are, report-sizes .fits)

@@ -2,7 +2,7 @@
 use mathlib.Core.Path.{_≡_}
 use mathlib.Core.List.{List}
 use Prim.Native.Nat.{ℕ}
-use Rattle.reports.specs.Host.{HostCalled}
+use Rattle.host_calls.specs.Host.{HostCalled}
 
 -- the number and the output are those of the definition
 pub record HostAnswers (called : HostCalled) (r : ℕ) (output : List ℕ) : Type 0 where

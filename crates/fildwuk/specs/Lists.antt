@@ -5,8 +5,8 @@ use Prim.Native.Nat.{ℕ, _*_, _≤_, _<_}
 use lib.ListN.{length}
 use lib.IntN.{ℤ}
 use Rattle.limits.specs.Limits.{hostLimit}
-use Rattle.reports.specs.Host.{numbersBytes, chainFrom}
-use Rattle.reports.specs.Lists.{chainAt}
+use Rattle.host_calls.specs.Bytes.{numbersBytes, chainFrom}
+use Rattle.requests.specs.Chains.{chainAt}
 use Rattle.writers.specs.Written.{CanCoordinate, coordinatesOf}
 use Rattle.writers.specs.declared.reduced.Reduced.{Reduced}
 

@@ -7,11 +7,13 @@ ghost use Rattle.limits.specs.Limits.{hostLimit, coefficientLimit};
 ghost use Rattle.lists.specs.Splice.{splices};
 ghost use Rattle.complexes.specs.Complex.{count};
 ghost use Rattle.sheet_format.specs.Layout.{top};
-ghost use Rattle.sheet_format.specs.Check.{chainCells, first};
+ghost use Rattle.trials.specs.Trial.{first};
+ghost use Rattle.sheet_format.specs.Check.{sectionsOf};
 ghost use Rattle.faces.specs.Face.{Accepted};
-ghost use Rattle.reports.specs.Host.{chainFrom};
-ghost use Rattle.reports.specs.HostCallLaws.{workRoom};
-ghost use Rattle.reports.specs.Lists.{cyclesChecks, hostCoordinateLists};
+ghost use Rattle.host_calls.specs.Bytes.{chainFrom};
+ghost use Rattle.host_calls.specs.HostCallLaws.{workRoom};
+ghost use Rattle.requests.specs.Chains.{cyclesChecks};
+ghost use Rattle.reports.specs.Lists.{hostCoordinateLists};
 ghost use Rattle.chains.specs.Check.{checkNumber};
 ghost use Rattle.fildwuk.specs.Answer.{HostAnswers};
 ghost use Rattle.fildwuk.specs.Lists.{CanListBytes, listBytes};
@@ -36,7 +38,7 @@ const CELLS: usize = Sheet::HOST_LIMIT;
 // The first of 11 and 12 that applies to the first faulty of the `number` chains.
 fn check_bytes(s: &[u8], p: usize, cells: usize, number: usize, chains: &[u8]) -> Check
     requires { ⌜ Accepted (now s) ⌝ }
-    requires { ⌜ (p ≤ top) × (cells ≡ count (chainCells (now s)) p) × (cells ≤ hostLimit) × (length (now chains) ≡ 4 * (number * cells)) ⌝ }
+    requires { ⌜ (p ≤ top) × (cells ≡ count (sectionsOf (now s)) p) × (cells ≤ hostLimit) × (length (now chains) ≡ 4 * (number * cells)) ⌝ }
     ensures { λ r. ⌜
         first (cyclesChecks coefficientLimit (now (s .entry)) p number (chainFrom (number * cells) (now (chains .entry)))) ≡
         checkNumber r

@@ -4,7 +4,7 @@ ghost use mathlib.Core.Path.{_≡_};
 ghost use lib.ListN.{length};
 ghost use Rattle.reports.specs.Host.{hostReport, hostCoordinates};
 ghost use Rattle.reports.specs.Lists.{hostCoordinateLists};
-ghost use Rattle.reports.specs.HostCallLaws.{reportRoom, workRoom};
+ghost use Rattle.host_calls.specs.HostCallLaws.{reportRoom, workRoom};
 ghost use Rattle.limits.specs.Limits.{hostLimit};
 ghost use Rattle.imports.specs.Import.{importCall};
 ghost use Rattle.importer.specs.Answer.{ImportTold};

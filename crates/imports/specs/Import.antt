@@ -7,7 +7,8 @@ use lib.ListN.{length, drop}
 use Rattle.lists.specs.Same.{every}
 use Rattle.complexes.specs.Complex.{Sections, count}
 use Rattle.sheet_format.specs.Layout.{top, layout}
-use Rattle.sheet_format.specs.Check.{some, first}
+use Rattle.trials.specs.Trial.{first}
+use Rattle.sheet_format.specs.Check.{some}
 use Rattle.closures.specs.Closure.{cellWith, closure, member, repeats}
 use Rattle.mesh_format.specs.Mesh.{Element, Mesh}
 use Rattle.mesh_format.specs.Parse.{Parsed, malformed, parsed, meshOf}

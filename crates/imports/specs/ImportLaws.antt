@@ -12,7 +12,7 @@ use native.Mathlib.Omega.{arith}
 use lib.ListN.{length, drop}
 use Rattle.complexes.specs.Complex.{Sections}
 use Rattle.sheet_format.specs.Layout.{top, layout}
-use Rattle.sheet_format.specs.Check.{first}
+use Rattle.trials.specs.Trial.{first}
 use Rattle.closures.specs.Closure.{member}
 use Rattle.closures.specs.Form.{IsClosure}
 use Rattle.mesh_format.specs.Mesh.{Mesh}

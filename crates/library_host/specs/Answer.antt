@@ -3,7 +3,7 @@ use mathlib.Core.Path.{_≡_}
 use mathlib.Core.List.{List}
 use Prim.Native.Nat.{ℕ}
 use lib.IntN.{ℤ}
-use Rattle.reports.specs.Call.{Answer, done, refused, Called}
+use Rattle.trials.specs.Trial.{Answer, done, refused, Called}
 
 -- 0 for done, or the number of the refusal
 abbrev pub numberTold : Answer → ℕ

@@ -5,3 +5,4 @@ pub mod Splice
 pub mod SpliceLaws
 pub mod SplicesLaws
 pub mod Same
+pub mod WrittenLaws

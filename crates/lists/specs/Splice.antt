@@ -3,6 +3,10 @@ use mathlib.Core.List.{List, _++_}
 use Prim.Native.Nat.{ℕ, zero, suc, _+_, _*_}
 use lib.ListN.{length, take, drop}
 
+-- l with xs over its first elements, untouched past them
+abbrev pub written : {A : Type 0} → List A → List A → List A
+written xs l = xs ++ drop (length xs) l
+
 -- l with xs over its elements from place `at` on
 unfoldable pub splice {ℓ} : {A : Type ℓ} → ℕ → List A → List A → List A
 splice at xs l = take at l ++ (xs ++ drop (at + length xs) l)

@@ -5,15 +5,16 @@
 --     splices-past       so is one past the last list's places
 --     splices-same       lists that are the same give the same
 --     splices-nothing    empty lists change nothing
+--     splices-single     one list is written from the start on
 use mathlib.Core.Path.{_≡_, refl, _∙_, ap₂}
-use mathlib.Core.List.{List, []}
+use mathlib.Core.List.{List, [], _++_}
 use Prim.Native.Nat.{ℕ, zero, suc, _+_, _*_, _≤_, _<_}
-use native.Mathlib.Nat.{suc-mul, mul-le-mul-right}
+use native.Mathlib.Nat.{suc-mul, mul-le-mul-right, zero-mul}
 use native.Mathlib.Decide.{decLt}
 use native.Mathlib.Omega.{arith}
-use lib.ListN.{length, getD}
+use lib.ListN.{length, getD, drop}
 use Rattle.lists.specs.Splice.{splice, splices}
-use Rattle.lists.specs.SpliceLaws.{splice-nil, length-splice, getD-splice, getD-splice-before, getD-splice-past}
+use Rattle.lists.specs.SpliceLaws.{splice-nil, splice-zero, length-splice, getD-splice, getD-splice-before, getD-splice-past}
 
 module _ {ℓ} {A : Type ℓ} where
   pub splices-same : (apart : ℕ) (xs ys : ℕ → List A) (number : ℕ) (l : List A) → ((i : ℕ) → i < number → xs i ≡ ys i) → splices apart xs number l ≡ splices apart ys number l
@@ -92,3 +93,8 @@ module _ {ℓ} {A : Type ℓ} where
             → getD (splice (m * apart) (xs m) (splices apart xs m l)) (i * apart + j) d ≡ getD l (i * apart + j) d
         go (yes e) earlier = getD-splice-before (m * apart) (xs m) (splices apart xs m l) (inside f) (i * apart + j) d (before m i j e a) ∙ earlier e
         go (no e) earlier = last (omega arith)
+
+-- one list, written from the start on
+pub splices-single : {A : Type 0} (apart : ℕ) (xs : ℕ → List A) (l : List A) → splices apart xs 1 l ≡ xs 0 ++ drop (length (xs 0)) l
+unfolding splices
+splices-single apart xs l = rw (zero-mul apart) (splice-zero (xs 0) l)

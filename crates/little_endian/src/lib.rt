@@ -5,7 +5,7 @@ ghost use Prim.Native.Nat.{_+_, _*_, _≤_, _<_, min};
 ghost use lib.ListN.{length, take, drop};
 ghost use Rattle.lists.specs.Tabulate.{tabulate};
 ghost use Rattle.lists.specs.Splice.{splice};
-ghost use Rattle.reports.specs.Host.{numberBytes, numbersBytes, coefficientAt, coefficientIn};
+ghost use Rattle.host_calls.specs.Bytes.{numberBytes, numbersBytes, coefficientAt, coefficientIn};
 ghost use Rattle.little_endian.specs.Bytes.{SameBits};
 use fields::field::field;
 

@@ -16,38 +16,42 @@ use Rattle.matrices.specs.Operation.{inverse}
 use Rattle.complexes.specs.Cell.{without, same, rises, precedes, listed}
 use Rattle.complexes.specs.Boundary.{sign, coefficient, countBelow, boundary}
 use Rattle.sheet_format.specs.Layout.{start}
-use Rattle.sheet_format.specs.Check.{countField, offsetField, cellOf, cellsOf, sectionsOf, chainCells, some, verticesDoNotRise, cellsDoNotRise, faceMissing, refusal}
+use Rattle.sheet_format.specs.Check.{countField, offsetField, cellOf, cellsOf, sectionsOf, some, verticesDoNotRise, cellsDoNotRise, faceMissing, refusal}
 use Rattle.reduction_steps.specs.Table.{table, rowLargest, tableLargest, tableWithin}
 use Rattle.reduction_steps.specs.State.{largest, within, checked, andThen}
 use Rattle.reduction_steps.specs.Pivot.{better, alongRow, downRows, release1, pivotRule}
 use Rattle.reduction_steps.specs.Step.{columnKeeps, rowKeeps, rowIndivisible, firstIndivisible, quotient, next}
 use Rattle.reports.specs.Reductions.{reduced, firstStart, product, secondStart, afterSecond}
 use Rattle.reports.specs.Report.{Counts, reported, columnsOf, torsionCount, halvings, bitsOf, reportList, coordinateAt, coordinateList}
-use Rattle.reports.specs.Call.{Called, done, coefficientExceeds, boundaryNotZero, callChecks, chainChecks, finished, reductionsOf, reportCall, coordinateCall}
-use Rattle.reports.specs.Text.{digits, decimal, spaced, generatorLines, dimensionText}
+use Rattle.trials.specs.Trial.{Called, done}
+use Rattle.requests.specs.Chains.{coefficientExceeds, boundaryNotZero, chainChecks}
+use Rattle.requests.specs.Call.{callChecks}
+use Rattle.reports.specs.Call.{finished, reportCall, coordinateCall}
+use Rattle.reports.specs.Reductions.{reductionsOf}
+use Rattle.program_text.specs.Text.{digits, decimal, spaced, generatorLines, dimensionText}
 use Rattle.quick_reduction.specs.Lines.{onList, lineLess, onLines, onEntries}
 use Rattle.quick_reduction.specs.Quick.{quickRows, quickColumns, quickRow, quickColumn, quickPositive, quickBring, quickRowPass, quickColumnPass, quickStep, quickRun, quickReduce, quickSecond, quickAfterFirst, quickReductions}
 use Rattle.quick_reduction.specs.QuickLaws.{quick-reductions}
 use Rattle.moore_space.specs.Space.{cells, sheet, left, report, loop, twice, thrice, backwards, text}
 
 -- the cells of the sheet
-pub cells-read : chainCells sheet ≡ cells
-unfolding countField cellOf cellsOf sectionsOf chainCells start tabulate
+pub cells-read : sectionsOf sheet ≡ cells
+unfolding countField cellOf cellsOf sectionsOf start tabulate
 cells-read = refl
 
 -- 17 rows of Q, 17 pivots
-quick : quickReductions pivotRule entryLimit (chainCells sheet) 1 ≡ reduced 17 17 left
+quick : quickReductions pivotRule entryLimit (sectionsOf sheet) 1 ≡ reduced 17 17 left
 unfolding quickReductions quickAfterFirst quickSecond firstStart product secondStart afterSecond countBelow boundary coefficient sign
-    countField cellOf cellsOf sectionsOf chainCells without same start
+    countField cellOf cellsOf sectionsOf without same start
     quickReduce quickRun quickStep next quickBring quickPositive quotient quickRowPass quickColumnPass columnKeeps rowKeeps rowIndivisible firstIndivisible
     release1 downRows alongRow better quickRow quickColumn checked andThen within largest quickRows quickColumns
     onLines onEntries onList lineLess tableWithin tableLargest rowLargest table
     inverse identity null mul sum floor divides tabulate
 quick = refl
 
-pub reductions-space : reductionsOf pivotRule (chainCells sheet) 1 ≡ reduced 17 17 left
+pub reductions-space : reductionsOf pivotRule (sectionsOf sheet) 1 ≡ reduced 17 17 left
 unfolding reductionsOf
-reductions-space = sym (quick-reductions pivotRule entryLimit (chainCells sheet) 1) ∙ quick
+reductions-space = sym (quick-reductions pivotRule entryLimit (sectionsOf sheet) 1) ∙ quick
 
 -- ---- the calls in dimension 1
 
@@ -73,11 +77,11 @@ pub record SpaceCalls : Type 0 where
   pub coordinate-twice : Coordinate twice (negℤ (pos 1))
   pub coordinate-thrice : Coordinate thrice (pos 0)
   pub coordinate-backwards : Coordinate backwards (negℤ (pos 1))
-  pub printed : dimensionText 1 24 (reductionsOf pivotRule (chainCells sheet) 1) ≡ text
+  pub printed : dimensionText 1 24 (reductionsOf pivotRule (sectionsOf sheet) 1) ≡ text
 
 pub space-calls : SpaceCalls
 unfolding reportCall coordinateCall callChecks chainChecks coefficientExceeds boundaryNotZero finished
-    refusal countField offsetField cellOf cellsOf sectionsOf chainCells some verticesDoNotRise cellsDoNotRise faceMissing without same rises precedes listed start
+    refusal countField offsetField cellOf cellsOf sectionsOf some verticesDoNotRise cellsDoNotRise faceMissing without same rises precedes listed start
     countBelow boundary coefficient sign apply sum floor modulo residue tabulate reportList coordinateList coordinateAt torsionCount bitsOf halvings columnsOf reported
     dimensionText generatorLines spaced decimal digits
 space-calls = record {

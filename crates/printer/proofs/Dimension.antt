@@ -8,20 +8,21 @@ use lib.ListN.{length, drop}
 use lib.IntN.{ℤ}
 use Rattle.complexes.specs.Complex.{count}
 use Rattle.sheet_format.specs.Layout.{top}
-use Rattle.sheet_format.specs.Check.{chainCells, countField, refusal}
+use Rattle.sheet_format.specs.Check.{sectionsOf, countField, refusal}
 use Rattle.sheet_format.specs.Sheet.{Bytes}
-use Rattle.sheet_format.specs.SheetLaws.{count-chainCells}
+use Rattle.sheet_format.specs.SheetLaws.{count-sectionsOf}
 use Rattle.reduction_steps.specs.Pivot.{pivotRule}
 use Rattle.refusal.specs.declared.Refusal.{Refusal}
 use Rattle.refusal.specs.Number.{numberOf}
 use Rattle.reports.specs.Report.{kind, reported, torsionCount, reportList}
 use Rattle.reports.specs.ReportLaws.{length-coordinateList}
-use Rattle.reports.specs.Call.{reductionsOf, reportCall}
+use Rattle.reports.specs.Reductions.{reductionsOf}
+use Rattle.reports.specs.Call.{reportCall}
 use Rattle.limits.specs.Limits.{hostLimit}
-use Rattle.reports.specs.CallLaws.{ReducedWith}
-use Rattle.reports.specs.HostCallLaws.{reportRoom, workRoom}
-use Rattle.reports.specs.Text.{refusalLine, dimensionText, reportText}
-use Rattle.reports.specs.TextLaws.{reportText-reportList}
+use Rattle.requests.specs.CallLaws.{ReducedWith}
+use Rattle.host_calls.specs.HostCallLaws.{reportRoom, workRoom}
+use Rattle.program_text.specs.Text.{refusalLine, dimensionText, reportText}
+use Rattle.program_text.specs.TextLaws.{reportText-reportList}
 use Rattle.answers.specs.ReportCall.{report-output}
 use Rattle.answers.specs.HostSizes.{Sized, ReportSized, WentWide, report-sized, accepted-passes, accepted-refused}
 use Rattle.text.specs.Put.{PutsWithin}
@@ -33,7 +34,7 @@ use Rattle.calls.specs.Answer.{countsIn, CallAnswers}
 
 -- the text of dimension p of the sheet b
 abbrev pub textOf : List ℕ → ℕ → List ℕ
-textOf b p = dimensionText p (count (chainCells b) p) (reductionsOf pivotRule (chainCells b) p)
+textOf b p = dimensionText p (count (sectionsOf b) p) (reductionsOf pivotRule (sectionsOf b) p)
 
 -- what `put_report` asks for
 pub record ReportRoom (cells t f : ℕ) (report : List ℤ) : Type 0 where
@@ -54,7 +55,7 @@ module _ (limit : ℕ) (host : limit ≡ hostLimit) (b : List ℕ) (accepted : r
       w = accepted-refused b accepted p dimension report work size space (numberOf x) (rw host at (sym (a .answer)))
 
       same : refusalLine (numberOf x) ≡ textOf b p
-      same = ap refusalLine (w .number-is) ∙ ap (dimensionText p (count (chainCells b) p)) (sym (w .is-wide))
+      same = ap refusalLine (w .number-is) ∙ ap (dimensionText p (count (sectionsOf b) p)) (sym (w .is-wide))
 
   module _ (bytes : Bytes b) (x : Counts) (after work′ : List ℤ) (a : CallAnswers (reportCall limit b p report work) (Done x) after work′) where
     sizes : ReportSized b p report (countsIn x)
@@ -65,7 +66,7 @@ module _ (limit : ℕ) (host : limit ≡ hostLimit) (b : List ℕ) (accepted : r
 
     pub done-room : (cells : ℕ) → cells ≡ countField b p → ReportRoom cells (x .torsion) (x .free) report
     done-room cells is =
-        rw (is ∙ sym (count-chainCells b p)) (record {
+        rw (is ∙ sym (count-sectionsOf b p)) (record {
           cells-within = sizes .is-sized .cells-within;
           torsion-within = omega (arith, sizes .is-sized .total-within);
           generators-within = sizes .is-sized .total-within;
@@ -79,11 +80,11 @@ module _ (limit : ℕ) (host : limit ≡ hostLimit) (b : List ℕ) (accepted : r
         s : Sized b p (countsIn x)
         s = sizes .is-sized
 
-        c : ReducedWith (reductionsOf pivotRule (chainCells b) p) (countsIn x)
+        c : ReducedWith (reductionsOf pivotRule (sectionsOf b) p) (countsIn x)
         c = s .counted
 
         n : ℕ
-        n = count (chainCells b) p
+        n = count (sectionsOf b) p
 
         rest : List ℤ
         rest = drop (length (reportList n (c .rows) (c .rank) (c .state))) report
@@ -98,7 +99,7 @@ module _ (limit : ℕ) (host : limit ≡ hostLimit) (b : List ℕ) (accepted : r
         total = sym (s .coordinates-size report) ∙ length-coordinateList n (c .rows) (c .state) report
 
         cells-are : cells ≡ n
-        cells-are = is ∙ sym (count-chainCells b p)
+        cells-are = is ∙ sym (count-sectionsOf b p)
 
         same : reportText p cells (x .torsion) (x .torsion + x .free) after ≡ textOf b p
         same =

@@ -8,8 +8,8 @@ use native.Mathlib.Omega.{arith}
 use lib.ListN.{length}
 use lib.IntN.{ℤ}
 use Rattle.sheet_format.specs.Layout.{top}
-use Rattle.reports.specs.HostCallLaws.{reportRoom, workRoom}
-use Rattle.reports.specs.Text.{dimensionsText}
+use Rattle.host_calls.specs.HostCallLaws.{reportRoom, workRoom}
+use Rattle.program_text.specs.Text.{dimensionsText}
 use Rattle.text.specs.Put.{PutsWithin}
 use Rattle.text.specs.Room.{dimensionRoom, textRoom}
 use Rattle.text.specs.PutLaws.{within-nothing, within-append, within-more, within-next}

@@ -9,7 +9,7 @@ use Rattle.refusal.specs.declared.Refusal.{Refusal}
 use Rattle.refusal.specs.Number.{numberOf}
 use Rattle.refusal.specs.NumberLaws.{number-positive}
 use Rattle.limits.specs.Limits.{hostLimit}
-use Rattle.reports.specs.Text.{refusalLine, dimensionsText, textFor, programText}
+use Rattle.program_text.specs.Text.{refusalLine, dimensionsText, textFor, programText}
 use Rattle.text.specs.Put.{PutsWithin}
 use Rattle.text.specs.Room.{lineRoom, textRoom}
 use Rattle.text.specs.PutLaws.{within-more}

@@ -7,12 +7,12 @@ ghost use Prim.Native.Nat.{ℕ, suc, _+_, _≤_};
 ghost use lib.ListN.{length, take};
 ghost use Rattle.complexes.specs.Complex.{count};
 ghost use Rattle.sheet_format.specs.Layout.{top};
-ghost use Rattle.sheet_format.specs.Check.{refusal, chainCells};
+ghost use Rattle.sheet_format.specs.Check.{refusal, sectionsOf};
 ghost use Rattle.reduction_steps.specs.Pivot.{pivotRule};
-ghost use Rattle.reports.specs.Text.{dimensionText, dimensionsText, programText};
-ghost use Rattle.reports.specs.Call.{reductionsOf};
+ghost use Rattle.program_text.specs.Text.{dimensionText, dimensionsText, programText};
+ghost use Rattle.reports.specs.Reductions.{reductionsOf};
 ghost use Rattle.limits.specs.Limits.{hostLimit};
-ghost use Rattle.reports.specs.HostCallLaws.{reportRoom, workRoom};
+ghost use Rattle.host_calls.specs.HostCallLaws.{reportRoom, workRoom};
 ghost use Rattle.text.specs.Put.{PutsWithin};
 ghost use Rattle.text.specs.Room.{dimensionRoom, textRoom};
 use crate::room::INPUT_ROOM;
@@ -41,7 +41,7 @@ fn put_dimension(
     requires { ⌜ (length (now report) ≡ reportRoom) × (length (now work) ≡ workRoom) ⌝ }
     ensures { λ r. ⌜
         PutsWithin dimensionRoom
-        (dimensionText p (count (chainCells (now (s .entry))) p) (reductionsOf pivotRule (chainCells (now (s .entry))) p)) at
+        (dimensionText p (count (sectionsOf (now (s .entry))) p) (reductionsOf pivotRule (sectionsOf (now (s .entry))) p)) at
         (now (out .entry)) r (now (out .exit))
         ⌝ }
 {

@@ -15,22 +15,26 @@ use Rattle.matrices.specs.Operation.{onRows, onColumns, inverse}
 use Rattle.complexes.specs.Cell.{without, same, rises, precedes, listed}
 use Rattle.complexes.specs.Boundary.{sign, coefficient, countBelow, boundary}
 use Rattle.sheet_format.specs.Layout.{start}
-use Rattle.sheet_format.specs.Check.{countField, offsetField, cellOf, cellsOf, sectionsOf, chainCells, some, verticesDoNotRise, cellsDoNotRise, faceMissing, refusal}
+use Rattle.sheet_format.specs.Check.{countField, offsetField, cellOf, cellsOf, sectionsOf, some, verticesDoNotRise, cellsDoNotRise, faceMissing, refusal}
 use Rattle.reduction_steps.specs.Table.{table, rowLargest, tableLargest, tableWithin}
 use Rattle.reduction_steps.specs.State.{largest, follow, rowOperation, columnOperation, within, checked, andThen, onRow, onColumn}
 use Rattle.reduction_steps.specs.Pivot.{better, alongRow, downRows, release1, pivotRule}
 use Rattle.reduction_steps.specs.Step.{columnKeeps, rowKeeps, rowIndivisible, firstIndivisible, positive, bring, quotient, rowPass, columnPass, next, step, run, reduce}
 use Rattle.reports.specs.Reductions.{tooWide, reduced, firstStart, product, secondStart, afterSecond, second, afterFirst, reductions}
 use Rattle.reports.specs.Report.{Counts, reported, columnsOf, torsionCount, halvings, bitsOf, reportList, coordinateAt, coordinateList}
-use Rattle.reports.specs.Call.{Called, done, coefficientExceeds, boundaryNotZero, callChecks, chainChecks, finished, reductionsOf, reportCall, coordinateCall}
-use Rattle.reports.specs.Text.{digits, decimal, spaced, generatorLines, dimensionText}
+use Rattle.trials.specs.Trial.{Called, done}
+use Rattle.requests.specs.Chains.{coefficientExceeds, boundaryNotZero, chainChecks}
+use Rattle.requests.specs.Call.{callChecks}
+use Rattle.reports.specs.Call.{finished, reportCall, coordinateCall}
+use Rattle.reports.specs.Reductions.{reductionsOf}
+use Rattle.program_text.specs.Text.{digits, decimal, spaced, generatorLines, dimensionText}
 use Rattle.reports.specs.WideEnd.{inFirst, inSecond, endOfSecond, endOfProduct, endOfFirst, end, endsWide, end-wide}
 use Rattle.projective_plane.specs.Plane.{cells, sheet, left, report, loop, twice, backwards, text}
 
 -- ten rows of Q, ten pivots
-pub reductions-plane : reductionsOf pivotRule (chainCells sheet) 1 ≡ reduced 10 10 left
+pub reductions-plane : reductionsOf pivotRule (sectionsOf sheet) 1 ≡ reduced 10 10 left
 unfolding reductionsOf reductions firstStart afterFirst second product secondStart afterSecond countBelow boundary coefficient sign
-    countField cellOf cellsOf sectionsOf chainCells without same start
+    countField cellOf cellsOf sectionsOf without same start
     reduce run step next bring positive quotient rowPass columnPass columnKeeps rowKeeps rowIndivisible firstIndivisible
     release1 downRows alongRow better onRow onColumn checked andThen within largest rowOperation columnOperation follow tableWithin tableLargest rowLargest table
     onRows onColumns inverse identity null mul sum floor divides tabulate
@@ -55,11 +59,11 @@ pub record PlaneCalls : Type 0 where
   pub coordinate-loop : coordinateCall 256 sheet 1 loop (nines 15) (nines 600) ≡ gives (pos 1 ∷ []) (nines 14)
   pub coordinate-twice : coordinateCall 256 sheet 1 twice (nines 15) (nines 600) ≡ gives (pos 0 ∷ []) (nines 14)
   pub coordinate-backwards : coordinateCall 256 sheet 1 backwards (nines 15) (nines 600) ≡ gives (pos 1 ∷ []) (nines 14)
-  pub printed : dimensionText 1 15 (reductionsOf pivotRule (chainCells sheet) 1) ≡ text
+  pub printed : dimensionText 1 15 (reductionsOf pivotRule (sectionsOf sheet) 1) ≡ text
 
 pub plane-calls : PlaneCalls
 unfolding reportCall coordinateCall callChecks chainChecks coefficientExceeds boundaryNotZero finished
-    refusal countField offsetField cellOf cellsOf sectionsOf chainCells some verticesDoNotRise cellsDoNotRise faceMissing without same rises precedes listed start
+    refusal countField offsetField cellOf cellsOf sectionsOf some verticesDoNotRise cellsDoNotRise faceMissing without same rises precedes listed start
     countBelow boundary coefficient sign apply sum floor modulo residue tabulate reportList coordinateList coordinateAt torsionCount bitsOf halvings columnsOf reported
     dimensionText generatorLines spaced decimal digits
 plane-calls = record {

@@ -2,6 +2,7 @@
 use mathlib.Core.Bool.{true, false}
 use Prim.Native.Nat.{ℕ, suc, _-_}
 use lib.ListN.{drop}
+use Rattle.limits.specs.Limits.{entryLimit}
 use Rattle.matrices.specs.Matrix.{mul, identity, null}
 use Rattle.complexes.specs.Complex.{Sections, count}
 use Rattle.complexes.specs.Boundary.{countBelow, boundary}
@@ -95,3 +96,7 @@ module _ (rule : Rule) (limit : ℕ) (K : Sections) (p : ℕ) where
   -- the two reductions of dimension p
   unfoldable pub reductions : Reductions
   reductions = afterFirst (reduce limit (firstSizes K p) rule (firstStart K p))
+
+-- with document 01's entry limit
+abbrev pub reductionsOf : Rule → Sections → ℕ → Reductions
+reductionsOf rule K p = reductions rule entryLimit K p

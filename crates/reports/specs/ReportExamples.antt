@@ -1,5 +1,5 @@
--- What is made of two reductions with orders: the counts, the report, the coordinates, the text. The kinds are 1, 2, 6 and free.
---     report-examples    the numbers and the bytes, in document 01's order
+-- What is made of two reductions with orders: the counts, the report, the coordinates. The kinds are 1, 2, 6 and free.
+--     report-examples    the numbers, in document 01's order
 use mathlib.Core.List.{[], _∷_, map}
 use mathlib.Core.Path.{_≡_, refl}
 use Prim.Native.Nat.{ℕ}
@@ -9,9 +9,7 @@ use Rattle.lists.specs.Tabulate.{tabulate}
 use Rattle.matrices.specs.Sum.{sum}
 use Rattle.matrices.specs.Vector.{apply}
 use Rattle.reduction_steps.specs.State.{State}
-use Rattle.reports.specs.Reductions.{tooWide, reduced}
 use Rattle.reports.specs.Report.{reported, columnsOf, torsionCount, halvings, bitsOf, countsOf, reportList, coordinateAt, coordinateList}
-use Rattle.reports.specs.Text.{digits, decimal, spaced, generatorLines, dimensionText}
 
 abbrev minus : ℕ → ℤ
 minus n = negℤ (pos n)
@@ -63,17 +61,8 @@ pub record ReportExamples : Type 0 where
   -- half the order is kept, and minus half is raised to it
   pub halves : (coordinateList 4 4 left (pos 0 ∷ pos 1 ∷ pos 3 ∷ pos 0 ∷ []) ≡ pos 1 ∷ pos 3 ∷ pos 0 ∷ [])
       × (coordinateList 4 4 left (pos 0 ∷ minus 1 ∷ minus 3 ∷ pos 0 ∷ []) ≡ pos 1 ∷ pos 3 ∷ pos 0 ∷ [])
-  -- H 1 1 2 2 6, G -12 1 0 0, G 0 0 1 0 and G 0 0 0 1
-  pub text : dimensionText 1 4 (reduced 4 3 left)
-      ≡ 72 ∷ 32 ∷ 49 ∷ 32 ∷ 49 ∷ 32 ∷ 50 ∷ 32 ∷ 50 ∷ 32 ∷ 54 ∷ 10
-      ∷ 71 ∷ 32 ∷ 45 ∷ 49 ∷ 50 ∷ 32 ∷ 49 ∷ 32 ∷ 48 ∷ 32 ∷ 48 ∷ 10
-      ∷ 71 ∷ 32 ∷ 48 ∷ 32 ∷ 48 ∷ 32 ∷ 49 ∷ 32 ∷ 48 ∷ 10
-      ∷ 71 ∷ 32 ∷ 48 ∷ 32 ∷ 48 ∷ 32 ∷ 48 ∷ 32 ∷ 49 ∷ 10
-      ∷ []
-  -- R 13
-  pub wide : dimensionText 1 4 tooWide ≡ 82 ∷ 32 ∷ 49 ∷ 51 ∷ 10 ∷ []
 
 pub report-examples : ReportExamples
-unfolding reportList coordinateList coordinateAt torsionCount bitsOf halvings columnsOf reported dimensionText generatorLines spaced decimal digits
+unfolding reportList coordinateList coordinateAt torsionCount bitsOf halvings columnsOf reported
     apply sum floor modulo residue tabulate
-report-examples = record { bits = refl; counts = refl; report = refl; coordinates = refl; multiples = refl; halves = (refl, refl); text = refl; wide = refl }
+report-examples = record { bits = refl; counts = refl; report = refl; coordinates = refl; multiples = refl; halves = (refl, refl) }

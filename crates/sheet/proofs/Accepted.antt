@@ -8,7 +8,8 @@ use mathlib.Core.List.{List, [], _∷_}
 use Prim.Native.Nat.{ℕ, _≤_}
 use native.Mathlib.Omega.{arith}
 use Rattle.limits.specs.Limits.{libraryLimit}
-use Rattle.sheet_format.specs.Check.{first, sheetChecks, refusal}
+use Rattle.trials.specs.Trial.{first}
+use Rattle.sheet_format.specs.Check.{sheetChecks, refusal}
 use Rattle.sheet_format.specs.Sheet.{Bytes, IsSheet}
 use Rattle.sheet_format.specs.Accept.{accepted-iff}
 use Rattle.refusal.specs.Number.{numberOf}

@@ -16,7 +16,7 @@ use Rattle.complexes.specs.Cell.{Cell}
 use Rattle.complexes.specs.Complex.{Sections, section, count, cell, Complex}
 use Rattle.complexes.specs.ChainComplex.{ChainComplex, complex-chains}
 use Rattle.sheet_format.specs.Layout.{top, start, layout}
-use Rattle.sheet_format.specs.Check.{fieldAt, countField, startAt, cellOf, sectionsOf, chainCells, refusal}
+use Rattle.sheet_format.specs.Check.{fieldAt, countField, startAt, cellOf, sectionsOf, refusal}
 use Rattle.sheet_format.specs.Sheet.{Bytes, IsSheet}
 use Rattle.sheet_format.specs.CheckLaws.{
   Passes,
@@ -60,8 +60,7 @@ accepted-complex limit b h e = record {
     at : (p i : ℕ) → i < count (sectionsOf b) p → cell (sectionsOf b) p i ≡ cellOf b (suc p) (startAt b p + 2 * (suc p * i))
     at p i l = cell-sectionsOf b p i (below p i l) (rw (count-sectionsOf b p) at l)
 
-pub accepted-chains : (limit : ℕ) (b : List ℕ) → Bytes b → refusal limit b ≡ 0 → ChainComplex limit (chainCells b)
-unfolding chainCells
+pub accepted-chains : (limit : ℕ) (b : List ℕ) → Bytes b → refusal limit b ≡ 0 → ChainComplex limit (sectionsOf b)
 accepted-chains limit b h e = complex-chains (accepted-complex limit b h e)
 
 -- ---- the bytes of a complex give the complex back

@@ -7,6 +7,7 @@ use lib.ListN.{length, getD}
 use Rattle.lists.specs.Tabulate.{tabulate}
 use Rattle.complexes.specs.Cell.{Cell, without, rises, precedes, listed}
 use Rattle.complexes.specs.Complex.{Sections, section, count, cell}
+use Rattle.trials.specs.Trial.{first}
 use Rattle.sheet_format.specs.Layout.{top, headerLength, start}
 
 -- ---- what the bytes b hold
@@ -38,10 +39,6 @@ cellsOf b n many at = tabulate many (λ i. cellOf b n (at + 2 * (n * i)))
 -- all the cells of the sheet
 unfoldable pub sectionsOf : List ℕ → Sections
 sectionsOf b = tabulate (suc top) (λ p. cellsOf b (suc p) (countField b p) (startAt b p))
-
--- the cells that chains, matrices and counts use from check 9 on: all of them
-unfoldable pub chainCells : List ℕ → Sections
-chainCells b = sectionsOf b
 
 -- ---- the checks
 
@@ -80,11 +77,6 @@ faceMissing K =
     some top (λ p. some (count K (suc p)) (λ i. some (suc (suc p)) (λ j. not (listed (without j (cell K (suc p) i)) (section K p)))))
 
 -- ---- the order of trial
-
--- the number of the first check that tells a fault, 0 for none; a check is a number and whether it tells one
-abbrev pub first : List (ℕ × Bool) → ℕ
-first [] = 0
-first (check ∷ later) = cond (check .1) (check .0) (first later)
 
 -- the checks of the sheet b at the count limit
 abbrev pub sheetChecks : ℕ → List ℕ → List (ℕ × Bool)

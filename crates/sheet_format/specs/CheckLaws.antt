@@ -18,7 +18,7 @@ use Rattle.complexes.specs.Complex.{Sections, section, count, cell}
 use Rattle.complexes.specs.CellLaws.{listed-true, Listed-listed}
 use Rattle.sheet_format.specs.Layout.{top, headerLength}
 use Rattle.sheet_format.specs.Check.{countField, offsetField, startAt, sectionsOf, some, sheetChecks, refusal, tooShort, countExceeds, offsetDiffers, lengthDiffers, verticesDoNotRise, cellsDoNotRise, faceMissing}
-use Rattle.sheet_format.specs.FirstLaws.{first-zero}
+use Rattle.trials.specs.FirstLaws.{first-zero}
 
 -- ---- some
 

@@ -2,7 +2,6 @@
 pub mod Layout
 pub mod Check
 pub mod Sheet
-pub mod FirstLaws
 pub mod CheckLaws
 pub mod SheetLaws
 pub mod Pieces

@@ -14,7 +14,8 @@ use lib.ListN.{length, take, drop}
 use lib.Seq.{length-take-le, take-all, getD-take}
 use borrow.Author.Tests.{le-ltb, ne-eqb}
 use Rattle.sheet_format.specs.Layout.{top, headerLength, longest}
-use Rattle.sheet_format.specs.Check.{fieldAt, countField, offsetField, startAt, countExceeds, offsetDiffers, lengthDiffers, first, sheetChecks, refusal}
+use Rattle.trials.specs.Trial.{first}
+use Rattle.sheet_format.specs.Check.{fieldAt, countField, offsetField, startAt, countExceeds, offsetDiffers, lengthDiffers, sheetChecks, refusal}
 use Rattle.sheet_format.specs.CheckLaws.{some-ext, countExceeds-false, lengthDiffers-false, refusal-zero}
 use Rattle.sheet_format.specs.SheetLaws.{countField-in, countField-out, start-ext, start-le}
 

@@ -14,7 +14,7 @@ use borrow.Author.Tests.{le-leb, lt-leb}
 use Rattle.complexes.specs.Cell.{Cell}
 use Rattle.complexes.specs.Complex.{Sections, section, count, cell}
 use Rattle.sheet_format.specs.Layout.{top, headerLength, start, vertexNumbers}
-use Rattle.sheet_format.specs.Check.{fieldAt, countField, startAt, cellOf, cellsOf, sectionsOf, chainCells}
+use Rattle.sheet_format.specs.Check.{fieldAt, countField, startAt, cellOf, cellsOf, sectionsOf}
 use Rattle.sheet_format.specs.Sheet.{Bytes}
 use Rattle.lists.specs.TabulateLaws.{length-tabulate, getD-tabulate}
 
@@ -83,11 +83,6 @@ count-sectionsOf b p = pick (decLe p top)
     pick (yes h) = ap length (section-sectionsOf b p h) ∙ length-cellsOf b (suc p) (countField b p) (startAt b p)
     pick (no h) =
         count-beyond (sectionsOf b) p (omega (arith, length-sectionsOf b)) ∙ sym (countField-out b p (omega arith))
-
--- n_p, as chains, matrices and counts use it, is the count of the header
-pub count-chainCells : (b : List ℕ) (p : ℕ) → count (chainCells b) p ≡ countField b p
-unfolding chainCells
-count-chainCells b p = count-sectionsOf b p
 
 -- a dimension with cells is one of the sheet's
 pub countField-below : (b : List ℕ) (p i : ℕ) → i < countField b p → p ≤ top

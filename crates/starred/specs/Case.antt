@@ -7,7 +7,8 @@ use lib.Dec.{T}
 use lib.IntN.{ℤ, pos, negℤ}
 use lib.ListN.{replicate}
 use Rattle.reports.specs.Report.{Counts}
-use Rattle.reports.specs.Call.{Called, refused, reportCall, coordinateCall}
+use Rattle.trials.specs.Trial.{Called, refused}
+use Rattle.reports.specs.Call.{reportCall, coordinateCall}
 use Rattle.reports.specs.Lists.{coordinateListsCall}
 use Rattle.limits.specs.Limits.{libraryLimit}
 use Rattle.starred.specs.Same.{sameCalled, sameCalled-eq}

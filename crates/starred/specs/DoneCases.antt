@@ -3,7 +3,7 @@ use mathlib.Core.List.{List, [], _∷_}
 use Prim.Native.Nat.{ℕ}
 use lib.IntN.{pos}
 use Rattle.sheet_format.specs.Starred.{noCells, oneVertex, edgeSheet, hollowTriangle, filledTriangle}
-use Rattle.reports.specs.Call.{done}
+use Rattle.trials.specs.Trial.{done}
 use Rattle.starred.specs.Case.{Case, report, coordinatesOf, counts, minus, nines, zeros}
 
 -- ---- no cells: b = 0, t = 0 and no entries in every dimension

@@ -2,7 +2,7 @@
 use mathlib.Core.List.{List, [], _∷_, _++_}
 use lib.IntN.{ℤ, pos}
 use Rattle.sheet_format.specs.Starred.{edgeSheet, hollowTriangle, filledTriangle, edgeWithoutVertex}
-use Rattle.reports.specs.Call.{done}
+use Rattle.trials.specs.Trial.{done}
 use Rattle.starred.specs.Case.{Case, listsOf, counts, minus, nines, zeros, refuses}
 
 -- chains of the hollow triangle's edges: two cycles, one with a nonzero boundary, one with a coefficient beyond the limit

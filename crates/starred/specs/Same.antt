@@ -6,7 +6,7 @@ use lib.Dec.{T, eqb, eqb→eq}
 use lib.IntN.{ℤ}
 use Rattle.lists.specs.Same.{sameNumber, sameList, both, sameNumber-eq, sameList-eq}
 use Rattle.reports.specs.Report.{Counts}
-use Rattle.reports.specs.Call.{Answer, done, refused, Called}
+use Rattle.trials.specs.Trial.{Answer, done, refused, Called}
 
 -- ---- the tests
 

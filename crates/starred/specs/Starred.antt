@@ -16,7 +16,7 @@ use Rattle.complexes.specs.Boundary.{sign, coefficient, countBelow, boundary}
 use Rattle.sheet_format.specs.Layout.{start}
 use Rattle.limits.specs.Limits.{libraryLimit}
 use Rattle.sheet_format.specs.Starred.{hollowTriangle}
-use Rattle.sheet_format.specs.Check.{countField, offsetField, cellOf, cellsOf, sectionsOf, chainCells, some, verticesDoNotRise, cellsDoNotRise, faceMissing, refusal}
+use Rattle.sheet_format.specs.Check.{countField, offsetField, cellOf, cellsOf, sectionsOf, some, verticesDoNotRise, cellsDoNotRise, faceMissing, refusal}
 use Rattle.lists.specs.Same.{every, sameNumber, sameList}
 use Rattle.reduction_steps.specs.Table.{table, rowLargest, tableLargest, tableWithin}
 use Rattle.reduction_steps.specs.State.{largest, follow, rowOperation, columnOperation, within, checked, andThen, onRow, onColumn}
@@ -24,9 +24,14 @@ use Rattle.reduction_steps.specs.Pivot.{better, alongRow, downRows, release1}
 use Rattle.reduction_steps.specs.Step.{columnKeeps, rowKeeps, rowIndivisible, firstIndivisible, positive, bring, quotient, rowPass, columnPass, next, step, run, reduce}
 use Rattle.reports.specs.Reductions.{firstStart, product, secondStart, afterSecond, second, afterFirst, reductions}
 use Rattle.reports.specs.Report.{reported, columnsOf, torsionCount, halvings, bitsOf, reportList, coordinateAt, coordinateList}
-use Rattle.reports.specs.Call.{done, coefficientExceeds, boundaryNotZero, callChecks, chainChecks, finished, reductionsOf, reportCall, coordinateCall}
-use Rattle.reports.specs.Lists.{cyclesChecks, chainsChecks, coordinateListsCall}
-use Rattle.reports.specs.ListsLaws.{no-cells}
+use Rattle.trials.specs.Trial.{done}
+use Rattle.requests.specs.Chains.{coefficientExceeds, boundaryNotZero, chainChecks}
+use Rattle.requests.specs.Call.{callChecks}
+use Rattle.reports.specs.Call.{finished, reportCall, coordinateCall}
+use Rattle.reports.specs.Reductions.{reductionsOf}
+use Rattle.requests.specs.Chains.{cyclesChecks, chainsChecks}
+use Rattle.reports.specs.Lists.{coordinateListsCall}
+use Rattle.requests.specs.ListsLaws.{no-cells}
 use Rattle.starred.specs.Same.{sameSlice, sameCounts, sameAnswer, sameCalled}
 use Rattle.starred.specs.Case.{Case, answered, good, counts, nines, zeros}
 use Rattle.starred.specs.DoneCases.{noCellsCases, reportCases, coordinateCases}
@@ -40,7 +45,7 @@ cases = noCellsCases ++ (reportCases ++ (coordinateCases ++ (sheetCases ++ (dime
 pub starred-sheets-and-calls : T (every good cases)
 unfolding every good sameCalled sameAnswer sameCounts sameSlice sameList sameNumber
     answered reportCall coordinateCall callChecks chainChecks coefficientExceeds boundaryNotZero reductionsOf finished
-    refusal countField offsetField cellOf cellsOf sectionsOf chainCells some verticesDoNotRise cellsDoNotRise faceMissing without same rises precedes listed start
+    refusal countField offsetField cellOf cellsOf sectionsOf some verticesDoNotRise cellsDoNotRise faceMissing without same rises precedes listed start
     reductions firstStart afterFirst second product secondStart afterSecond countBelow boundary coefficient sign
     reduce run step next bring positive quotient rowPass columnPass columnKeeps rowKeeps rowIndivisible firstIndivisible
     release1 downRows alongRow better onRow onColumn checked andThen within largest rowOperation columnOperation follow tableWithin tableLargest rowLargest table
@@ -52,7 +57,7 @@ starred-sheets-and-calls = tt
 pub largest-number : coordinateListsCall libraryLimit hollowTriangle 2 18446744073709551615 [] (nines 2) (nines 3)
     ≡ record { answer = done (counts 0 0 0 0); output = nines 2; work = zeros 3 }
 unfolding coordinateListsCall callChecks chainsChecks cyclesChecks splices reductionsOf finished
-    refusal countField offsetField cellOf cellsOf sectionsOf chainCells some verticesDoNotRise cellsDoNotRise faceMissing without same rises precedes listed start
+    refusal countField offsetField cellOf cellsOf sectionsOf some verticesDoNotRise cellsDoNotRise faceMissing without same rises precedes listed start
     reductions firstStart afterFirst second product secondStart afterSecond countBelow boundary coefficient sign
     reduce run step next columnKeeps rowKeeps rowIndivisible firstIndivisible
     release1 downRows alongRow better within largest tableWithin tableLargest rowLargest table identity mul sum tabulate torsionCount bitsOf halvings reported

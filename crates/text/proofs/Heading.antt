@@ -7,7 +7,7 @@ use native.Mathlib.Omega.{arith}
 use lib.ListN.{length, take}
 use lib.IntN.{ℤ, pos}
 use Rattle.limits.specs.Limits.{hostLimit}
-use Rattle.reports.specs.Text.{decimal, spaced, line}
+use Rattle.program_text.specs.Text.{decimal, spaced, line}
 use Rattle.text.specs.Put.{Puts, PutsWithin}
 use Rattle.text.specs.Room.{numberRoom, fieldRoom, headingRoom}
 use Rattle.text.specs.PutLaws.{within-length, within-append, within-more, within-next}

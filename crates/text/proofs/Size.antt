@@ -13,7 +13,7 @@ use mir.Val.{Fits, SFits}
 use mir.Facts.{toZ-ofZ}
 use Rattle.words.specs.Read.{read}
 use Rattle.words.specs.Negate.{raised, mirrored, raised-fits, mirrored-fits, mirrored-read}
-use Rattle.reports.specs.Text.{digits, decimal}
+use Rattle.program_text.specs.Text.{digits, decimal}
 
 abbrev pub size : ℤ → ℕ
 size x = natAbs (read w64 (mirrored x)) + 1

@@ -2,7 +2,7 @@
 ghost use mathlib.Core.List.{[], _∷_};
 ghost use Prim.Native.Nat.{suc, _+_, _≤_};
 ghost use lib.ListN.{length};
-ghost use Rattle.reports.specs.Text.{digits, decimal};
+ghost use Rattle.program_text.specs.Text.{digits, decimal};
 ghost use Rattle.text.specs.Put.{Puts, PutsWithin};
 ghost use Rattle.text.specs.Room.{numberRoom};
 

@@ -4,7 +4,7 @@ ghost use mathlib.Core.List.{_∷_};
 ghost use lib.ListN.{length, take, drop};
 ghost use lib.IntN.{pos};
 ghost use Rattle.refusal.specs.Number.{numberOf};
-ghost use Rattle.reports.specs.Text.{spaced, line, refusalLine, reportText};
+ghost use Rattle.program_text.specs.Text.{spaced, line, refusalLine, reportText};
 ghost use Rattle.limits.specs.Limits.{hostLimit};
 ghost use Rattle.sheet_format.specs.Layout.{top};
 ghost use Rattle.text.specs.Put.{PutsWithin};

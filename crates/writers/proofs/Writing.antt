@@ -13,7 +13,7 @@ use Rattle.lists.specs.Splice.{splice}
 use Rattle.lists.specs.SpliceLaws.{splice-nil, splice-zero, splice-set, splice-splice, length-splice}
 use Rattle.reports.specs.Report.{reported}
 use Rattle.reports.specs.ReportLaws.{length-reported-le}
-use Rattle.reports.specs.Call.{written}
+use Rattle.lists.specs.Splice.{written}
 use Rattle.writers.specs.Written.{WrittenFrom}
 use Rattle.writers.proofs.Rows.{reported-one, reported-other, blocks, blocks-snoc, length-blocks}
 

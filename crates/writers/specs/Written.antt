@@ -11,8 +11,8 @@ use Rattle.reduction_steps.specs.Table.{entry}
 use Rattle.reduction_steps.specs.State.{State}
 use Rattle.reports.specs.Report as report
 use Rattle.reports.specs.Report.{countsOf, reportList, coordinateList}
-use Rattle.reports.specs.Call.{written}
-use Rattle.reports.specs.Lists.{chainAt}
+use Rattle.lists.specs.Splice.{written}
+use Rattle.requests.specs.Chains.{chainAt}
 use Rattle.limits.specs.Limits.{libraryLimit, coefficientLimit}
 use Rattle.lines.specs.Slice.{at, Small}
 use Rattle.lines.specs.Matrices.{contents}

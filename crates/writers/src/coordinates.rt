@@ -5,7 +5,7 @@ ghost use lib.ListN.{length};
 ghost use lib.IntN.{pos, natAbs};
 ghost use lib.Signed.{_≤ℤ_, _<ℤ_};
 ghost use Rattle.lists.specs.Splice.{splices};
-ghost use Rattle.reports.specs.Lists.{chainAt};
+ghost use Rattle.requests.specs.Chains.{chainAt};
 ghost use Rattle.integers.specs.Division.{modulo, residue};
 ghost use Rattle.matrices.specs.Vector.{apply};
 ghost use Rattle.reduction_steps.specs.Table.{entry};

@@ -1,7 +1,7 @@
 -- `fildwuk::fildwuk_coordinates` meets its contract: the call on one chain is the single call. Assumes nothing.
 use borrow.Author.Needs.{needs}
 use denote.Ref.{now}
-use Rattle.reports.specs.ListsLaws.{host-one-chain}
+use Rattle.requests.specs.ListsLaws.{host-one-chain}
 use Rattle.fildwuk.proofs.fildwuk_coordinates.Statement.{statement}
 use Rattle.fildwuk.proofs.fildwuk_coordinates.Tie as tie
 

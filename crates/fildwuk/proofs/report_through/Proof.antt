@@ -5,7 +5,7 @@ use native.Mathlib.Omega.{arith}
 use borrow.Author.Needs.{needs}
 use denote.Ref.{now}
 use lib.ListN.{length}
-use Rattle.reports.specs.HostCallLaws.{reportRoom}
+use Rattle.host_calls.specs.HostCallLaws.{reportRoom}
 use Rattle.answers.specs.HostSizes.{ReportSized}
 use Rattle.writers.specs.declared.reduced.Counts.{Counts}
 use Rattle.calls.specs.Answer.{countsIn}

@@ -12,7 +12,7 @@ use mir.Syntax.{w32}
 use mir.Facts.{toZ-ofZ}
 use Rattle.lists.specs.Tabulate.{tabulate}
 use Rattle.lists.specs.TabulateLaws.{length-tabulate, getD-tabulate}
-use Rattle.reports.specs.Host.{coefficientIn}
+use Rattle.host_calls.specs.Bytes.{coefficientIn}
 use Rattle.little_endian.proofs.read_chain.Statement.{statement}
 use Rattle.little_endian.proofs.read_chain.Tie as tie
 

@@ -16,7 +16,7 @@ use mir.Facts.{toZ-ofZ}
 use Rattle.words.specs.Read.{read}
 use Rattle.words.specs.Negate.{opposite-fits, opposite-read}
 use Rattle.sheet_format.specs.Check.{fieldAt}
-use Rattle.reports.specs.Host.{coefficientAt}
+use Rattle.host_calls.specs.Bytes.{coefficientAt}
 use Rattle.little_endian.proofs.read_coefficient.Statement.{statement}
 use Rattle.little_endian.proofs.read_coefficient.Tie as tie
 

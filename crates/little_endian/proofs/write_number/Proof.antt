@@ -9,8 +9,8 @@ use lib.ListN.{length, getD, take, drop, set}
 use lib.Seq.{paste, paste-zero, paste-suc, length-paste, drop-drop, getD-drop, take-all}
 use lib.IntN.{ℤ, pos, negsuc}
 use mir.Facts.{toZ-ofZ}
-use Rattle.reports.specs.Host.{lowBytes, numberBytes}
-use Rattle.reports.specs.HostLaws.{length-lowBytes}
+use Rattle.host_calls.specs.Bytes.{lowBytes, numberBytes}
+use Rattle.host_calls.specs.BytesLaws.{length-lowBytes}
 use Rattle.little_endian.specs.Bytes.{SameBits}
 use Rattle.little_endian.proofs.write_number.Statement.{statement}
 use Rattle.little_endian.proofs.write_number.Tie as tie

@@ -12,8 +12,8 @@ use mir.Syntax.{w64}
 use mir.Facts.{toZ-ofZ}
 use Rattle.lists.specs.Splice.{splice}
 use Rattle.lists.specs.SpliceLaws.{splice-nil, length-splice, splice-splice}
-use Rattle.reports.specs.Host.{numberBytes, numbersBytes}
-use Rattle.reports.specs.HostLaws.{length-numberBytes, length-numbersBytes, numbersBytes-snoc}
+use Rattle.host_calls.specs.Bytes.{numberBytes, numbersBytes}
+use Rattle.host_calls.specs.BytesLaws.{length-numberBytes, length-numbersBytes, numbersBytes-snoc}
 use Rattle.little_endian.proofs.write_numbers.Statement.{statement}
 use Rattle.little_endian.proofs.write_numbers.Tie as tie
 

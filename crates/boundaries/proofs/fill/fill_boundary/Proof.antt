@@ -7,7 +7,7 @@ use lib.ListN.{length}
 use Rattle.matrices.specs.Matrix as theory
 use Rattle.complexes.specs.Boundary.{boundary}
 use Rattle.sheet_format.specs.Layout.{top}
-use Rattle.sheet_format.specs.Check.{chainCells}
+use Rattle.sheet_format.specs.Check.{sectionsOf}
 use Rattle.lines.specs.Matrices.{contents}
 use Rattle.boundaries.specs.Filled.{MatrixFilled}
 use Rattle.boundaries.proofs.Columns.{leftOf, columns-none, columns-next, columns-more, columns-all}
@@ -16,7 +16,7 @@ use Rattle.boundaries.proofs.fill.fill_boundary.Tie as tie
 
 abbrev Inv-loop : tie.InvT-loop
 Inv-loop s p m w₀ places₀ j₀ columns w places j =
-    (j ≤ m .width) × MatrixFilled m w₀ (leftOf j (boundary (chainCells s) (suc p)) (contents m w₀)) w × (length places ≡ suc top)
+    (j ≤ m .width) × MatrixFilled m w₀ (leftOf j (boundary (sectionsOf s) (suc p)) (contents m w₀)) w × (length places ≡ suc top)
 
 abbrev μ-loop : tie.MeasureT-loop
 μ-loop s p m w₀ places₀ j₀ columns w places j = m .width - j
@@ -24,11 +24,11 @@ abbrev μ-loop : tie.MeasureT-loop
 loop-holds : tie.Need-loop-holds Inv-loop μ-loop
 loop-holds c =
     let args = c .before .args in
-    (omega arith, columns-none (args .m) (args .w .now) (boundary (chainCells (args .s .now)) (suc (args .p))), refl)
+    (omega arith, columns-none (args .m) (args .w .now) (boundary (sectionsOf (args .s .now)) (suc (args .p))), refl)
 
 -- the boundary matrix, and what the slice held at first
 abbrev whole : tie.Start Inv-loop μ-loop → theory.Matrix
-whole c = boundary (chainCells (c .args .s .now)) (suc (c .args .p))
+whole c = boundary (sectionsOf (c .args .s .now)) (suc (c .args .p))
 
 abbrev old : tie.Start Inv-loop μ-loop → theory.Matrix
 old c = contents (c .args .m) (c .args .w .now)

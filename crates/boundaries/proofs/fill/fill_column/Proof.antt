@@ -12,7 +12,7 @@ use Rattle.matrices.specs.Matrix.{null}
 use Rattle.complexes.specs.Complex.{count, cell, Complex}
 use Rattle.complexes.specs.Boundary.{sign, boundary}
 use Rattle.sheet_format.specs.Layout.{top}
-use Rattle.sheet_format.specs.Check.{sectionsOf, chainCells}
+use Rattle.sheet_format.specs.Check.{sectionsOf}
 use Rattle.limits.specs.Limits.{libraryLimit}
 use Rattle.lines.specs.Slice.{lineAt}
 use Rattle.lines.specs.Matrices.{Held, contents}
@@ -74,8 +74,7 @@ module _ {b : List ℕ} {p : ℕ} {M : Matrix} {w₀ : List ℤ} {j : ℕ} (give
             part-face b (given .sheet) p j cell-below t r face
             ∙ rw (part-fresh b (given .sheet) p j cell-below t r face (omega arith)) (zero-add (sign t))
 
-    ended : p + 2 ≤ t → ColumnFilled M w₀ (boundary (chainCells b) (suc p)) j w
-    unfolding chainCells
+    ended : p + 2 ≤ t → ColumnFilled M w₀ (boundary (sectionsOf b) (suc p)) j w
     ended done = record {
       same-length = inv .so-far .same-length;
       on = λ i l. inv .so-far .on i l ∙ ap (λ (n : ℕ). entry b p j n i) all ∙ sym (part-all b (given .sheet) p j cell-below i);
@@ -94,7 +93,6 @@ abbrev μ-loop : tie.MeasureT-loop
 
 given : (c : tie.After-shared-slice-known Inv-loop μ-loop) →
     let args = c .before .args in Given (args .s .now) (args .p) (args .m) (args .w .now) (args .j)
-unfolding chainCells
 given c =
     let pre = c .before .pre in
     record {

@@ -11,8 +11,8 @@ use Rattle.matrices.specs.Product.{mul-ext-at}
 use Rattle.complexes.specs.Complex.{Sections, count, Complex}
 use Rattle.complexes.specs.Boundary.{boundary}
 use Rattle.sheet_format.specs.Layout.{top}
-use Rattle.sheet_format.specs.Check.{sectionsOf, chainCells}
-use Rattle.sheet_format.specs.SheetLaws.{count-chainCells, countField-below}
+use Rattle.sheet_format.specs.Check.{sectionsOf}
+use Rattle.sheet_format.specs.SheetLaws.{count-sectionsOf, countField-below}
 use Rattle.lines.specs.Slice.{entryLimit, Under}
 use Rattle.lines.specs.Matrices.{contents, end, Holds, Exceeds}
 use Rattle.lines.specs.declared.matrix.Matrix.{Matrix}
@@ -66,27 +66,27 @@ record Faced (b : List ℕ) (p : ℕ) (q : Matrix) (j : ℕ) (places : List ℕ)
   below : j < count (sectionsOf b) (suc p)
   faces : AreFaces b p j places
 
-module _ {b : List ℕ} {p : ℕ} {q M : Matrix} {w₀ w : List ℤ} {peak largest j : ℕ} (inv : Invariant (chainCells b) p q M w₀ peak w largest j)
+module _ {b : List ℕ} {p : ℕ} {q M : Matrix} {w₀ w : List ℤ} {peak largest j : ℕ} (inv : Invariant (sectionsOf b) p q M w₀ peak w largest j)
     (before : end M ≤ q .at) {places : List ℕ} (faced : Faced b p q j places) where
   -- line i times the column of cell j is the entry of the product, since q is kept
-  entry-is : (i : ℕ) → atPlaces q w places (p + 2) i j ≡ product (chainCells b) p q w₀ i j
+  entry-is : (i : ℕ) → atPlaces q w places (p + 2) i j ≡ product (sectionsOf b) p q w₀ i j
   entry-is i =
       product-entry b (faced .sheet) p j (faced .below) places (faced .faces) (q .width) (faced .rows) (contents q w) i
-      ∙ mul-ext-at (q .width) (contents q w) (contents q w₀) (boundary (chainCells b) (suc p)) (boundary (chainCells b) (suc p)) i j
+      ∙ mul-ext-at (q .width) (contents q w) (contents q w₀) (boundary (sectionsOf b) (suc p)) (boundary (sectionsOf b) (suc p)) i j
       (λ k l. contents-kept q M w₀ w before (inv .so-far .off) i k) (λ k l. refl)
 
   module _ (l : j < M .width) {w′ : List ℤ} where
-    more : {x : Written} → ColumnHolds M w (atPlaces q w places (p + 2)) j largest x w′ → Invariant (chainCells b) p q M w₀ peak w′ (x .peak) (j + 1)
+    more : {x : Written} → ColumnHolds M w (atPlaces q w places (p + 2)) j largest x w′ → Invariant (sectionsOf b) p q M w₀ peak w′ (x .peak) (j + 1)
     more f = record {
       below = omega arith;
-      so-far = columns-more (product (chainCells b) p q w₀) (contents M w₀) j (inv .so-far) (f .filled) (λ i k. entry-is i);
+      so-far = columns-more (product (sectionsOf b) p q w₀) (contents M w₀) j (inv .so-far) (f .filled) (λ i k. entry-is i);
       under = f .under;
       above = NatL.le-trans (inv .above) (f .above);
       least = λ L h a. f .least L (inv .least L h (λ i b k m. a i b k (omega arith)))
           (λ i k. subst (λ (z : ℤ). natAbs z ≤ L) (sym (entry-is i)) (a i j k (omega arith)));
     }
 
-    too-wide : ColumnExceeds M w (atPlaces q w places (p + 2)) j w′ → Exceeds M w₀ (product (chainCells b) p q w₀) w′
+    too-wide : ColumnExceeds M w (atPlaces q w places (p + 2)) j w′ → Exceeds M w₀ (product (sectionsOf b) p q w₀) w′
     too-wide e = record {
       same-length = e .same-length ∙ inv .so-far .same-length;
       line = e .line;
@@ -97,11 +97,11 @@ module _ {b : List ℕ} {p : ℕ} {q M : Matrix} {w₀ w : List ℤ} {peak large
     }
 
 -- a section with cells is one of the sheet's
-dimension : (b : List ℕ) (p j : ℕ) → j < count (chainCells b) (suc p) → p < top
-dimension b p j l = omega (arith, countField-below b (suc p) j (rw (count-chainCells b (suc p)) at l))
+dimension : (b : List ℕ) (p j : ℕ) → j < count (sectionsOf b) (suc p) → p < top
+dimension b p j l = omega (arith, countField-below b (suc p) j (rw (count-sectionsOf b (suc p)) at l))
 
 abbrev Inv-loop : tie.InvT-loop
-Inv-loop s p q m w₀ peak places₀ largest₀ j₀ columns w places largest j = Invariant (chainCells s) p q m w₀ peak w largest j × (length places ≡ suc top)
+Inv-loop s p q m w₀ peak places₀ largest₀ j₀ columns w places largest j = Invariant (sectionsOf s) p q m w₀ peak w largest j × (length places ≡ suc top)
 
 abbrev μ-loop : tie.MeasureT-loop
 μ-loop s p q m w₀ peak places₀ largest₀ j₀ columns w places largest j = m .width - j
@@ -109,7 +109,7 @@ abbrev μ-loop : tie.MeasureT-loop
 loop-holds : tie.Need-loop-holds Inv-loop μ-loop
 loop-holds c =
     let args = c .before .args in
-    (begun (chainCells (args .s .now)) (args .p) (args .q) (args .m) (args .w .now) (args .peak) (c .before .pre .1 .1 .2), refl)
+    (begun (sectionsOf (args .s .now)) (args .p) (args .q) (args .m) (args .w .now) (args .peak) (c .before .pre .1 .1 .2), refl)
 
 -- cell j is one of the section's
 module _ (c : tie.In-loop Inv-loop μ-loop) where
@@ -117,7 +117,6 @@ module _ (c : tie.In-loop Inv-loop μ-loop) where
   start = c .before .before .before
 
   cell-below : c .before .loop .j < count (sectionsOf (start .args .s .now)) (suc (start .args .p))
-  unfolding chainCells
   cell-below = omega (arith, c .loop-test .taken, start .pre .1 .0 .1)
 
   inside : start .args .p < top
@@ -129,7 +128,6 @@ face-places-requires c κs = let turn = c .before in (start turn .pre .0, (insid
 -- its faces have their places
 faced : (c : tie.After-face-places Inv-loop μ-loop) →
     let args = start (c .before .before) .args in Faced (args .s .now) (args .p) (args .q) (c .before .before .before .loop .j) (c .face-places .last .1 .1 .1 .0)
-unfolding chainCells
 faced c =
     let turn = c .before .before in let known = turn .before .before in
     record {

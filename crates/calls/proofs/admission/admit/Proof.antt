@@ -6,10 +6,10 @@ use borrow.Author.Tests.{ltb-true, ltb-false}
 use denote.Ref.{now}
 use lib.Dec.{ltb}
 use Rattle.complexes.specs.Complex.{Sections}
-use Rattle.sheet_format.specs.Check.{chainCells, refusal}
+use Rattle.sheet_format.specs.Check.{sectionsOf, refusal}
 use Rattle.sheet.specs.Number.{readingNumber}
-use Rattle.reports.specs.Call.{workSlots}
-use Rattle.reports.specs.RefusalLaws.{callChecks-zero}
+use Rattle.requests.specs.Call.{workSlots}
+use Rattle.requests.specs.CheckLaws.{callChecks-zero}
 use Rattle.calls.specs.Admission.{slotsFor}
 use Rattle.calls.specs.declared.admission.Sizes.{Sizes}
 use Rattle.calls.proofs.Sheet.{slots-of}
@@ -61,7 +61,7 @@ module _ (c : tie.After-lacks-slots) where
 
   -- the slots that are asked for
   abbrev needed : ℕ
-  needed = slots (start told) (chainCells (now (start told .args .s))) (start told .args .dimension)
+  needed = slots (start told) (sectionsOf (now (start told .args .s))) (start told .args .dimension)
 
   output-is : ltb (start told .args .output) needed ≡ c .lacks-slots .result
   output-is =
@@ -79,7 +79,7 @@ module _ (c : tie.After-work-slots) where
   abbrev asked : tie.After-lacks-slots
   asked = c .before .before
 
-  work-is : c .work-slots .result ≡ workSlots (chainCells (now (start (told asked) .args .s))) (start (told asked) .args .dimension)
+  work-is : c .work-slots .result ≡ workSlots (sectionsOf (now (start (told asked) .args .s))) (start (told asked) .args .dimension)
   work-is = c .work-slots .ensures ∙ slots-of (asked .before .sizes-of .ensures)
 
 returns-4 : tie.Need-returns-4

@@ -3,7 +3,7 @@ use mathlib.Core.Path.{sym, _∙_}
 use native.Mathlib.Omega.{arith}
 use borrow.Author.Needs.{needs}
 use denote.Ref.{now}
-use Rattle.sheet_format.specs.Check.{chainCells}
+use Rattle.sheet_format.specs.Check.{sectionsOf}
 use Rattle.calls.proofs.Sheet.{rows-none, rows-before}
 use Rattle.calls.proofs.admission.rows_of.Statement.{statement}
 use Rattle.calls.proofs.admission.rows_of.Tie as tie
@@ -11,7 +11,7 @@ use Rattle.calls.proofs.admission.rows_of.Tie as tie
 returns : tie.Need-returns
 returns c =
     let args = c .before .before .args in
-    record { is = sym (rows-none (chainCells (now (args .s))) (args .p) (c .if1 .taken)); below = omega arith }
+    record { is = sym (rows-none (sectionsOf (now (args .s))) (args .p) (c .if1 .taken)); below = omega arith }
 
 returns-2 : tie.Need-returns-2
 returns-2 c =

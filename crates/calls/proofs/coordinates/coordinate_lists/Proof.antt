@@ -11,11 +11,12 @@ use lib.IntN.{ℤ}
 use lib.ListN.{length}
 use Rattle.lists.specs.Splice.{splices}
 use Rattle.complexes.specs.Complex.{count}
-use Rattle.sheet_format.specs.Check.{chainCells, first}
+use Rattle.trials.specs.Trial.{first}
+use Rattle.sheet_format.specs.Check.{sectionsOf}
 use Rattle.reduction_steps.specs.PivotLaws.{pivotRule-is-rule}
-use Rattle.reports.specs.Call.{Called}
-use Rattle.reports.specs.Lists.{chainAt, cyclesChecks}
-use Rattle.reports.specs.ListsLaws.{nonempty, nonempty-size, nonempty-lists}
+use Rattle.trials.specs.Trial.{Called}
+use Rattle.requests.specs.Chains.{chainAt, cyclesChecks}
+use Rattle.requests.specs.ListsLaws.{nonempty, nonempty-size, nonempty-lists}
 use Rattle.limits.specs.Limits.{libraryLimit, coefficientLimit}
 use Rattle.chains.specs.Check.{checkNumber}
 use Rattle.writers.specs.Written.{coordinatesOf}
@@ -75,7 +76,7 @@ module _ (c : tie.After-known-told2) where
 
   -- n_p
   abbrev cells : ℕ
-  cells = count (chainCells (now (entered .args .s))) (entered .args .dimension)
+  cells = count (sectionsOf (now (entered .args .s))) (entered .args .dimension)
 
   granted : Granted (asked (lent entered)) (Coordinates number) sizes
   granted =

@@ -1,7 +1,7 @@
 -- `coordinates::coordinates` meets its contract: the call on one chain is the single call. Assumes nothing.
 use borrow.Author.Needs.{needs}
 use denote.Ref.{now}
-use Rattle.reports.specs.ListsLaws.{one-chain}
+use Rattle.requests.specs.ListsLaws.{one-chain}
 use Rattle.limits.specs.Limits.{libraryLimit}
 use Rattle.calls.proofs.coordinates.coordinates.Statement.{statement}
 use Rattle.calls.proofs.coordinates.coordinates.Tie as tie

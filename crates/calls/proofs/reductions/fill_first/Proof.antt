@@ -10,7 +10,7 @@ use lib.IntN.{pos}
 use lib.ListN.{length, replicate, length-replicate}
 use Rattle.complexes.specs.Complex.{count}
 use Rattle.complexes.specs.Boundary.{boundary}
-use Rattle.sheet_format.specs.Check.{chainCells}
+use Rattle.sheet_format.specs.Check.{sectionsOf}
 use Rattle.boundaries.specs.Filled.{MatrixFilled}
 use Rattle.calls.proofs.Places.{held-matrix}
 use Rattle.calls.proofs.Sheet.{rows-none, rows-section, sheet-chains}
@@ -21,7 +21,7 @@ use Rattle.calls.proofs.reductions.fill_first.Tie as tie
 fill-boundary-requires : tie.Need-fill-boundary-requires
 fill-boundary-requires c κs =
     let start = c .before .before .before .before .before .before in
-    let K = chainCells (now (start .args .s)) in
+    let K = sectionsOf (now (start .args .s)) in
     let p = start .args .p in
     let n = length (now (start .args .w)) in
     let W = start .args .layout in
@@ -43,10 +43,10 @@ fill-boundary-requires c κs =
 -- the boundary matrix stands in a slice of zeros
 matrix-filled : (c : tie.Joined1) →
     let args = c .before .before .before .before .before .args in
-    MatrixFilled (args .layout .matrix) (replicate (length (now (args .w))) (pos 0)) (boundary (chainCells (now (args .s))) (args .p)) (c .if1 .w)
+    MatrixFilled (args .layout .matrix) (replicate (length (now (args .w))) (pos 0)) (boundary (sectionsOf (now (args .s))) (args .p)) (c .if1 .w)
 matrix-filled c =
     let start = c .before .before .before .before .before in
-    let K = chainCells (now (start .args .s)) in
+    let K = sectionsOf (now (start .args .s)) in
     let p = start .args .p in
     let n = length (now (start .args .w)) in
     let cleared = c .before .before .clear .ensures in
@@ -59,21 +59,21 @@ matrix-filled c =
 fill-identity-requires : tie.Need-fill-identity-requires
 fill-identity-requires c κs =
     let start = c .before .before .before .before .before .before in
-    follower-fills (chainCells (now (start .args .s))) (start .args .p) (length (now (start .args .w))) (start .pre .1 .0) (start .args .layout) (start .pre .1 .1)
+    follower-fills (sectionsOf (now (start .args .s))) (start .args .p) (length (now (start .args .w))) (start .pre .1 .0) (start .args .layout) (start .pre .1 .1)
     (matrix-filled (c .before))
 
 fill-identity-requires-2 : tie.Need-fill-identity-requires-2
 fill-identity-requires-2 c κs =
     let joined = c .before .before .before .before in
     let start = joined .before .before .before .before .before in
-    inverse-fills (chainCells (now (start .args .s))) (start .args .p) (length (now (start .args .w))) (start .pre .1 .0) (start .args .layout) (start .pre .1 .1)
+    inverse-fills (sectionsOf (now (start .args .s))) (start .args .p) (length (now (start .args .w))) (start .pre .1 .0) (start .args .layout) (start .pre .1 .1)
     (matrix-filled joined) (c .before .before .fill-identity .ensures)
 
 returns : tie.Need-returns
 returns c =
     let joined = c .before .before .before .before .before .before in
     let start = joined .before .before .before .before .before in
-    filled (chainCells (now (start .args .s))) (start .args .p) (length (now (start .args .w))) (start .pre .1 .0) (start .args .layout) (start .pre .1 .1)
+    filled (sectionsOf (now (start .args .s))) (start .args .p) (length (now (start .args .w))) (start .pre .1 .0) (start .args .layout) (start .pre .1 .1)
     (sheet-chains (record { small = λ i. joined .before .before .before .before .shared-slice-known .given i .fits }) (start .pre .0 .0) .small (start .args .p))
     (record {
       matrix = matrix-filled joined;

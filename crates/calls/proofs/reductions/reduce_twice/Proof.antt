@@ -9,7 +9,7 @@ use lib.IntN.{pos}
 use lib.ListN.{length, replicate}
 use Rattle.complexes.specs.Complex.{count}
 use Rattle.complexes.specs.ChainComplex.{ChainComplex}
-use Rattle.sheet_format.specs.Check.{chainCells}
+use Rattle.sheet_format.specs.Check.{sectionsOf}
 use Rattle.limits.specs.Limits.{libraryLimit}
 use Rattle.reduction_steps.specs.PivotLaws.{pivotRule-is-rule}
 use Rattle.calls.specs.Admission.{SizesRead}
@@ -30,13 +30,13 @@ module _ (c : tie.After-first) where
   abbrev start : tie.Start
   start = c .before .before
 
-  chains : ChainComplex libraryLimit (chainCells (now (start .args .s)))
+  chains : ChainComplex libraryLimit (sectionsOf (now (start .args .s)))
   chains = sheet-chains (record { small = λ i. c .before .shared-slice-known .given i .fits }) (start .pre .0 .0)
 
-  sizes : SizesRead (chainCells (now (start .args .s))) (start .args .p) (start .args .sizes)
+  sizes : SizesRead (sectionsOf (now (start .args .s))) (start .args .p) (start .args .sizes)
   sizes = start .pre .1 .1
 
-  first-is : c .first .result ≡ firstLayoutOf (chainCells (now (start .args .s))) (start .args .p)
+  first-is : c .first .result ≡ firstLayoutOf (sectionsOf (now (start .args .s))) (start .args .p)
   first-is = c .first .ensures ∙ first-of sizes
 
 -- ---- the first reduction
@@ -50,7 +50,7 @@ reduce-matrix-requires c κs =
     let s = start first in
     let filled = c .before .before .before .fill-first .ensures in (
       rw (filled .kept .same-length)
-          (laid (chainCells (now (s .args .s))) (s .args .p) (length (now (s .args .w))) (s .pre .1 .0) (first .first .result) (first-is first)),
+          (laid (sectionsOf (now (s .args .s))) (s .args .p) (length (now (s .args .w))) (s .pre .1 .0) (first .first .result) (first-is first)),
       rw (c .start-peak .ensures, cells-of (sizes first)) (filled .kept .under),
     )
 
@@ -65,7 +65,7 @@ module _ (c : tie.After-reduce-matrix) where
   at-first = c .before .before .before .before .before .before
 
   -- the peak at the start
-  started-from : let s = start at-first in c .before .start-peak .result ≡ startPeak (count (chainCells (now (s .args .s))) (s .args .p))
+  started-from : let s = start at-first in c .before .start-peak .result ≡ startPeak (count (sectionsOf (now (s .args .s))) (s .args .p))
   started-from = c .before .start-peak .ensures ∙ ap startPeak (cells-of (sizes at-first))
 
 returns : tie.Need-returns
@@ -73,7 +73,7 @@ returns c =
     let called = c .before .before .before in
     let first = at-first called in
     let s = start first in
-    first-refused pivotRule-is-rule (chainCells (now (s .args .s))) (s .args .p) (length (now (s .args .w))) (chains first) (s .pre .1 .0) (first .first .result) (first-is first)
+    first-refused pivotRule-is-rule (sectionsOf (now (s .args .s))) (s .args .p) (length (now (s .args .w))) (chains first) (s .pre .1 .0) (first .first .result) (first-is first)
     (called .before .before .before .before .fill-first .ensures) (started-from called) (reduces-refused (first .first .result) (called .reduce-matrix .result) (c .enum-told .given .1) (called .reduce-matrix .ensures))
 
 same-length : tie.Need-same-length
@@ -95,10 +95,10 @@ module _ (c : tie.After-known-told) where
   halfway = c .before .rank .given .0 .1 .0
 
   first : let s = start began in
-      FirstDone pivotRule-is-rule (chainCells (now (s .args .s))) (s .args .p) (length (now (s .args .w))) (chains began) (s .pre .1 .0) rank halfway (first-called .reduce-matrix .last .1 .0)
+      FirstDone pivotRule-is-rule (sectionsOf (now (s .args .s))) (s .args .p) (length (now (s .args .w))) (chains began) (s .pre .1 .0) rank halfway (first-called .reduce-matrix .last .1 .0)
   first =
       let s = start began in
-      first-done pivotRule-is-rule (chainCells (now (s .args .s))) (s .args .p) (length (now (s .args .w))) (chains began) (s .pre .1 .0) (began .first .result) (first-is began)
+      first-done pivotRule-is-rule (sectionsOf (now (s .args .s))) (s .args .p) (length (now (s .args .w))) (chains began) (s .pre .1 .0) (began .first .result) (first-is began)
       (first-called .before .before .before .before .fill-first .ensures) (started-from first-called) (reduces-done (began .first .result) (first-called .reduce-matrix .result) (c .before .rank .given .1) (first-called .reduce-matrix .ensures))
 
 second-requires : tie.Need-second-requires
@@ -106,7 +106,7 @@ second-requires c κs =
     let n = sizes (began c) in (n .cells-below, n .rows-below, n .columns-below, rw (cells-of n) (first c .rank-within))
 
 second-is : (c : tie.After-second) →
-    let s = start (began (c .before)) in c .second .result ≡ secondLayoutOf (chainCells (now (s .args .s))) (s .args .p) (rank (c .before))
+    let s = start (began (c .before)) in c .second .result ≡ secondLayoutOf (sectionsOf (now (s .args .s))) (s .args .p) (rank (c .before))
 second-is c = c .second .ensures ∙ second-of (sizes (began (c .before))) (rank (c .before))
 
 multiply-requires : tie.Need-multiply-requires
@@ -115,16 +115,16 @@ multiply-requires c κs =
     let s = start (began told) in
     let W = c .before .second .result in
     let is = second-is (c .before) in
-    let l = laid-then pivotRule-is-rule (chainCells (now (s .args .s))) (s .args .p) (length (now (s .args .w))) (chains (began told)) (s .pre .1 .0) (first told) W is in (
+    let l = laid-then pivotRule-is-rule (sectionsOf (now (s .args .s))) (s .args .p) (length (now (s .args .w))) (chains (began told)) (s .pre .1 .0) (first told) W is in (
       s .pre .0 .0,
       (
         (
-          Q-width pivotRule-is-rule (chainCells (now (s .args .s))) (s .args .p) (length (now (s .args .w))) (chains (began told)) (s .pre .1 .0) (first told) W is,
-          product-width pivotRule-is-rule (chainCells (now (s .args .s))) (s .args .p) (length (now (s .args .w))) (chains (began told)) (s .pre .1 .0) (first told) W is,
+          Q-width pivotRule-is-rule (sectionsOf (now (s .args .s))) (s .args .p) (length (now (s .args .w))) (chains (began told)) (s .pre .1 .0) (first told) W is,
+          product-width pivotRule-is-rule (sectionsOf (now (s .args .s))) (s .args .p) (length (now (s .args .w))) (chains (began told)) (s .pre .1 .0) (first told) W is,
           sym (l .row-follower-lines),
         ),
         (
-          Q-held pivotRule-is-rule (chainCells (now (s .args .s))) (s .args .p) (length (now (s .args .w))) (chains (began told)) (s .pre .1 .0) (first told) W is,
+          Q-held pivotRule-is-rule (sectionsOf (now (s .args .s))) (s .args .p) (length (now (s .args .w))) (chains (began told)) (s .pre .1 .0) (first told) W is,
           omega (arith, l .after-matrix, l .after-row-inverse),
           first told .kept .under,
         ),
@@ -144,7 +144,7 @@ returns-2 c =
     let s = start (began told) in
     let W = called .before .before .second .result in
     let beyond = became-wide (halfway told) (called .multiply .result) (c .before .before .before .enum-told2 .given .1) (called .multiply .ensures) in (
-      product-refused pivotRule-is-rule (chainCells (now (s .args .s))) (s .args .p) (length (now (s .args .w))) (chains (began told)) (s .pre .1 .0) (first told) W
+      product-refused pivotRule-is-rule (sectionsOf (now (s .args .s))) (s .args .p) (length (now (s .args .w))) (chains (began told)) (s .pre .1 .0) (first told) W
           (second-is (called .before .before)) beyond,
       record {
         number = refl;
@@ -167,11 +167,11 @@ module _ (c : tie.After-known-told2) where
   first-told = multiplied .before .before .before
 
   started : let s = start (began first-told) in
-      SecondStarted pivotRule-is-rule (chainCells (now (s .args .s))) (s .args .p) (length (now (s .args .w))) (chains (began first-told)) (s .pre .1 .0) (rank first-told) (halfway first-told)
+      SecondStarted pivotRule-is-rule (sectionsOf (now (s .args .s))) (s .args .p) (length (now (s .args .w))) (chains (began first-told)) (s .pre .1 .0) (rank first-told) (halfway first-told)
       (first-called first-told .reduce-matrix .last .1 .0) (c .before .product .given .0 .0 .peak) (multiplied .multiply .last .1 .1 .1 .1 .0)
   started =
       let s = start (began first-told) in
-      second-started pivotRule-is-rule (chainCells (now (s .args .s))) (s .args .p) (length (now (s .args .w))) (chains (began first-told)) (s .pre .1 .0) (first first-told)
+      second-started pivotRule-is-rule (sectionsOf (now (s .args .s))) (s .args .p) (length (now (s .args .w))) (chains (began first-told)) (s .pre .1 .0) (first first-told)
       (multiplied .before .before .second .result) (second-is (multiplied .before .before))
       (became-done (halfway first-told) (multiplied .multiply .result) (c .before .product .given .1) (multiplied .multiply .ensures))
 
@@ -182,7 +182,7 @@ reduce-matrix-requires-2 c κs =
     let second = multiplied (c .before) .before .before in
     let kept = started (c .before) .kept in (
       rw (kept .same-length)
-          (laid-then pivotRule-is-rule (chainCells (now (s .args .s))) (s .args .p) (length (now (s .args .w))) (chains (began told)) (s .pre .1 .0) (first told) (second .second .result)
+          (laid-then pivotRule-is-rule (sectionsOf (now (s .args .s))) (s .args .p) (length (now (s .args .w))) (chains (began told)) (s .pre .1 .0) (first told) (second .second .result)
           (second-is second)),
       kept .under,
     )
@@ -199,7 +199,7 @@ returns-3 c =
     let told = first-told (called .before .before) in
     let s = start (began told) in
     let second = multiplied (called .before .before) .before .before in
-    second-refused pivotRule-is-rule (chainCells (now (s .args .s))) (s .args .p) (length (now (s .args .w))) (chains (began told)) (s .pre .1 .0) (started (called .before .before))
+    second-refused pivotRule-is-rule (sectionsOf (now (s .args .s))) (s .args .p) (length (now (s .args .w))) (chains (began told)) (s .pre .1 .0) (started (called .before .before))
     (second .second .result) (second-is second)
     (reduces-refused (second .second .result) (called .reduce-matrix2 .result) (c .enum-told3 .given .1) (called .reduce-matrix2 .ensures))
 
@@ -212,7 +212,7 @@ returns-4 c =
     let told = first-told (called .before .before) in
     let s = start (began told) in
     let second = multiplied (called .before .before) .before .before in
-    second-done pivotRule-is-rule (chainCells (now (s .args .s))) (s .args .p) (length (now (s .args .w))) (chains (began told)) (s .pre .1 .0) (started (called .before .before))
+    second-done pivotRule-is-rule (sectionsOf (now (s .args .s))) (s .args .p) (length (now (s .args .w))) (chains (began told)) (s .pre .1 .0) (started (called .before .before))
     (second .second .result) (second-is second)
     (reduces-done (second .second .result) (called .reduce-matrix2 .result) (c .before .last .given .1) (called .reduce-matrix2 .ensures))
 

@@ -18,7 +18,7 @@ use Rattle.integers.specs.Order.{natAbs-add, natAbs-mul}
 use Rattle.complexes.specs.Complex.{count, cell, Complex}
 use Rattle.complexes.specs.Boundary.{sign}
 use Rattle.sheet_format.specs.Layout.{top}
-use Rattle.sheet_format.specs.Check.{sectionsOf, chainCells}
+use Rattle.sheet_format.specs.Check.{sectionsOf}
 use Rattle.limits.specs.Limits.{libraryLimit, coefficientLimit}
 use Rattle.lines.specs.Slice.{entryLimit}
 use Rattle.words.specs.Read.{read, sfits-below, read-wide}
@@ -55,7 +55,7 @@ record Given (b : List ℕ) (p j : ℕ) (x : ℤ) (sums₀ : List ℤ) : Type 0 
   inside : p < top
   below : j < count (sectionsOf b) (suc p)
   factor : natAbs x ≤ coefficientLimit
-  sums : Sums (chainCells b) p sums₀
+  sums : Sums (sectionsOf b) p sums₀
 
 module _ {b : List ℕ} {p j : ℕ} {x : ℤ} {sums₀ : List ℤ} {t : ℕ} {sums : List ℤ} (given : Given b p j x sums₀) (inv : Invariant b p j x sums₀ t sums)
     (more : t < p + 2) (i : ℕ) (face : IsFace b p j t i) (r : ℤ) (r-is : r ≡ sign t) where
@@ -66,7 +66,6 @@ module _ {b : List ℕ} {p j : ℕ} {x : ℤ} {sums₀ : List ℤ} {t : ℕ} {su
   small-entry = omega (arith, natAbs-part (cell (sectionsOf b) (suc p) j) t (cell (sectionsOf b) p i), given .inside)
 
   old-small : natAbs old ≤ 2 ^ 33
-  unfolding chainCells
   old-small =
       rw (inv .so-far i (face .below))
       (omega (
@@ -120,8 +119,7 @@ module _ {b : List ℕ} {p j : ℕ} {x : ℤ} {sums₀ : List ℤ} {t : ℕ} {su
           ∙ ap (λ (z : ℤ). getD sums₀ k (pos 0) +ℤ x *ℤ z) (sym (part-other b (given .sheet) p j (given .below) t i face k l d))
 
 ended : {b : List ℕ} {p j : ℕ} {x : ℤ} {sums₀ : List ℤ} {t : ℕ} {sums : List ℤ} → Given b p j x sums₀ → Invariant b p j x sums₀ t sums → p + 2 ≤ t
-    → AddsFaces (chainCells b) p j x sums₀ sums
-unfolding chainCells
+    → AddsFaces (sectionsOf b) p j x sums₀ sums
 ended {b} {p} {j} {x} {sums₀} {t} {sums} given inv done = record {
   same-length = inv .same-length;
   adds = λ i l.
@@ -145,7 +143,6 @@ read-x c = read-wide (c .args .x) (omega (arith, c .pre .1 .1 .0))
 
 given : (c : tie.After-shared-slice-known Inv-loop μ-loop) →
     let args = c .before .args in Given (args .s .now) (args .p) (args .j) (args .x) (args .sums .now)
-unfolding chainCells
 given c =
     let pre = c .before .pre in
     record {
@@ -157,7 +154,6 @@ given c =
     }
 
 face-places-requires : tie.Need-face-places-requires Inv-loop μ-loop
-unfolding chainCells
 face-places-requires c κs = let pre = c .before .before .pre in (pre .0, pre .1 .0)
 
 loop-holds : tie.Need-loop-holds Inv-loop μ-loop

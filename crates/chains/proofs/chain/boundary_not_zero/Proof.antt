@@ -25,11 +25,11 @@ use Rattle.complexes.specs.Complex.{Sections, count}
 use Rattle.complexes.specs.Boundary.{countBelow, boundary}
 use Rattle.complexes.specs.ChainComplex.{ChainComplex}
 use Rattle.sheet_format.specs.Layout.{top}
-use Rattle.sheet_format.specs.Check.{chainCells, some}
+use Rattle.sheet_format.specs.Check.{sectionsOf, some}
 use Rattle.sheet_format.specs.CheckLaws.{some-at, some-false}
-use Rattle.sheet_format.specs.SheetLaws.{count-chainCells}
+use Rattle.sheet_format.specs.SheetLaws.{count-sectionsOf}
 use Rattle.sheet_format.specs.Accept.{accepted-chains}
-use Rattle.reports.specs.Call.{boundaryNotZero}
+use Rattle.requests.specs.Chains.{boundaryNotZero}
 use Rattle.limits.specs.Limits.{libraryLimit, coefficientLimit}
 use Rattle.words.specs.Read.{read, cast-fits, cast-is, zero-of-bits}
 use Rattle.chains.specs.Sums.{Sums, AddsFaces}
@@ -125,7 +125,7 @@ module _ {K : Sections} {p : ℕ} {chain : List ℤ} {j : ℕ} {sums : List ℤ}
       (λ i l. ap not (eq-eqb (natAbs (whole i)) 0 (ap natAbs (sym (sum-is i l) ∙ h i l)))))
 
 abbrev Inv-loop : tie.InvT-loop
-Inv-loop s p chain sums₀ places₀ j₀ sums places j = Summed (chainCells s) (p - 1) chain j sums × (length places ≡ suc top)
+Inv-loop s p chain sums₀ places₀ j₀ sums places j = Summed (sectionsOf s) (p - 1) chain j sums × (length places ≡ suc top)
 
 abbrev μ-loop : tie.MeasureT-loop
 μ-loop s p chain sums₀ places₀ j₀ sums places j = length chain - j
@@ -140,13 +140,13 @@ returns : tie.Need-returns Inv-loop μ-loop Inv-loop2 μ-loop2
 unfolding boundaryNotZero countBelow some
 returns c =
     let args = c .before .before .args in
-    subst (λ (n : ℕ). false ≡ boundaryNotZero (chainCells (now (args .s))) n (now (args .chain))) (sym (c .if1 .taken)) refl
+    subst (λ (n : ℕ). false ≡ boundaryNotZero (sectionsOf (now (args .s))) n (now (args .chain))) (sym (c .if1 .taken)) refl
 
 -- the dimension is not 0
 positive : (c : tie.Else1 Inv-loop μ-loop Inv-loop2 μ-loop2) → suc (c .before .before .args .p - 1) ≡ c .before .before .args .p
 positive c = omega (arith, c .if1 .left)
 
-given : (c : tie.Else1 Inv-loop μ-loop Inv-loop2 μ-loop2) → let args = c .before .before .args in Given (chainCells (args .s .now)) (args .p - 1) (args .chain .now)
+given : (c : tie.Else1 Inv-loop μ-loop Inv-loop2 μ-loop2) → let args = c .before .before .args in Given (sectionsOf (args .s .now)) (args .p - 1) (args .chain .now)
 given c =
     let pre = c .before .before .pre in
     record {
@@ -158,7 +158,7 @@ given c =
 
 loop-holds : tie.Need-loop-holds Inv-loop μ-loop Inv-loop2 μ-loop2
 loop-holds c =
-    let args = c .before .before .args in (begun (chainCells (args .s .now)) (args .p - 1) (args .chain .now) (given c .sheet .within (args .p - 1)), refl)
+    let args = c .before .before .args in (begun (sectionsOf (args .s .now)) (args .p - 1) (args .chain .now) (given c .sheet .within (args .p - 1)), refl)
 
 shared-slice-copy-out-x : tie.Need-shared-slice-copy-out-x Inv-loop μ-loop Inv-loop2 μ-loop2
 shared-slice-copy-out-x c = c .loop-test .taken
@@ -200,13 +200,13 @@ loop-again c =
     let more = at .before .loop-test .taken in
     ⊎-elim
     (λ way. (
-      subst (λ (sums : List ℤ). Summed (chainCells (args .s .now)) (args .p - 1) (args .chain .now) (j + 1) sums) (sym (way .4))
+      subst (λ (sums : List ℤ). Summed (sectionsOf (args .s .now)) (args .p - 1) (args .chain .now) (j + 1) sums) (sym (way .4))
           (added g (inv .0) more
-          (subst (λ (z : ℤ). AddsFaces (chainCells (args .s .now)) (args .p - 1) j z (head at .loop .sums) (way .3 .last .1 .1 .1 .1 .0)) (x-is at) (way .3 .ensures .0))),
+          (subst (λ (z : ℤ). AddsFaces (sectionsOf (args .s .now)) (args .p - 1) j z (head at .loop .sums) (way .3 .last .1 .1 .1 .1 .0)) (x-is at) (way .3 .ensures .0))),
       ap length (way .5) ∙ way .3 .ensures .1,
     ))
     (λ way. (
-      subst (λ (sums : List ℤ). Summed (chainCells (args .s .now)) (args .p - 1) (args .chain .now) (j + 1) sums) (sym (way .1))
+      subst (λ (sums : List ℤ). Summed (sectionsOf (args .s .now)) (args .p - 1) (args .chain .now) (j + 1) sums) (sym (way .1))
           (skipped g (inv .0) more (sym (toZ-ofZ (x-fits at)) ∙ zero-of-bits (cast-x at) (way .0 .left))),
       ap length (way .2) ∙ inv .1,
     ))
@@ -219,9 +219,9 @@ loop2-holds : tie.Need-loop2-holds Inv-loop μ-loop Inv-loop2 μ-loop2
 loop2-holds c = (omega arith, λ k l. absurd (omega arith))
 
 rows : (c : tie.After-count Inv-loop μ-loop Inv-loop2 μ-loop2) →
-    let args = c .before .before .before .before .before .args in c .count .result ≡ count (chainCells (args .s .now)) (args .p - 1)
+    let args = c .before .before .before .before .before .args in c .count .result ≡ count (sectionsOf (args .s .now)) (args .p - 1)
 rows c =
-    let args = c .before .before .before .before .before .args in c .count .ensures .is ∙ sym (count-chainCells (args .s .now) (args .p - 1))
+    let args = c .before .before .before .before .before .args in c .count .ensures .is ∙ sym (count-sectionsOf (args .s .now) (args .p - 1))
 
 row-below : (c : tie.In-loop2 Inv-loop μ-loop Inv-loop2 μ-loop2) → c .before .loop2 .row < libraryLimit
 row-below c =
@@ -235,7 +235,7 @@ returns-2 : tie.Need-returns-2 Inv-loop μ-loop Inv-loop2 μ-loop2
 returns-2 c =
     let turn = c .before .before in let counted = turn .before .before in let first = counted .before .before .before in
     let args = first .before .before .args in
-    subst (λ (n : ℕ). true ≡ boundaryNotZero (chainCells (now (args .s))) n (now (args .chain))) (positive first)
+    subst (λ (n : ℕ). true ≡ boundaryNotZero (sectionsOf (now (args .s))) n (now (args .chain))) (positive first)
     (found (given first) (counted .before .before .loop .inv .0) (counted .before .loop-test .left) (turn .before .loop2 .row)
     (omega (arith, turn .loop2-test .taken, rows counted))
     (λ e. c .if3 .taken (ap (ofZ w64) e)))
@@ -255,7 +255,7 @@ loop2-again c =
 returns-3 : tie.Need-returns-3 Inv-loop μ-loop Inv-loop2 μ-loop2
 returns-3 c =
     let counted = c .before .before in let first = counted .before .before .before in let args = first .before .before .args in
-    subst (λ (n : ℕ). false ≡ boundaryNotZero (chainCells (now (args .s))) n (now (args .chain))) (positive first)
+    subst (λ (n : ℕ). false ≡ boundaryNotZero (sectionsOf (now (args .s))) n (now (args .chain))) (positive first)
     (none (given first) (counted .before .before .loop .inv .0) (counted .before .loop-test .left)
     (λ i l. c .before .loop2 .inv .1 i (omega (arith, c .loop2-test .left, rows counted))))
 

@@ -15,7 +15,7 @@ use lib.IntN.{ℤ, pos, natAbs}
 use mir.Syntax.{w32}
 use mir.Val.{SFits}
 use Rattle.sheet_format.specs.CheckLaws.{some-at, some-false}
-use Rattle.reports.specs.Call.{coefficientExceeds}
+use Rattle.requests.specs.Chains.{coefficientExceeds}
 use Rattle.words.specs.Negate.{opposite-fits}
 use Rattle.words.specs.Tests.{word-beyond-low, word-beyond-high, word-within}
 use Rattle.chains.proofs.chain.coefficient_exceeds.Statement.{statement}

@@ -6,12 +6,12 @@ use native.Mathlib.Omega.{arith}
 use denote.Ref.{now}
 use lib.ListN.{length}
 use lib.IntN.{ℤ}
-use Rattle.sheet_format.specs.Check.{first}
+use Rattle.trials.specs.Trial.{first}
 use Rattle.refusal.specs.Number.{numberOf}
 use Rattle.refusal.specs.NumberLaws.{number-positive}
-use Rattle.reports.specs.Call.{cycleChecks}
-use Rattle.reports.specs.Lists.{chainAt}
-use Rattle.reports.specs.ChainsLaws.{chain-inside, length-chainAt, chain-part, fault, passed-next, cycles-zero, cycles-told}
+use Rattle.requests.specs.Chains.{cycleChecks}
+use Rattle.requests.specs.Chains.{chainAt}
+use Rattle.requests.specs.ChainsLaws.{chain-inside, length-chainAt, chain-part, fault, passed-next, cycles-zero, cycles-told}
 use Rattle.limits.specs.Limits.{coefficientLimit}
 use Rattle.chains.specs.Check.{checkNumber}
 use Rattle.chains.proofs.check.check_chains.Statement.{statement}

@@ -6,13 +6,13 @@ use native.Mathlib.Omega.{arith}
 use denote.Ref.{now}
 use lib.ListN.{length, take}
 use lib.IntN.{ℤ}
-use Rattle.sheet_format.specs.Check.{first}
+use Rattle.trials.specs.Trial.{first}
 use Rattle.refusal.specs.Number.{numberOf}
 use Rattle.refusal.specs.NumberLaws.{number-positive}
-use Rattle.reports.specs.Call.{cycleChecks}
-use Rattle.reports.specs.Host.{chainFrom}
-use Rattle.reports.specs.Lists.{chainAt}
-use Rattle.reports.specs.ChainsLaws.{fault, passed-next, cycles-zero, cycles-told}
+use Rattle.requests.specs.Chains.{cycleChecks}
+use Rattle.host_calls.specs.Bytes.{chainFrom}
+use Rattle.requests.specs.Chains.{chainAt}
+use Rattle.requests.specs.ChainsLaws.{fault, passed-next, cycles-zero, cycles-told}
 use Rattle.limits.specs.Limits.{hostLimit, coefficientLimit}
 use Rattle.chains.specs.Check.{checkNumber}
 use Rattle.fildwuk.specs.Lists.{chainOf}

@@ -9,11 +9,14 @@ use denote.Ref.{now}
 use lib.ListN.{length}
 use Rattle.lists.specs.Splice.{splices}
 use Rattle.complexes.specs.Complex.{count}
-use Rattle.sheet_format.specs.Check.{chainCells, first}
-use Rattle.reports.specs.Host.{HostCalled, slotsIn, chainFrom}
-use Rattle.reports.specs.Lists.{cyclesChecks, hostCoordinateLists}
-use Rattle.reports.specs.HostCallLaws.{counts-within}
-use Rattle.reports.specs.ListsLaws.{nonempty, nonempty-size, nonempty-host-lists}
+use Rattle.trials.specs.Trial.{first}
+use Rattle.sheet_format.specs.Check.{sectionsOf}
+use Rattle.host_calls.specs.Host.{HostCalled, slotsIn}
+use Rattle.host_calls.specs.Bytes.{chainFrom}
+use Rattle.requests.specs.Chains.{cyclesChecks}
+use Rattle.reports.specs.Lists.{hostCoordinateLists}
+use Rattle.host_calls.specs.HostCallLaws.{counts-within}
+use Rattle.requests.specs.ListsLaws.{nonempty, nonempty-size, nonempty-host-lists}
 use Rattle.limits.specs.Limits.{hostLimit, coefficientLimit}
 use Rattle.chains.specs.Check.{checkNumber}
 use Rattle.calls.specs.Admission.{Admits}
@@ -74,7 +77,7 @@ module _ (c : tie.After-known-told2) where
 
   -- n_p
   abbrev cells : ℕ
-  cells = count (chainCells sheet) dimension
+  cells = count (sectionsOf sheet) dimension
 
   granted : Granted (asked entered) (Coordinates number) sizes
   granted =

@@ -13,7 +13,7 @@ use Rattle.lists.specs.Splice.{splice, splices}
 use Rattle.lists.specs.SpliceLaws.{take-splice-zero}
 use Rattle.reports.specs.Report.{kind}
 use Rattle.reports.specs.ReportLaws.{length-reported-le, length-coordinateList}
-use Rattle.reports.specs.Host.{numbersBytes}
+use Rattle.host_calls.specs.Bytes.{numbersBytes}
 use Rattle.limits.specs.Limits.{hostLimit}
 use Rattle.writers.specs.Written.{stateIn}
 use Rattle.writers.specs.Written.{WrittenFrom, coordinatesOf}

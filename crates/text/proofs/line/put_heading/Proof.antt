@@ -5,7 +5,7 @@ use lib.IntN.{ℤ}
 use borrow.Author.Needs.{needs}
 use mir.Syntax.{w64}
 use mir.Facts.{toZ-pos}
-use Rattle.reports.specs.Text.{decimal}
+use Rattle.program_text.specs.Text.{decimal}
 use Rattle.text.specs.Put.{PutsWithin}
 use Rattle.text.specs.Room.{numberRoom}
 use Rattle.text.proofs.Heading.{heading-put}

@@ -6,7 +6,7 @@ use lib.IntN.{ℤ, pos}
 use borrow.Author.Needs.{needs}
 use mir.Syntax.{w64}
 use mir.Facts.{toZ-pos}
-use Rattle.reports.specs.Text.{line}
+use Rattle.program_text.specs.Text.{line}
 use Rattle.text.specs.Put.{PutsWithin}
 use Rattle.text.specs.Room.{lineRoom}
 use Rattle.text.proofs.line.put_refusal.Statement.{statement}

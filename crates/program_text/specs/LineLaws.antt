@@ -11,8 +11,8 @@ use borrow.Author.Tests.{ne-eqb}
 use lib.Dec.{eqb}
 use lib.ListN.{drop}
 use lib.IntN.{ℤ, pos, negsuc}
-use Rattle.reports.specs.Text.{digits, decimal, spaced, line, refusalLine}
-use Rattle.reports.specs.DigitsLaws.{digits-small, digits-more}
+use Rattle.program_text.specs.Text.{digits, decimal, spaced, line, refusalLine}
+use Rattle.program_text.specs.DigitsLaws.{digits-small, digits-more}
 
 -- ---- the number that digits give
 

@@ -2,18 +2,18 @@
 use mathlib.Core.List.{List, [], _∷_, _++_}
 use Prim.Native.Nat.{ℕ}
 use lib.ListN.{replicate}
-use Rattle.reports.specs.Host.{HostCalled}
+use Rattle.host_calls.specs.Host.{HostCalled}
 
 -- what is asked of dimension p: the report, the coordinates of a chain in bytes, or those of a number of chains
-pub data Request : Type 0 where
-  report : Request
-  coordinatesOf : List ℕ → Request
-  listsOf : ℕ → List ℕ → Request
+pub data HostRequest : Type 0 where
+  reportOf : HostRequest
+  coordinatesOf : List ℕ → HostRequest
+  listsOf : ℕ → List ℕ → HostRequest
 
 -- a call on the hollow triangle; `output` stands as it is lent
 pub record HostCase : Type 0 where
   pub dimension : ℕ
-  pub request : Request
+  pub request : HostRequest
   pub output : List ℕ
   pub expected : HostCalled
 
@@ -36,7 +36,7 @@ abbrev wide-chain : List ℕ
 wide-chain = 0 ∷ 128 ∷ 0 ∷ 0 ∷ 0 ∷ 0 ∷ 0 ∷ 0 ∷ 0 ∷ 0 ∷ 0 ∷ 0 ∷ []
 
 -- the call is refused with the number, and the output is left alone
-abbrev refuses : ℕ → ℕ → Request → List ℕ → HostCase
+abbrev refuses : ℕ → ℕ → HostRequest → List ℕ → HostCase
 refuses number p request output = record { dimension = p; request = request; output = output; expected = record { number = number; output = output } }
 
 abbrev pub hostCases : List HostCase
@@ -44,7 +44,7 @@ hostCases =
     -- the report 1, 0, 1, -1, 1 in an output of 14 slots and 3 bytes
     record {
       dimension = 1;
-      request = report;
+      request = reportOf;
       output = nines 115;
       expected = record {
         number = 0;
@@ -84,9 +84,9 @@ hostCases =
     -- no chains
     ∷ record { dimension = 1; request = listsOf 0 []; output = nines 5; expected = record { number = 0; output = nines 5 } }
     -- the dimension exceeds 3
-    ∷ refuses 8 4 report (nines 115)
+    ∷ refuses 8 4 reportOf (nines 115)
     -- an incomplete number at the end of the output gives no slot
-    ∷ refuses 9 1 report (nines 111)
+    ∷ refuses 9 1 reportOf (nines 111)
     ∷ refuses 9 1 (coordinatesOf loop) (nines 23)
     -- a chain of 11 bytes, and one of 13
     ∷ refuses 10 1 (coordinatesOf (255 ∷ 255 ∷ 255 ∷ 255 ∷ 1 ∷ 0 ∷ 0 ∷ 0 ∷ 255 ∷ 255 ∷ 255 ∷ [])) (nines 24)

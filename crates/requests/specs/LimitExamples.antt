@@ -9,9 +9,9 @@ use Rattle.lists.specs.Tabulate.{tabulate}
 use Rattle.lists.specs.Same.{every}
 use Rattle.complexes.specs.Cell.{without, same, rises, precedes, listed}
 use Rattle.sheet_format.specs.Layout.{cellBytes, sectionBytes, sectionsBytes, start, headerBytes, layout}
-use Rattle.sheet_format.specs.Check.{countField, offsetField, cellOf, cellsOf, sectionsOf, chainCells, some, countExceeds, verticesDoNotRise, cellsDoNotRise, faceMissing, refusal}
+use Rattle.sheet_format.specs.Check.{countField, offsetField, cellOf, cellsOf, sectionsOf, some, countExceeds, verticesDoNotRise, cellsDoNotRise, faceMissing, refusal}
 use Rattle.reduction_steps.specs.Table.{rowLargest, tableLargest, tableWithin}
-use Rattle.reports.specs.Call.{coefficientExceeds}
+use Rattle.requests.specs.Chains.{coefficientExceeds}
 use Rattle.limits.specs.Limits.{libraryLimit, hostLimit, entryLimit, coefficientLimit}
 
 -- the sheet of n vertices
@@ -48,6 +48,6 @@ tests =
 
 pub limit-examples : T (every (λ x. x) tests)
 unfolding every vertices tabulate layout headerBytes start sectionsBytes sectionBytes cellBytes
-    refusal countField offsetField cellOf cellsOf sectionsOf chainCells some verticesDoNotRise cellsDoNotRise faceMissing without same rises precedes listed
+    refusal countField offsetField cellOf cellsOf sectionsOf some verticesDoNotRise cellsDoNotRise faceMissing without same rises precedes listed
     tableWithin tableLargest rowLargest coefficientExceeds
 limit-examples = tt

@@ -16,9 +16,9 @@ use lib.Seq.{ext-getD, length-take-le, getD-take, getD-drop}
 use lib.IntN.{ℤ, pos}
 use Rattle.lists.specs.Tabulate.{tabulate}
 use Rattle.lists.specs.TabulateLaws.{length-tabulate, getD-tabulate, tabulate-ext}
-use Rattle.reports.specs.Host.{coefficientAt, coefficientIn, otherLength, chainFrom}
-use Rattle.reports.specs.Lists.{chainAt, chainBytes}
-use Rattle.reports.specs.ChainsLaws.{chain-inside, length-chainAt}
+use Rattle.host_calls.specs.Bytes.{coefficientAt, coefficientIn, otherLength, chainFrom, chainBytes}
+use Rattle.requests.specs.Chains.{chainAt}
+use Rattle.requests.specs.ChainsLaws.{chain-inside, length-chainAt}
 
 module _ (m : ℕ) (chains : List ℕ) where
   pub chainFrom-whole : length chains ≡ 4 * m → chainFrom m chains ≡ tabulate m (λ i. coefficientIn chains i)

@@ -15,10 +15,10 @@ use Rattle.sheet_format.specs.Check.{refusal}
 use Rattle.sheet_format.specs.Prefix.{accepted-length, refusal-take}
 use Rattle.reduction_steps.specs.Table.{entry}
 use Rattle.reduction_steps.specs.State.{State}
 use Rattle.reports.specs.Reductions.{reduced}
 use Rattle.reports.specs.Report.{kind, reported, columnsOf, freeRank, torsionCount, reportList}
 use Rattle.limits.specs.Limits.{hostLimit}
-use Rattle.reports.specs.Text.{decimal, spaced, line, generatorLines, generatorsText, dimensionText, textFor, programText, reportText}
+use Rattle.program_text.specs.Text.{decimal, spaced, line, generatorLines, generatorsText, dimensionText, textFor, programText, reportText}
 
 pub spaced-append : (a b : List ℤ) → spaced (a ++ b) ≡ spaced a ++ spaced b
 unfolding spaced

@@ -10,7 +10,7 @@ use Prim.Native.Nat.{ℕ, zero, suc}
 use native.Mathlib.Nat.{suc-ne-zero}
 use lib.Dec.{eqb}
 use borrow.Author.Tests.{eq-eqb}
-use Rattle.sheet_format.specs.Check.{first}
+use Rattle.trials.specs.Trial.{first}
 
 -- no check tells a fault
 abbrev pub NoFault : List (ℕ × Bool) → Type 0

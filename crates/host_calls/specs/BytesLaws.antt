@@ -10,7 +10,7 @@ use lib.ListN.{length, getD, take, drop, length-append, length-drop}
 use lib.Seq.{take-at, drop-append-add, ext-getD, length-take-le, getD-take, getD-drop}
 use lib.IntN.{ℤ, pos, negsuc}
 use lib.Signed.{mag}
-use Rattle.reports.specs.Host.{lowBytes, numberBytes, numbersBytes, unsignedOf, signedOf, numberAt}
+use Rattle.host_calls.specs.Bytes.{lowBytes, numberBytes, numbersBytes, unsignedOf, signedOf, numberAt}
 
 -- ---- lengths
 

@@ -20,13 +20,13 @@ use lib.Seq.{length-take-le}
 use lib.IntN.{ℤ, pos, natAbs}
 use Rattle.matrices.specs.Sum.{sum}
 use Rattle.matrices.specs.Vector.{apply}
-use Rattle.complexes.specs.Complex.{count}
+use Rattle.complexes.specs.Complex.{Sections, count}
 use Rattle.complexes.specs.Boundary.{countBelow}
-use Rattle.sheet_format.specs.Check.{chainCells, some, first}
+use Rattle.trials.specs.Trial.{first}
+use Rattle.sheet_format.specs.Check.{some}
 use Rattle.sheet_format.specs.CheckLaws.{some-false}
-use Rattle.sheet_format.specs.FirstLaws.{absent, absent-append, orElse, first-zero, first-append}
-use Rattle.reports.specs.Call.{cycleChecks, coefficientExceeds, boundaryNotZero}
-use Rattle.reports.specs.Lists.{chainAt, cyclesChecks, chainsChecks, FirstFault}
+use Rattle.trials.specs.FirstLaws.{absent, absent-append, orElse, first-zero, first-append}
+use Rattle.requests.specs.Chains.{chainAt, coefficientExceeds, boundaryNotZero, cycleChecks, cyclesChecks, chainsChecks, FirstFault}
 
 pub coefficients-iff : (limit : ℕ) (z : List ℤ) → (coefficientExceeds limit z ≡ false) ↔ ((i : ℕ) → natAbs (getD z i (pos 0)) ≤ limit)
 unfolding coefficientExceeds
@@ -70,29 +70,29 @@ passed-next {fault} i before now k l = go (decLt k i)
     go (yes h) = before k h
     go (no h) = let last : k ≡ i = omega arith in ap fault last ∙ now
 
-module _ (limit : ℕ) (b : List ℕ) (p : ℕ) (chains : List ℤ) where
+module _ (limit : ℕ) (K : Sections) (p : ℕ) (chains : List ℤ) where
   -- the first of 11 and 12 that chain i is at fault with
   abbrev pub fault : ℕ → ℕ
-  fault i = first (cycleChecks limit b p (chainAt (count (chainCells b) p) chains i))
+  fault i = first (cycleChecks limit K p (chainAt (count K p) chains i))
 
-  cycles-absent : (k : ℕ) → absent k ((11, false) ∷ (12, false) ∷ []) ≡ true → (number : ℕ) → absent k (cyclesChecks limit b p number chains) ≡ true
+  cycles-absent : (k : ℕ) → absent k ((11, false) ∷ (12, false) ∷ []) ≡ true → (number : ℕ) → absent k (cyclesChecks limit K p number chains) ≡ true
   unfolding cyclesChecks
   cycles-absent k none zero = refl
   cycles-absent k none (suc i) =
-      absent-append k (cyclesChecks limit b p i chains) (cycleChecks limit b p (chainAt (count (chainCells b) p) chains i)) (cycles-absent k none i) none
+      absent-append k (cyclesChecks limit K p i chains) (cycleChecks limit K p (chainAt (count K p) chains i)) (cycles-absent k none i) none
 
   -- one chain more
-  cycles-next : (i : ℕ) → first (cyclesChecks limit b p (suc i) chains) ≡ orElse (first (cyclesChecks limit b p i chains)) (fault i)
+  cycles-next : (i : ℕ) → first (cyclesChecks limit K p (suc i) chains) ≡ orElse (first (cyclesChecks limit K p i chains)) (fault i)
   unfolding cyclesChecks
-  cycles-next i = first-append (cyclesChecks limit b p i chains) (cycleChecks limit b p (chainAt (count (chainCells b) p) chains i)) (cycles-absent 0 refl i)
+  cycles-next i = first-append (cyclesChecks limit K p i chains) (cycleChecks limit K p (chainAt (count K p) chains i)) (cycles-absent 0 refl i)
 
-  pub cycles-passed : (number : ℕ) → ((i : ℕ) → i < number → fault i ≡ 0) → first (cyclesChecks limit b p number chains) ≡ 0
+  pub cycles-passed : (number : ℕ) → ((i : ℕ) → i < number → fault i ≡ 0) → first (cyclesChecks limit K p number chains) ≡ 0
   unfolding cyclesChecks
   cycles-passed zero h = refl
   cycles-passed (suc m) h = cycles-next m ∙ rw (cycles-passed m (λ i l. h i (omega arith)), h m (omega arith))
 
   -- the number of the first faulty chain is told
-  pub cycles-decided : (number k : ℕ) → k ≢ 0 → FirstFault fault number k → first (cyclesChecks limit b p number chains) ≡ k
+  pub cycles-decided : (number k : ℕ) → k ≢ 0 → FirstFault fault number k → first (cyclesChecks limit K p number chains) ≡ k
   cycles-decided zero k d f = absurd (omega (arith, f .within))
   cycles-decided (suc m) k d f = cycles-next m ∙ go (decLt (f .place) m) (cycles-decided m k d)
     where
@@ -100,8 +100,8 @@ module _ (limit : ℕ) (b : List ℕ) (p : ℕ) (chains : List ℤ) where
       now zero e = absurd (d (sym e))
       now (suc n) e = e
 
-      go : Dec (f .place < m) → (FirstFault fault m k → first (cyclesChecks limit b p m chains) ≡ k) → orElse (first (cyclesChecks limit b p m chains)) (fault m) ≡ k
-      go (yes l) before = now (first (cyclesChecks limit b p m chains)) (before (record { place = f .place; within = l; told = f .told; earlier = f .earlier }))
+      go : Dec (f .place < m) → (FirstFault fault m k → first (cyclesChecks limit K p m chains) ≡ k) → orElse (first (cyclesChecks limit K p m chains)) (fault m) ≡ k
+      go (yes l) before = now (first (cyclesChecks limit K p m chains)) (before (record { place = f .place; within = l; told = f .told; earlier = f .earlier }))
       go (no l) before =
           let last : f .place ≡ m = omega (arith, f .within) in
           rw (cycles-passed m (λ i h. f .earlier i (omega arith))) (ap fault (sym last) ∙ f .told)
@@ -124,58 +124,58 @@ module _ (limit : ℕ) (b : List ℕ) (p : ℕ) (chains : List ℤ) where
           at i (no l) q = let last : i ≡ m = omega arith in ap fault last ∙ e
       go (none h) (suc k) e = found (suc k) (λ z. absurd (omega arith)) (record { place = m; within = omega arith; told = e; earlier = h })
 
-  pub cycles-zero : (number : ℕ) → (first (cyclesChecks limit b p number chains) ≡ 0) ↔ ((i : ℕ) → i < number → fault i ≡ 0)
+  pub cycles-zero : (number : ℕ) → (first (cyclesChecks limit K p number chains) ≡ 0) ↔ ((i : ℕ) → i < number → fault i ≡ 0)
   cycles-zero number = (go (find number), cycles-passed number)
     where
-      go : Found number → first (cyclesChecks limit b p number chains) ≡ 0 → (i : ℕ) → i < number → fault i ≡ 0
+      go : Found number → first (cyclesChecks limit K p number chains) ≡ 0 → (i : ℕ) → i < number → fault i ≡ 0
       go (none h) e = h
       go (found k d f) e = absurd (d (sym (cycles-decided number k d f) ∙ e))
 
-  pub cycles-told : (number k : ℕ) → k ≢ 0 → (first (cyclesChecks limit b p number chains) ≡ k) ↔ FirstFault fault number k
+  pub cycles-told : (number k : ℕ) → k ≢ 0 → (first (cyclesChecks limit K p number chains) ≡ k) ↔ FirstFault fault number k
   cycles-told number k d = (go (find number), cycles-decided number k d)
     where
-      go : Found number → first (cyclesChecks limit b p number chains) ≡ k → FirstFault fault number k
+      go : Found number → first (cyclesChecks limit K p number chains) ≡ k → FirstFault fault number k
       go (none h) e = absurd (d (sym e ∙ cycles-passed number h))
       go (found j q f) e = rw (sym (cycles-decided number j q f) ∙ e) at f
 
   -- the coefficients of a chain that is not at fault
-  pub fault-small : (i : ℕ) → fault i ≡ 0 → (j : ℕ) → natAbs (getD (chainAt (count (chainCells b) p) chains i) j (pos 0)) ≤ limit
+  pub fault-small : (i : ℕ) → fault i ≡ 0 → (j : ℕ) → natAbs (getD (chainAt (count K p) chains i) j (pos 0)) ≤ limit
   fault-small i e =
-      let (narrow, _) = first-zero (cycleChecks limit b p (chainAt (count (chainCells b) p) chains i)) refl .0 e in
-      coefficients-iff limit (chainAt (count (chainCells b) p) chains i) .0 narrow
+      let (narrow, _) = first-zero (cycleChecks limit K p (chainAt (count K p) chains i)) refl .0 e in
+      coefficients-iff limit (chainAt (count K p) chains i) .0 narrow
 
   -- ---- with 10 before them
 
-  pub chains-narrow : (number : ℕ) → absent 13 (chainsChecks limit b p number chains) ≡ true
+  pub chains-narrow : (number : ℕ) → absent 13 (chainsChecks limit K p number chains) ≡ true
   unfolding chainsChecks
   chains-narrow number = cycles-absent 13 refl number
 
-  pub chains-sized : (number : ℕ) → length chains ≡ number * count (chainCells b) p → first (chainsChecks limit b p number chains) ≡ first (cyclesChecks limit b p number chains)
+  pub chains-sized : (number : ℕ) → length chains ≡ number * count K p → first (chainsChecks limit K p number chains) ≡ first (cyclesChecks limit K p number chains)
   unfolding chainsChecks
-  chains-sized number e = rw (eq-eqb (length chains) (number * count (chainCells b) p) e)
+  chains-sized number e = rw (eq-eqb (length chains) (number * count K p) e)
 
   pub chains-zero : (number : ℕ)
-      → (first (chainsChecks limit b p number chains) ≡ 0) ↔ ((length chains ≡ number * count (chainCells b) p) × ((i : ℕ) → i < number → fault i ≡ 0))
+      → (first (chainsChecks limit K p number chains) ≡ 0) ↔ ((length chains ≡ number * count K p) × ((i : ℕ) → i < number → fault i ≡ 0))
   unfolding chainsChecks
   chains-zero number = (forward, λ h. chains-sized number (h .0) ∙ cycles-passed number (h .1))
     where
       size : Bool
-      size = eqb (length chains) (number * count (chainCells b) p)
+      size = eqb (length chains) (number * count K p)
 
-      go : (t : Bool) → size ≡ t → first ((10, not t) ∷ cyclesChecks limit b p number chains) ≡ 0
-          → (length chains ≡ number * count (chainCells b) p) × ((i : ℕ) → i < number → fault i ≡ 0)
-      go true e h = (eqb-true (length chains) (number * count (chainCells b) p) e, cycles-zero number .0 h)
+      go : (t : Bool) → size ≡ t → first ((10, not t) ∷ cyclesChecks limit K p number chains) ≡ 0
+          → (length chains ≡ number * count K p) × ((i : ℕ) → i < number → fault i ≡ 0)
+      go true e h = (eqb-true (length chains) (number * count K p) e, cycles-zero number .0 h)
       go false e h = absurd (omega (arith, h))
 
-      forward : first (chainsChecks limit b p number chains) ≡ 0 → (length chains ≡ number * count (chainCells b) p) × ((i : ℕ) → i < number → fault i ≡ 0)
+      forward : first (chainsChecks limit K p number chains) ≡ 0 → (length chains ≡ number * count K p) × ((i : ℕ) → i < number → fault i ≡ 0)
       forward h = go size refl h
 
   -- ---- no cells
 
-  module _ (empty : count (chainCells b) p ≡ 0) where
+  module _ (empty : count K p ≡ 0) where
     fault-no-cells : (i : ℕ) → fault i ≡ 0
     unfolding coefficientExceeds boundaryNotZero apply sum some
-    fault-no-cells i = rw (empty, some-false (countBelow (chainCells b) p) _ .1 (λ j l. refl))
+    fault-no-cells i = rw (empty, some-false (countBelow K p) _ .1 (λ j l. refl))
 
-    pub cycles-no-cells : (number : ℕ) → first (cyclesChecks limit b p number chains) ≡ 0
+    pub cycles-no-cells : (number : ℕ) → first (cyclesChecks limit K p number chains) ≡ 0
     cycles-no-cells number = cycles-passed number (λ i l. fault-no-cells i)

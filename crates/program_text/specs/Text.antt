@@ -6,15 +6,13 @@ use lib.Dec.{ltb}
 use lib.ListN.{take, drop}
 use lib.IntN.{ℤ, pos, negsuc}
 use Rattle.lists.specs.Tabulate.{tabulate}
-use Rattle.complexes.specs.Complex.{count}
 use Rattle.sheet_format.specs.Layout.{top}
-use Rattle.sheet_format.specs.Check.{chainCells, refusal}
+use Rattle.sheet_format.specs.Check.{refusal}
 use Rattle.reduction_steps.specs.Table.{entry}
 use Rattle.reduction_steps.specs.State.{State}
-use Rattle.reduction_steps.specs.Pivot.{pivotRule}
 use Rattle.reports.specs.Reductions.{Reductions, tooWide, reduced}
 use Rattle.reports.specs.Report.{kind, reported, freeRank, torsionCount}
-use Rattle.reports.specs.Call.{reductionsOf}
+use Rattle.requests.specs.Question.{asked, cellCount, two}
 use Rattle.limits.specs.Limits.{hostLimit}
 
 -- the decimal digits of n, of which it has at most `most`
@@ -54,7 +52,7 @@ dimensionText p n (reduced s r x) =
 -- `more` dimensions from p on
 unfoldable pub dimensionsText : List ℕ → ℕ → ℕ → List ℕ
 dimensionsText b zero p = []
-dimensionsText b (suc more) p = dimensionText p (count (chainCells b) p) (reductionsOf pivotRule (chainCells b) p) ++ dimensionsText b more (suc p)
+dimensionsText b (suc more) p = dimensionText p (cellCount (asked b p)) (two (asked b p)) ++ dimensionsText b more (suc p)
 
 -- a sheet refused by 1 to 7 gives the single line `R` and the number, any other a text for each dimension
 unfoldable pub textFor : ℕ → List ℕ → List ℕ

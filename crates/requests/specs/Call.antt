@@ -1,0 +1,98 @@
+-- What a call of the library answers, and what it leaves in every slice lent to it, as a function of what went in: document 01, "The report and the
+-- coordinates"; document 02, Note 1. A call is a question and a request; a request has its checks and the lists of numbers that it writes.
+use mathlib.Core.Bool.{Bool, true, false, _||_}
+use mathlib.Core.List.{List, [], _∷_, _++_}
+use Prim.Native.Nat.{ℕ, suc, _+_, _*_, max}
+use lib.Dec.{ltb}
+use lib.ListN.{length}
+use lib.IntN.{ℤ}
+use Rattle.limits.specs.Limits.{coefficientLimit}
+use Rattle.lists.specs.Splice.{splices}
+use Rattle.trials.specs.Trial.{first, Called, concluded}
+use Rattle.complexes.specs.Complex.{Sections, count}
+use Rattle.complexes.specs.Boundary.{countBelow}
+use Rattle.sheet_format.specs.Layout.{top}
+use Rattle.sheet_format.specs.Check.{sheetChecks}
+use Rattle.reduction_steps.specs.State.{State}
+use Rattle.reports.specs.Reductions.{Reductions, tooWide, reduced}
+use Rattle.reports.specs.Report.{Counts, countsOf, reportList, coordinateList}
+use Rattle.requests.specs.Question.{Question, cells, cellCount, two}
+use Rattle.requests.specs.Chains.{chainAt, chainChecks, chainsChecks}
+
+-- ---- requests
+
+-- the report, the coordinates of a chain, or those of a number of chains, which stand one after another
+pub data Request : Type 0 where
+  report : Request
+  coordinates : List ℤ → Request
+  lists : ℕ → List ℤ → Request
+
+-- how many lists of numbers are written
+abbrev pub listCount : Request → ℕ
+listCount report = 1
+listCount (coordinates z) = 1
+listCount (lists number chains) = number
+
+module _ (q : Question) where
+  -- the slots of each list; the next list starts behind them
+  abbrev pub listSlots : Request → ℕ
+  listSlots report = 2 + cellCount q + cellCount q * cellCount q
+  listSlots (coordinates z) = cellCount q
+  listSlots (lists number chains) = cellCount q
+
+  -- the checks 10 to 12
+  abbrev pub requestChecks : Request → List (ℕ × Bool)
+  requestChecks report = []
+  requestChecks (coordinates z) = chainChecks coefficientLimit (cells q) (q .dimension) z
+  requestChecks (lists number chains) = chainsChecks coefficientLimit (cells q) (q .dimension) number chains
+
+  -- list i: s is the number of rows of Q, r the rank of the second reduction and x the state that it leaves
+  abbrev pub numbersOf : Request → ℕ → ℕ → State → ℕ → List ℤ
+  numbersOf report s r x i = reportList (cellCount q) s r x
+  numbersOf (coordinates z) s r x i = coordinateList (cellCount q) s x z
+  numbersOf (lists number chains) s r x i = coordinateList (cellCount q) s x (chainAt (cellCount q) chains i)
+
+-- ---- the checks, in the order of trial
+
+abbrev pub workSlots : Sections → ℕ → ℕ
+workSlots K p = count K p * (2 * count K p + max (countBelow K p) (count K (suc p)))
+
+-- 1 to 9, at a count limit: an output of `slots` slots and a work slice of `space` slots are wanted, and so many are lent
+unfoldable pub callChecks : ℕ → Question → ℕ → ℕ → ℕ → ℕ → List (ℕ × Bool)
+callChecks limit q slots space output work =
+    sheetChecks limit (q .sheet)
+    ++ (8, ltb top (q .dimension))
+    ∷ (9, ltb output slots || ltb work space) ∷ []
+
+-- the checks that leave every slice alone
+unfoldable pub earlyChecks : ℕ → Question → Request → ℕ → ℕ → List (ℕ × Bool)
+earlyChecks limit q request output work =
+    callChecks limit q (listCount request * listSlots q request) (workSlots (cells q) (q .dimension)) output work ++ requestChecks q request
+
+abbrev pub wentWide : Reductions → Bool
+wentWide tooWide = true
+wentWide (reduced s r x) = false
+
+-- those after which the work slice reads 0
+abbrev pub lateChecks : Reductions → List (ℕ × Bool)
+lateChecks R = (13, wentWide R) ∷ []
+
+-- ---- the call
+
+-- what f makes of two reductions that are done
+abbrev pub ofReduced : {A : Type 0} → A → (ℕ → ℕ → State → A) → Reductions → A
+ofReduced none f tooWide = none
+ofReduced none f (reduced s r x) = f s r x
+
+abbrev pub noCounts : Counts
+noCounts = record { free = 0; torsion = 0; peak = 0; bits = 0 }
+
+-- a call whose first early check that applies has the number `early`, and whose reductions come to R and leave `left` in the output
+abbrev pub callWith : {B : Type 0} → ℕ → Reductions → (ℕ → ℕ → State → List B) → List B → List ℤ → Called Counts B
+callWith early R left output work = concluded early (first (lateChecks R)) (ofReduced noCounts countsOf R) (ofReduced output left R) output work
+
+-- the call at a count limit, on a question, a request, an output slice and a work slice
+unfoldable pub call : ℕ → Question → Request → List ℤ → List ℤ → Called Counts ℤ
+call limit q request output work =
+    callWith (first (earlyChecks limit q request (length output) (length work))) (two q)
+    (λ s r x. splices (listSlots q request) (numbersOf q request s r x) (listCount request) output) output work

@@ -1,0 +1,9 @@
+-- Calls as values: a question, a request, and what the call answers and leaves. The files named `Laws` say what the definitions come to.
+pub mod Question
+pub mod Chains
+pub mod Call
+pub mod CheckLaws
+pub mod ChainsLaws
+pub mod CallLaws
+pub mod ListsLaws
+pub mod LimitExamples
