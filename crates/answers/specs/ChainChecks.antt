@@ -14,90 +14,90 @@ use Rattle.integers.specs.Order.{natAbs-zero}
 use Rattle.matrices.specs.Vector.{apply}
 use Rattle.complexes.specs.Boundary.{countBelow, boundary}
 use Rattle.trials.specs.Trial.{first}
-use Rattle.sheet_format.specs.Check.{sectionsOf, some}
+use Rattle.sheet_format.specs.Check.{some}
 use Rattle.trials.specs.FirstLaws.{first-zero, first-append-absent}
 use Rattle.sheet_format.specs.CheckLaws.{some-false}
-use Rattle.complexes.specs.Complex.{count}
+use Rattle.complexes.specs.Complex.{Sections, count}
 use Rattle.requests.specs.Chains.{chainChecks, chainLengthDiffers, coefficientExceeds, boundaryNotZero}
 use Rattle.requests.specs.ChainsLaws.{coefficients-iff}
 use Rattle.answers.specs.Homology.{IsCycle}
 use Rattle.answers.specs.Right.{slot}
-use Rattle.answers.specs.Called.{NoCycle}
+use Rattle.answers.specs.Outcome.{NoCycle}
 
 -- ---- 12
 
-cycle-iff : (b : List ℕ) (p : ℕ) (z : List ℤ) → (boundaryNotZero (sectionsOf b) p z ≡ false) ↔ IsCycle (sectionsOf b) p (slot z)
+cycle-iff : (K : Sections) (p : ℕ) (z : List ℤ) → (boundaryNotZero K p z ≡ false) ↔ IsCycle K p (slot z)
 unfolding boundaryNotZero
-cycle-iff b p z = (forward, backward)
+cycle-iff K p z = (forward, backward)
   where
     rows : ℕ
-    rows = countBelow (sectionsOf b) p
+    rows = countBelow K p
 
     value : ℕ → ℤ
-    value i = apply (count (sectionsOf b) p) (boundary (sectionsOf b) p) (slot z) i
+    value i = apply (count K p) (boundary K p) (slot z) i
 
     nonzero : ℕ → Bool
     nonzero i = not (eqb (natAbs (value i)) 0)
 
-    forward : some rows nonzero ≡ false → IsCycle (sectionsOf b) p (slot z)
+    forward : some rows nonzero ≡ false → IsCycle K p (slot z)
     forward e = record {
       vanishes = λ i l. natAbs-zero (value i) (eqb-true (natAbs (value i)) 0 (not-false (eqb (natAbs (value i)) 0) (some-false rows nonzero .0 e i l)));
     }
 
-    backward : IsCycle (sectionsOf b) p (slot z) → some rows nonzero ≡ false
+    backward : IsCycle K p (slot z) → some rows nonzero ≡ false
     backward c = some-false rows nonzero .1 (λ i l. ap (λ (t : ℤ). not (eqb (natAbs t) 0)) (c .vanishes i l))
 
 -- ---- the three
 
-pub record ChainPasses (limit : ℕ) (b : List ℕ) (p : ℕ) (z : List ℤ) : Type 0 where
-  pub size : length z ≡ count (sectionsOf b) p
+pub record ChainPasses (limit : ℕ) (K : Sections) (p : ℕ) (z : List ℤ) : Type 0 where
+  pub size : length z ≡ count K p
   pub small : (i : ℕ) → natAbs (slot z i) ≤ limit
-  pub cycle : IsCycle (sectionsOf b) p (slot z)
+  pub cycle : IsCycle K p (slot z)
 
-size-iff : (b : List ℕ) (p : ℕ) (z : List ℤ) → (chainLengthDiffers (sectionsOf b) p z ≡ false) ↔ (length z ≡ count (sectionsOf b) p)
-size-iff b p z = (
-  λ e. eqb-true (length z) (count (sectionsOf b) p) (not-false (eqb (length z) (count (sectionsOf b) p)) e),
-  λ e. ap not (eq-eqb (length z) (count (sectionsOf b) p) e),
+size-iff : (K : Sections) (p : ℕ) (z : List ℤ) → (chainLengthDiffers K p z ≡ false) ↔ (length z ≡ count K p)
+size-iff K p z = (
+  λ e. eqb-true (length z) (count K p) (not-false (eqb (length z) (count K p)) e),
+  λ e. ap not (eq-eqb (length z) (count K p) e),
 )
 
-pub chain-passes : (limit : ℕ) (b : List ℕ) (p : ℕ) (z : List ℤ) → first (chainChecks limit b p z) ≡ 0 → ChainPasses limit b p z
+pub chain-passes : (limit : ℕ) (K : Sections) (p : ℕ) (z : List ℤ) → first (chainChecks limit K p z) ≡ 0 → ChainPasses limit K p z
 unfolding chainChecks
-chain-passes limit b p z e =
-    let (size, (small, (cycle, _))) = first-zero (chainChecks limit b p z) refl .0 e in
-    record { size = size-iff b p z .0 size; small = coefficients-iff limit z .0 small; cycle = cycle-iff b p z .0 cycle }
+chain-passes limit K p z e =
+    let (size, (small, (cycle, _))) = first-zero (chainChecks limit K p z) refl .0 e in
+    record { size = size-iff K p z .0 size; small = coefficients-iff limit z .0 small; cycle = cycle-iff K p z .0 cycle }
 
-pub not-a-cycle-iff : (limit : ℕ) (b : List ℕ) (p : ℕ) (z : List ℤ) → (first (chainChecks limit b p z) ≡ 12) ↔ NoCycle limit (sectionsOf b) p z
+pub not-a-cycle-iff : (limit : ℕ) (K : Sections) (p : ℕ) (z : List ℤ) → (first (chainChecks limit K p z) ≡ 12) ↔ NoCycle limit K p z
 unfolding chainChecks
-not-a-cycle-iff limit b p z = (forward, backward)
+not-a-cycle-iff limit K p z = (forward, backward)
   where
     -- the checks before 12
     earlier : List (ℕ × Bool)
-    earlier = (10, chainLengthDiffers (sectionsOf b) p z) ∷ (11, coefficientExceeds limit z) ∷ []
+    earlier = (10, chainLengthDiffers K p z) ∷ (11, coefficientExceeds limit z) ∷ []
 
     last : Bool → List (ℕ × Bool)
     last t = (12, t) ∷ []
 
-    forward : first (chainChecks limit b p z) ≡ 12 → NoCycle limit (sectionsOf b) p z
+    forward : first (chainChecks limit K p z) ≡ 12 → NoCycle limit K p z
     forward e =
-        let k = first-append-absent earlier (last (boundaryNotZero (sectionsOf b) p z)) refl 12 refl e in
+        let k = first-append-absent earlier (last (boundaryNotZero K p z)) refl 12 refl e in
         let (size, (small, _)) = first-zero earlier refl .0 (k .0) in
         record {
-          size = size-iff b p z .0 size;
+          size = size-iff K p z .0 size;
           small = coefficients-iff limit z .0 small;
-          no-cycle = λ c. zero≢twelve (sym (ap (λ (t : Bool). first (last t)) (cycle-iff b p z .1 c)) ∙ k .1);
+          no-cycle = λ c. zero≢twelve (sym (ap (λ (t : Bool). first (last t)) (cycle-iff K p z .1 c)) ∙ k .1);
         }
       where
         zero≢twelve : _≡_ {A = ℕ} 0 12 → ⊥
         zero≢twelve h = omega arith
 
-    told : NoCycle limit (sectionsOf b) p z → (t : Bool) → boundaryNotZero (sectionsOf b) p z ≡ t → t ≡ true
+    told : NoCycle limit K p z → (t : Bool) → boundaryNotZero K p z ≡ t → t ≡ true
     told h true e = refl
-    told h false e = absurd (h .no-cycle (cycle-iff b p z .0 e))
+    told h false e = absurd (h .no-cycle (cycle-iff K p z .0 e))
 
-    backward : NoCycle limit (sectionsOf b) p z → first (chainChecks limit b p z) ≡ 12
+    backward : NoCycle limit K p z → first (chainChecks limit K p z) ≡ 12
     backward h =
         rw (
-          size-iff b p z .1 (h .size),
+          size-iff K p z .1 (h .size),
           coefficients-iff limit z .1 (h .small),
-          told h (boundaryNotZero (sectionsOf b) p z) refl,
+          told h (boundaryNotZero K p z) refl,
         )

@@ -1,112 +1,115 @@
--- The report call at the host limit. Once done it gives no more numbers than the slots that check 9 asks for (report-sized).
--- Where a host call has its room, an accepted sheet is refused only as too wide (accepted-passes, accepted-refused).
-use mathlib.Core.Path.{_≡_}
-use mathlib.Core.List.{List}
-use Prim.Native.Nat.{ℕ, zero, suc, _+_, _*_, _≤_, max}
-use native.Mathlib.Nat.{mul-le-mul, mul-le-mul-right, max-le}
+-- The host's report call and the program have room for every report: how many numbers it has (report-sized), that nothing is refused early on an accepted
+-- sheet (accepted-passes), so that a refusal is 13 (accepted-refused).
+use mathlib.Core.Path.{_≡_, refl, sym, _∙_, ap}
+use mathlib.Core.Logic.{_≢_}
+use mathlib.Core.List.{List, []}
+use Prim.Native.Nat.{ℕ, zero, suc, _+_, _*_, _≤_}
+use native.Mathlib.Nat.{suc-ne-zero, mul-le-mul-right}
 use native.Mathlib.Omega.{arith}
 use lib.ListN.{length}
 use lib.IntN.{ℤ}
-use Rattle.complexes.specs.Complex.{count}
-use Rattle.complexes.specs.Boundary.{countBelow}
-use Rattle.sheet_format.specs.Layout.{top}
-use Rattle.trials.specs.Trial.{first}
-use Rattle.sheet_format.specs.Check.{sectionsOf, refusal}
-use Rattle.sheet_format.specs.Sheet.{Bytes}
-use Rattle.reduction_steps.specs.Pivot.{pivotRule}
-use Rattle.reports.specs.Report.{Counts, kind, torsionCount, reportList, coordinateList}
-use Rattle.reports.specs.ReportLaws.{length-reported-le}
-use Rattle.reports.specs.Reductions.{tooWide}
-use Rattle.trials.specs.Trial.{done, refused}
-use Rattle.reports.specs.Call.{reportSlots, reportCall}
-use Rattle.requests.specs.Call.{workSlots, callChecks}
-use Rattle.reports.specs.Reductions.{reductionsOf}
 use Rattle.limits.specs.Limits.{hostLimit}
-use Rattle.requests.specs.CheckLaws.{Passed, callChecks-zero}
-use Rattle.requests.specs.CallLaws.{ReducedWith, CallRefused, earlier, wide, call-refused}
-use Rattle.host_calls.specs.HostCallLaws.{reportRoom, workRoom, counts-within}
+use Rattle.trials.specs.Trial.{first, done, refused, Called}
+use Rattle.trials.specs.TrialLaws.{refused≢done}
+use Rattle.sheet_format.specs.Layout.{top}
+use Rattle.sheet_format.specs.Check.{refusal}
+use Rattle.sheet_format.specs.Sheet.{Bytes}
+use Rattle.reduction_steps.specs.State.{State}
+use Rattle.reports.specs.Reductions.{Reductions, tooWide, reduced}
+use Rattle.reports.specs.Report.{Counts, countsOf, freeRank, torsionCount, reportList, coordinateList}
+use Rattle.requests.specs.Question.{Question, cells, cellCount, two}
+use Rattle.requests.specs.Call.{report, coordinates, listSlots, numbersOf, earlyChecks, callWith, call}
+use Rattle.lists.specs.Splice.{splices}
+use Rattle.requests.specs.CallLaws.{early-iff}
+use Rattle.host_calls.specs.HostCallLaws.{reportRoom, workRoom, counts-within, report-room, work-room}
+use Rattle.answers.specs.Right.{reportLength}
 use Rattle.answers.specs.Numbers.{report-length, coordinates-length}
-use Rattle.answers.specs.Calls.{Answered}
-use Rattle.answers.specs.ReportCall.{reportBefore, reportLeft, report-answered}
+use Rattle.answers.specs.Behind.{Behind}
+use Rattle.answers.specs.ListLaws.{width-fits}
+use Rattle.answers.specs.CallRight.{Answered, done-number, answered, called-is}
 
--- the numbers of a report
-abbrev pub reportNumbersOf : List ℕ → ℕ → Counts → ℕ
-reportNumbersOf b p counts = 2 + counts .torsion + (counts .torsion + counts .free) * count (sectionsOf b) p
+-- the question, whose sheet is accepted, has these counts
+pub record Sized (q : Question) (counts : Counts) : Type 0 where
+  pub reductions-behind : Behind q
+  pub counts-are : counts ≡ countsOf (reductions-behind .rows) (reductions-behind .rank) (reductions-behind .state)
+  pub cells-within : cellCount q ≤ hostLimit
+  pub total-within : counts .torsion + counts .free ≤ cellCount q
+  pub report-size : length (reportList (cellCount q) (reductions-behind .rows) (reductions-behind .rank) (reductions-behind .state))
+      ≡ reportLength (cells q) (q .dimension) (counts .free) (counts .torsion)
+  pub coordinates-size : (z : List ℤ) → length (coordinateList (cellCount q) (reductions-behind .rows) (reductions-behind .state) z) ≡ counts .torsion + counts .free
 
--- dimension p of the sheet b, which is accepted, has these counts
-pub record Sized (b : List ℕ) (p : ℕ) (counts : Counts) : Type 0 where
-  pub counted : ReducedWith (reductionsOf pivotRule (sectionsOf b) p) counts
-  pub cells-within : count (sectionsOf b) p ≤ hostLimit
-  pub total-within : counts .torsion + counts .free ≤ count (sectionsOf b) p
-  pub report-size : length (reportList (count (sectionsOf b) p) (counted .rows) (counted .rank) (counted .state)) ≡ reportNumbersOf b p counts
-  pub coordinates-size : (z : List ℤ) → length (coordinateList (count (sectionsOf b) p) (counted .rows) (counted .state) z) ≡ counts .torsion + counts .free
+-- a report call that is done, with an output of so many slots
+pub record ReportSized (q : Question) (slots : ℕ) (counts : Counts) : Type 0 where
+  pub is-sized : Sized q counts
+  pub fits : reportLength (cells q) (q .dimension) (counts .free) (counts .torsion) ≤ slots
 
-sized : (b : List ℕ) (p before : ℕ) (counts : Counts) → refusal hostLimit b ≡ 0 → Answered pivotRule (sectionsOf b) p before counts → Sized b p counts
-unfolding torsionCount
-sized b p before counts accepted d =
-    let c = d .counted in record {
-      counted = c;
-      cells-within = counts-within b accepted p;
-      total-within = omega (arith, c .free, c .torsion, length-reported-le (kind (c .state)) (c .rank), d .right .rank-bound, d .right .rows-bound);
-      report-size = cc (report-length (d .right), c .torsion, c .free);
-      coordinates-size = λ z. cc (coordinates-length (d .right) z, c .torsion, c .free);
-    }
+module _ (q : Question) (bytes : Bytes (q .sheet)) (output work : List ℤ) (counts : Counts) (e : call hostLimit q report output work .answer ≡ done counts) where
+  abbrev A : Answered hostLimit q report (length output) (length work)
+  A = answered hostLimit q report output work bytes (done-number e)
 
--- the report's numbers fit where all that check 9 asks for do
-pub numbers-fit : {b : List ℕ} {p : ℕ} {counts : Counts} → Sized b p counts → reportNumbersOf b p counts ≤ reportSlots (sectionsOf b) p
-numbers-fit {b} {p} s = omega (arith, s .total-within, mul-le-mul-right (count (sectionsOf b) p) (s .total-within))
+  abbrev B : Behind q
+  B = A .reductions-behind
 
--- a report call that is done, with this report slice
-pub record ReportSized (b : List ℕ) (p : ℕ) (report : List ℤ) (counts : Counts) : Type 0 where
-  pub is-sized : Sized b p counts
-  pub fits : reportNumbersOf b p counts ≤ length report
+  counts-are : counts ≡ countsOf (B .rows) (B .rank) (B .state)
+  counts-are =
+      let same : done counts ≡ done (countsOf (B .rows) (B .rank) (B .state)) =
+          sym e ∙ ap (λ (c : Called Counts ℤ). c .answer) (called-is hostLimit q report output work bytes (done-number e)) in
+      cc
 
-module _ (b : List ℕ) (bytes : Bytes b) (p : ℕ) where
-  pub report-sized : (report work : List ℤ) (counts : Counts) → reportCall hostLimit b p report work .answer ≡ done counts → ReportSized b p report counts
-  report-sized report work counts e = record { is-sized = s; fits = omega (arith, numbers-fit s, h .output-slots) }
-    where
-      d : Answered pivotRule (sectionsOf b) p (reportBefore hostLimit b p report work) counts
-      d = report-answered hostLimit b p report work bytes e
+  free-is : counts .free ≡ freeRank (B .rows) (B .rank)
+  free-is = ap (λ (c : Counts). c .free) counts-are
 
-      h : Passed hostLimit b p reportSlots (length report) (length work)
-      h = callChecks-zero hostLimit b p reportSlots (length report) (length work) .0 (d .passes)
+  torsion-is : counts .torsion ≡ torsionCount (B .rank) (B .state)
+  torsion-is = ap (λ (c : Counts). c .torsion) counts-are
 
-      s : Sized b p counts
-      s = sized b p (reportBefore hostLimit b p report work) counts (h .accepted) d
+  total-within : counts .torsion + counts .free ≤ cellCount q
+  total-within = omega (arith, free-is, torsion-is, width-fits q (B .right) (coordinates []))
+
+  report-size : length (reportList (cellCount q) (B .rows) (B .rank) (B .state)) ≡ reportLength (cells q) (q .dimension) (counts .free) (counts .torsion)
+  report-size = cc (report-length (B .right), free-is, torsion-is)
+
+  pub report-sized : ReportSized q (length output) counts
+  report-sized = record {
+    is-sized = record {
+      reductions-behind = B;
+      counts-are = counts-are;
+      cells-within = counts-within q (A .passed .accepted) (q .dimension);
+      total-within = total-within;
+      report-size = report-size;
+      coordinates-size = λ z. cc (coordinates-length (B .right) z, free-is, torsion-is);
+    };
+    fits = omega (arith, total-within, mul-le-mul-right (cellCount q) total-within, A .passed .output-slots);
+  }
 
 -- ---- an accepted sheet, where a host call has its room
 
--- dimension p goes too wide, and k is the number for that
-pub record WentWide (b : List ℕ) (p k : ℕ) : Type 0 where
-  pub is-wide : reductionsOf pivotRule (sectionsOf b) p ≡ tooWide
+-- the question goes too wide, and k is the number for that
+pub record WentWide (q : Question) (k : ℕ) : Type 0 where
+  pub is-wide : two q ≡ tooWide
   pub number-is : k ≡ 13
 
-module _ (b : List ℕ) (accepted : refusal hostLimit b ≡ 0) where
-  rows-within : (p : ℕ) → countBelow (sectionsOf b) p ≤ hostLimit
-  unfolding countBelow
-  rows-within zero = omega arith
-  rows-within (suc p) = counts-within b accepted p
-
-  work-within : (p : ℕ) → workSlots (sectionsOf b) p ≤ workRoom
-  work-within p = mul-le-mul (counts-within b accepted p) beside
-    where
-      beside : 2 * count (sectionsOf b) p + max (countBelow (sectionsOf b) p) (count (sectionsOf b) (suc p)) ≤ 3 * hostLimit
-      beside = omega (arith, counts-within b accepted p, max-le (rows-within p) (counts-within b accepted (suc p)))
-
-  module _ (p : ℕ) (dimension : p ≤ top) (report work : List ℤ) (size : length report ≡ reportRoom) (space : length work ≡ workRoom) where
-    pub accepted-passes : first (callChecks hostLimit b p reportSlots (length report) (length work)) ≡ 0
-    accepted-passes =
-        callChecks-zero hostLimit b p reportSlots (length report) (length work) .1 (record {
+module _ (q : Question) (accepted : refusal hostLimit (q .sheet) ≡ 0) (dimension : q .dimension ≤ top) (output work : List ℤ) (size : length output ≡ reportRoom)
+    (space : length work ≡ workRoom) where
+  pub accepted-passes : first (earlyChecks hostLimit q report (length output) (length work)) ≡ 0
+  accepted-passes =
+      early-iff hostLimit q report (length output) (length work) .1 (
+        record {
           accepted = accepted;
           dimension = dimension;
-          output-slots = omega (arith, size, counts-within b accepted p, mul-le-mul (counts-within b accepted p) (counts-within b accepted p));
-          work-slots = omega (arith, space, work-within p);
-        })
+          output-slots = omega (arith, size, report-room q accepted);
+          work-slots = omega (arith, space, work-room q accepted);
+        },
+        refl,
+      )
 
-    pub accepted-refused : (k : ℕ) → reportCall hostLimit b p report work .answer ≡ refused k → WentWide b p k
-    unfolding reportCall
-    accepted-refused k e = go (call-refused (reportBefore hostLimit b p report work) (reductionsOf pivotRule (sectionsOf b) p) (reportLeft hostLimit b p report work) report work k e)
-      where
-        go : CallRefused (reportBefore hostLimit b p report work) (reductionsOf pivotRule (sectionsOf b) p) k → WentWide b p k
-        go (earlier e d) = absurd (d (omega (arith, e, accepted-passes)))
-        go (wide z e t) = record { is-wide = e; number-is = t }
+  pub accepted-refused : (k : ℕ) → call hostLimit q report output work .answer ≡ refused k → WentWide q k
+  unfolding call
+  accepted-refused k e = go (first (earlyChecks hostLimit q report (length output) (length work))) (two q) accepted-passes refl e
+    where
+      left : ℕ → ℕ → State → List ℤ
+      left s r x = splices (listSlots q report) (numbersOf q report s r x) 1 output
+
+      go : (n : ℕ) (R : Reductions) → n ≡ 0 → two q ≡ R → callWith n R left output work .answer ≡ refused k → WentWide q k
+      go (suc n) R z f e = absurd (suc-ne-zero n z)
+      go zero tooWide z f e = record { is-wide = f; number-is = cc }
+      go zero (reduced s r x) z f e = absurd (refused≢done (sym e))

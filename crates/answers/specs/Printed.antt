@@ -3,23 +3,21 @@ use mathlib.Core.Path.{_≡_}
 use mathlib.Core.List.{List, [], _++_}
 use Prim.Native.Nat.{ℕ, zero, suc, _+_, _≤_}
 use lib.IntN.{ℤ}
-use Rattle.complexes.specs.Complex.{count}
-use Rattle.sheet_format.specs.Layout.{top}
-use Rattle.sheet_format.specs.Check.{sectionsOf}
-use Rattle.reduction_steps.specs.Pivot.{pivotRule}
-use Rattle.limits.specs.Limits.{hostLimit, entryLimit}
-use Rattle.reports.specs.Report.{Counts}
+use Rattle.limits.specs.Limits.{hostLimit}
 use Rattle.trials.specs.Trial.{done}
-use Rattle.reports.specs.Call.{reportCall}
+use Rattle.sheet_format.specs.Layout.{top}
+use Rattle.reports.specs.Report.{Counts}
+use Rattle.requests.specs.Question.{asked, cellCount}
+use Rattle.requests.specs.Call.{report, call}
 use Rattle.program_text.specs.Text.{refusalLine, reportText, programText}
-use Rattle.answers.specs.Wide.{GoesWide}
+use Rattle.answers.specs.Outcome.{TooWide}
 
 -- the text of dimension p: `R 13` where the reduction goes too wide, else the text of the report that a report call at the same count limit leaves
 pub data DimensionPrinted (b : List ℕ) (p : ℕ) (text : List ℕ) : Type 0 where
-  too-wide : GoesWide entryLimit pivotRule (sectionsOf b) p → text ≡ refusalLine 13 → DimensionPrinted b p text
+  too-wide : TooWide (asked b p) → text ≡ refusalLine 13 → DimensionPrinted b p text
   reports :
-      (report work : List ℤ) (counts : Counts) → reportCall hostLimit b p report work .answer ≡ done counts →
-      text ≡ reportText p (count (sectionsOf b) p) (counts .torsion) (counts .torsion + counts .free) (reportCall hostLimit b p report work .output) →
+      (output work : List ℤ) (counts : Counts) → call hostLimit (asked b p) report output work .answer ≡ done counts →
+      text ≡ reportText p (cellCount (asked b p)) (counts .torsion) (counts .torsion + counts .free) (call hostLimit (asked b p) report output work .output) →
       DimensionPrinted b p text
 
 -- the first n texts, one after another

@@ -8,38 +8,32 @@ use native.Mathlib.Nat.{add-zero, zero-add}
 use native.Mathlib.Omega.{arith}
 use lib.ListN.{length, drop, replicate, length-replicate}
 use lib.IntN.{ℤ, pos}
-use Rattle.complexes.specs.Complex.{count}
+use Rattle.limits.specs.Limits.{hostLimit}
+use Rattle.lists.specs.Splice.{written, splices}
+use Rattle.lists.specs.SplicesLaws.{splices-single}
+use Rattle.trials.specs.Trial.{first, done, Called, cleared}
 use Rattle.complexes.specs.ChainComplex.{ChainComplex}
 use Rattle.sheet_format.specs.Layout.{top}
-use Rattle.trials.specs.Trial.{first}
-use Rattle.sheet_format.specs.Check.{sectionsOf, refusal}
+use Rattle.sheet_format.specs.Check.{refusal}
 use Rattle.sheet_format.specs.Sheet.{Bytes}
 use Rattle.sheet_format.specs.Accept.{accepted-chains}
 use Rattle.reduction_steps.specs.State.{State}
-use Rattle.reduction_steps.specs.Pivot.{pivotRule}
-use Rattle.reduction_steps.specs.PivotLaws.{pivotRule-is-rule}
 use Rattle.reports.specs.Reductions.{Reductions, tooWide, reduced}
-use Rattle.reports.specs.Report.{kind, reported, freeRank, torsionCount, countsOf, reportList}
+use Rattle.reports.specs.Report.{Counts, kind, reported, freeRank, torsionCount, countsOf, reportList}
 use Rattle.reports.specs.ReportLaws.{length-coordinateList}
-use Rattle.requests.specs.CheckLaws.{callChecks-zero}
-use Rattle.requests.specs.CallLaws.{numbersLeft, call-answer, call-output}
-use Rattle.trials.specs.Trial.{done}
-use Rattle.lists.specs.Splice.{written}
-use Rattle.reports.specs.Call.{reportSlots, reportCall}
-use Rattle.requests.specs.Call.{workSlots, callChecks}
-use Rattle.reports.specs.Reductions.{reductionsOf}
-use Rattle.limits.specs.Limits.{hostLimit}
+use Rattle.requests.specs.Question.{Question, asked, cells, cellCount, two}
+use Rattle.requests.specs.Call.{report, listSlots, numbersOf, workSlots, earlyChecks, call}
+use Rattle.requests.specs.CallLaws.{with-done, early-iff}
 use Rattle.program_text.specs.Text.{line, refusalLine, generatorLines, reportText, dimensionText, dimensionsText, textFor, programText}
 use Rattle.program_text.specs.TextLaws.{reportText-reportList}
 use Rattle.program_text.specs.LineLaws.{refusalLine-injective, feeds, feeds-append, feeds-line}
 use Rattle.answers.specs.Printed.{DimensionPrinted, too-wide, reports, inTurn, DimensionsPrinted}
-use Rattle.answers.specs.TwoReductions.{Right}
 use Rattle.answers.specs.Numbers.{coordinates-length}
-use Rattle.answers.specs.Calls.{reductionsOf-wide, reductionsOf-right}
+use Rattle.answers.specs.Behind.{two-right, two-wide}
 
 -- the text of dimension p
 abbrev textOf : List ℕ → ℕ → List ℕ
-textOf b p = dimensionText p (count (sectionsOf b) p) (reductionsOf pivotRule (sectionsOf b) p)
+textOf b p = dimensionText p (cellCount (asked b p)) (two (asked b p))
 
 turns : (b : List ℕ) (more p : ℕ) → inTurn (p + more) (textOf b) ≡ inTurn p (textOf b) ++ dimensionsText b more p
 unfolding inTurn dimensionsText
@@ -59,56 +53,57 @@ turns-all b = ap (λ (k : ℕ). inTurn k (textOf b)) (sym (zero-add (suc top))) 
 -- ---- one dimension
 
 module _ (b : List ℕ) (bytes : Bytes b) (accepted : refusal hostLimit b ≡ 0) where
-  chains : ChainComplex hostLimit (sectionsOf b)
-  chains = accepted-chains hostLimit b bytes accepted
-
   module _ (p : ℕ) where
-    abbrev n : ℕ
-    n = count (sectionsOf b) p
+    abbrev q : Question
+    q = asked b p
+
+    chains : ChainComplex hostLimit (cells q)
+    unfolding cells
+    chains = accepted-chains hostLimit b bytes accepted
 
     -- slices as long as check 9 wants
-    abbrev report : List ℤ
-    report = replicate (reportSlots (sectionsOf b) p) (pos 0)
+    abbrev output : List ℤ
+    output = replicate (listSlots q report) (pos 0)
 
     abbrev work : List ℤ
-    work = replicate (workSlots (sectionsOf b) p) (pos 0)
+    work = replicate (workSlots (cells q) p) (pos 0)
 
-    passes : p ≤ top → first (callChecks hostLimit b p reportSlots (length report) (length work)) ≡ 0
+    passes : p ≤ top → first (earlyChecks hostLimit q report (length output) (length work)) ≡ 0
     passes h =
-        callChecks-zero hostLimit b p reportSlots (length report) (length work) .1 (record {
-          accepted = accepted;
-          dimension = h;
-          output-slots = omega (arith, length-replicate (reportSlots (sectionsOf b) p) (pos 0));
-          work-slots = omega (arith, length-replicate (workSlots (sectionsOf b) p) (pos 0));
-        })
+        early-iff hostLimit q report (length output) (length work) .1 (
+          record {
+            accepted = accepted;
+            dimension = h;
+            output-slots = omega (arith, length-replicate (listSlots q report) (pos 0));
+            work-slots = omega (arith, length-replicate (workSlots (cells q) p) (pos 0));
+          },
+          refl,
+        )
 
-    module _ (h : p ≤ top) (s r : ℕ) (x : State) (e : reductionsOf pivotRule (sectionsOf b) p ≡ reduced s r x) where
+    module _ (h : p ≤ top) (s r : ℕ) (x : State) (e : two q ≡ reduced s r x) where
       abbrev left : ℕ → ℕ → State → List ℤ
-      left = numbersLeft (λ s r x. reportList n s r x) report
+      left s r x = splices (listSlots q report) (numbersOf q report s r x) 1 output
 
-      report-done : reportCall hostLimit b p report work .answer ≡ done (countsOf s r x)
-      unfolding reportCall
-      report-done = call-answer (first (callChecks hostLimit b p reportSlots (length report) (length work))) (reductionsOf pivotRule (sectionsOf b) p) left report work (passes h) s r x e
+      called : call hostLimit q report output work ≡ record { answer = done (countsOf s r x); output = left s r x; work = cleared work }
+      unfolding call
+      called = with-done (first (earlyChecks hostLimit q report (length output) (length work))) (two q) left output work (passes h) s r x e
 
-      report-left : reportCall hostLimit b p report work .output ≡ written (reportList n s r x) report
-      unfolding reportCall
-      report-left = call-output (first (callChecks hostLimit b p reportSlots (length report) (length work))) (reductionsOf pivotRule (sectionsOf b) p) left report work (passes h) s r x e
+      report-left : call hostLimit q report output work .output ≡ written (reportList (cellCount q) s r x) output
+      report-left = ap (λ (c : Called Counts ℤ). c .output) called ∙ splices-single (listSlots q report) (numbersOf q report s r x) output
 
       -- the numbers of the report give the text
-      report-text : dimensionText p n (reduced s r x)
-          ≡ reportText p n (torsionCount r x) (torsionCount r x + freeRank s r) (reportCall hostLimit b p report work .output)
+      report-text : dimensionText p (cellCount q) (reduced s r x)
+          ≡ reportText p (cellCount q) (torsionCount r x) (torsionCount r x + freeRank s r) (call hostLimit q report output work .output)
       report-text =
-          sym (reportText-reportList p n s r x (drop (length (reportList n s r x)) report))
-          ∙ ap (λ (l : List ℤ). reportText p n (torsionCount r x) (length (reported (kind x) s)) l) (sym report-left)
-          ∙ ap (λ (k : ℕ). reportText p n (torsionCount r x) k (reportCall hostLimit b p report work .output)) (sym (length-coordinateList n s x []) ∙ coordinates-length right [])
-        where
-          right : Right (sectionsOf b) p s r x
-          right = reductionsOf-right pivotRule-is-rule (sectionsOf b) p chains s r x e
+          sym (reportText-reportList p (cellCount q) s r x (drop (length (reportList (cellCount q) s r x)) output))
+          ∙ ap (λ (l : List ℤ). reportText p (cellCount q) (torsionCount r x) (length (reported (kind x) s)) l) (sym report-left)
+          ∙ ap (λ (k : ℕ). reportText p (cellCount q) (torsionCount r x) k (call hostLimit q report output work .output))
+          (sym (length-coordinateList (cellCount q) s x []) ∙ coordinates-length (two-right q chains s r x e) [])
 
-    printed : p ≤ top → (R : Reductions) → reductionsOf pivotRule (sectionsOf b) p ≡ R → DimensionPrinted b p (dimensionText p n R)
+    printed : p ≤ top → (R : Reductions) → two q ≡ R → DimensionPrinted b p (dimensionText p (cellCount q) R)
     unfolding dimensionText
-    printed h tooWide e = too-wide (reductionsOf-wide pivotRule-is-rule (sectionsOf b) p chains .0 e) refl
-    printed h (reduced s r x) e = reports report work (countsOf s r x) (report-done h s r x e) (report-text h s r x e)
+    printed h tooWide e = too-wide (two-wide q chains .0 e) refl
+    printed h (reduced s r x) e = reports output work (countsOf s r x) (ap (λ (c : Called Counts ℤ). c .answer) (called h s r x e)) (report-text h s r x e)
 
   -- ---- all dimensions
 
@@ -117,7 +112,7 @@ module _ (b : List ℕ) (bytes : Bytes b) (accepted : refusal hostLimit b ≡ 0)
   dimensions-printed = record {
     texts = textOf b;
     in-turn = ap (λ (k : ℕ). textFor k b) accepted ∙ sym (turns-all b);
-    each = λ p l. printed p l (reductionsOf pivotRule (sectionsOf b) p) refl;
+    each = λ p l. printed p l (two (asked b p)) refl;
   }
 
 -- ---- a refused sheet
@@ -140,7 +135,7 @@ turns-feeds : (b : List ℕ) (n : ℕ) → n ≤ feeds (inTurn n (textOf b))
 unfolding inTurn
 turns-feeds b zero = omega arith
 turns-feeds b (suc n) =
-    omega (arith, turns-feeds b n, text-feeds n (count (sectionsOf b) n) (reductionsOf pivotRule (sectionsOf b) n), feeds-append (inTurn n (textOf b)) (textOf b n))
+    omega (arith, turns-feeds b n, text-feeds n (cellCount (asked b n)) (two (asked b n)), feeds-append (inTurn n (textOf b)) (textOf b n))
 
 module _ (b : List ℕ) where
   accepted-other : refusal hostLimit b ≡ 0 → (k : ℕ) → programText b ≢ refusalLine k

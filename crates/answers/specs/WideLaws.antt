@@ -21,7 +21,7 @@ use Rattle.answers.specs.TwoReductions.{first-reduced}
 
 module _ (limit : ℕ) (rule : Rule) where
   -- the reduction leads from its start to its outcome
-  reaches-outcome : (z : Sizes) (s : State) (y : Machine) → reduce limit z rule s ≡ y → Reaches limit z rule (at a 0 s) y
+  pub reaches-outcome : (z : Sizes) (s : State) (y : Machine) → reduce limit z rule s ≡ y → Reaches limit z rule (at a 0 s) y
   unfolding reduce
   reaches-outcome z s y e = record { steps = enough limit z; leads = e }
 
@@ -38,7 +38,7 @@ module _ {most : ℕ} {K : Sections} (chains : ChainComplex most K) (rule : Rule
   start-within = first-within chains limit p one
 
   -- every ended machine that a reduction leads to is its outcome
-  first-is : (y : Machine) → FirstReaches limit rule K p y → Ended y → first ≡ y
+  pub first-is : (y : Machine) → FirstReaches limit rule K p y → Ended y → first ≡ y
   first-is y g e = reaches-reduce limit (firstSizes K p) rule is (firstStart K p) (first-shaped K p) start-within g e
 
   first-ends : Ended first
@@ -57,7 +57,7 @@ module _ {most : ℕ} {K : Sections} (chains : ChainComplex most K) (rule : Rule
     small : within limit (secondStart K p r s) ≡ true
     small = second-within K p r s limit (S₁ .within) narrow
 
-    second-is : (y : Machine) → SecondReaches limit rule K p r s y → Ended y → second ≡ y
+    pub second-is : (y : Machine) → SecondReaches limit rule K p r s y → Ended y → second ≡ y
     second-is y g h = reaches-reduce limit (secondSizes K p r) rule is (secondStart K p r s) shaped small g h
 
     second-ends : Ended second

@@ -81,10 +81,10 @@ module _ (q : Question) (accepted : refusal hostLimit (q .sheet) ≡ 0) where
   rows-within zero = omega arith
   rows-within (suc p) = counts-within p
 
-  report-room : listSlots q report ≤ reportRoom
+  pub report-room : listSlots q report ≤ reportRoom
   report-room = omega (arith, counts-within (q .dimension), mul-le-mul (counts-within (q .dimension)) (counts-within (q .dimension)))
 
-  work-room : workSlots (cells q) (q .dimension) ≤ workRoom
+  pub work-room : workSlots (cells q) (q .dimension) ≤ workRoom
   work-room = mul-le-mul (counts-within (q .dimension)) beside
     where
       beside : 2 * cellCount q + max (countBelow (cells q) (q .dimension)) (count (cells q) (suc (q .dimension))) ≤ 3 * hostLimit

@@ -1,0 +1,83 @@
+-- What a call answers and leaves: document 01, "The reduction" and "The report and the coordinates". The machine of document 01 is run from its start; how
+-- the calls compute need not be read.
+use mathlib.Core.Path.{_≡_}
+use mathlib.Core.Logic.{_≢_}
+use mathlib.Core.Bool.{true}
+use mathlib.Core.List.{List}
+use Prim.Native.Nat.{ℕ, _+_, _-_, _*_, _≤_, _<_}
+use lib.ListN.{length, getD}
+use lib.IntN.{ℤ, natAbs}
+use Rattle.limits.specs.Limits.{entryLimit}
+use Rattle.lists.specs.Splice.{splices}
+use Rattle.trials.specs.Trial.{first, done, refused, numberTold, Called, cleared}
+use Rattle.complexes.specs.Complex.{Sections, count}
+use Rattle.reduction_steps.specs.Table.{tableWithin}
+use Rattle.reduction_steps.specs.State.{State}
+use Rattle.reduction_steps.specs.Step as machine
+use Rattle.reports.specs.Reductions.{product}
+use Rattle.reports.specs.Report.{Counts, countsOf}
+use Rattle.requests.specs.Question.{Question, cells, cellCount, rule}
+use Rattle.requests.specs.Call.{Request, report, coordinates, lists, listCount, listSlots, numbersOf, earlyChecks}
+use Rattle.host_calls.specs.Bytes.{numberAt}
+use Rattle.host_calls.specs.Host.{HostCalled}
+use Rattle.answers.specs.Homology.{IsCycle}
+use Rattle.answers.specs.Right.{slot, reportLength}
+use Rattle.answers.specs.Wide.{FirstReaches, SecondReaches, GoesWide}
+
+module _ (q : Question) where
+  -- the reductions of document 01 make an entry beyond its limit
+  abbrev pub TooWide : Type 0
+  TooWide = GoesWide entryLimit (rule q) (cells q) (q .dimension)
+
+  -- they come to their end: s rows of Q, and the second reduction, of rank r, leaves x
+  pub record Ends (s r : ℕ) (x : State) : Type 0 where
+    pub firstRank : ℕ
+    pub firstState : State
+    pub first : FirstReaches entryLimit (rule q) (cells q) (q .dimension) (machine.done firstRank firstState)
+    pub narrow : tableWithin entryLimit (product (cells q) (q .dimension) firstRank firstState) ≡ true
+    pub rows : s ≡ cellCount q - firstRank
+    pub second : SecondReaches entryLimit (rule q) (cells q) (q .dimension) firstRank firstState (machine.done r x)
+
+-- A call of the library at a count limit: refused with the first early check that applies, and every slice left alone; or refused 13, exactly where the
+-- reductions go too wide, and the work slice reads 0; or done with the counts of their end, its lists written over the output and nothing else, and
+-- the work slice reads 0.
+pub data Outcome (limit : ℕ) (q : Question) (request : Request) (output work : List ℤ) (called : Called Counts ℤ) : Type 0 where
+  refused-early :
+      (k : ℕ) → k ≢ 0 → first (earlyChecks limit q request (length output) (length work)) ≡ k →
+      called ≡ record { answer = refused k; output = output; work = work } → Outcome limit q request output work called
+  too-wide :
+      first (earlyChecks limit q request (length output) (length work)) ≡ 0 → TooWide q →
+      called ≡ record { answer = refused 13; output = output; work = cleared work } → Outcome limit q request output work called
+  is-done :
+      first (earlyChecks limit q request (length output) (length work)) ≡ 0 → (TooWide q → ⊥) → (s r : ℕ) (x : State) → Ends q s r x →
+      called
+      ≡ record {
+        answer = done (countsOf s r x);
+        output = splices (listSlots q request) (numbersOf q request s r x) (listCount request) output;
+        work = cleared work;
+      } → Outcome limit q request output work called
+
+-- the chain z has n_p coefficients within a limit and is no cycle
+pub record NoCycle (limit : ℕ) (K : Sections) (p : ℕ) (z : List ℤ) : Type 0 where
+  pub size : length z ≡ count K p
+  pub small : (i : ℕ) → natAbs (slot z i) ≤ limit
+  pub no-cycle : IsCycle K p (slot z) → ⊥
+
+-- how many numbers a list has, with f free generators and t orders
+abbrev pub listWidth : Question → Request → ℕ → ℕ → ℕ
+listWidth q report f t = reportLength (cells q) (q .dimension) f t
+listWidth q (coordinates z) f t = t + f
+listWidth q (lists number chains) f t = t + f
+
+-- A host call on an output beside the library's on as many slots: its number is that of the library's answer, a refusal leaves the output, the numbers
+-- read from its bytes are those that the library's call leaves, and every other byte stays.
+pub record Carries (q : Question) (request : Request) (output : List ℕ) (called : Called Counts ℤ) (host : HostCalled) : Type 0 where
+  pub number-is : host .number ≡ numberTold (called .answer)
+  pub after-refusal : host .number ≢ 0 → host .output ≡ output
+  pub size : length (host .output) ≡ length output
+  pub reads : (counts : Counts) → called .answer ≡ done counts → (i j : ℕ) → i < listCount request → j < listWidth q request (counts .free) (counts .torsion)
+      → numberAt (host .output) (i * listSlots q request + j) ≡ slot (called .output) (i * listSlots q request + j)
+  pub between : (counts : Counts) → called .answer ≡ done counts → (i k : ℕ) → i < listCount request
+      → 8 * listWidth q request (counts .free) (counts .torsion) ≤ k → k < 8 * listSlots q request
+      → getD (host .output) (i * (8 * listSlots q request) + k) 0 ≡ getD output (i * (8 * listSlots q request) + k) 0
+  pub past : (k : ℕ) → listCount request * (8 * listSlots q request) ≤ k → getD (host .output) k 0 ≡ getD output k 0
