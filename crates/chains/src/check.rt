@@ -6,8 +6,7 @@ ghost use Rattle.complexes.specs.Complex.{count};
 ghost use Rattle.sheet_format.specs.Layout.{top};
 ghost use Rattle.trials.specs.Trial.{first};
 ghost use Rattle.sheet_format.specs.Check.{sectionsOf};
-ghost use Rattle.requests.specs.Chains.{cycleChecks};
-ghost use Rattle.requests.specs.Chains.{cyclesChecks};
+ghost use Rattle.requests.specs.Chains.{cycleChecks, cyclesChecks};
 ghost use Rattle.requests.specs.ListsLaws.{nonempty};
 ghost use Rattle.limits.specs.Limits.{coefficientLimit};
 ghost use Rattle.faces.specs.Face.{Accepted};
@@ -27,7 +26,7 @@ pub enum Check {
 pub fn check_chain(s: &[u8], p: usize, chain: &[i32]) -> Check
     requires { ⌜ Accepted (now s) ⌝ }
     requires { ⌜ (p ≤ top) × (length (now chain) ≡ count (sectionsOf (now s)) p) ⌝ }
-    ensures { λ r. ⌜ first (cycleChecks coefficientLimit (now (s .entry)) p (now (chain .entry))) ≡ checkNumber r ⌝ }
+    ensures { λ r. ⌜ first (cycleChecks coefficientLimit (sectionsOf (now (s .entry))) p (now (chain .entry))) ≡ checkNumber r ⌝ }
 {
     if coefficient_exceeds(chain, Sheet::COEFFICIENT_LIMIT) {
         return Check::Refused(Refusal::CoefficientExceedsLimit);
@@ -49,7 +48,7 @@ pub fn nonempty(number: usize, cells: usize) -> usize
 pub fn check_chains(s: &[u8], p: usize, cells: usize, number: usize, chains: &[i32]) -> Check
     requires { ⌜ Accepted (now s) ⌝ }
     requires { ⌜ (p ≤ top) × (cells ≡ count (sectionsOf (now s)) p) × (length (now chains) ≡ number * cells) ⌝ }
-    ensures { λ r. ⌜ first (cyclesChecks coefficientLimit (now (s .entry)) p number (now (chains .entry))) ≡ checkNumber r ⌝ }
+    ensures { λ r. ⌜ first (cyclesChecks coefficientLimit (sectionsOf (now (s .entry))) p number (now (chains .entry))) ≡ checkNumber r ⌝ }
 {
     let mut i: usize = 0;
     while i < number {

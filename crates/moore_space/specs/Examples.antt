@@ -9,6 +9,7 @@ use lib.ListN.{replicate}
 use Rattle.limits.specs.Limits.{entryLimit}
 use Rattle.integers.specs.Division.{floor, modulo, residue, divides}
 use Rattle.lists.specs.Tabulate.{tabulate}
+use Rattle.lists.specs.Splice.{splice, splices}
 use Rattle.matrices.specs.Sum.{sum}
 use Rattle.matrices.specs.Matrix.{mul, identity, null}
 use Rattle.matrices.specs.Vector.{apply}
@@ -24,10 +25,11 @@ use Rattle.reduction_steps.specs.Step.{columnKeeps, rowKeeps, rowIndivisible, f
 use Rattle.reports.specs.Reductions.{reduced, firstStart, product, secondStart, afterSecond}
 use Rattle.reports.specs.Report.{Counts, reported, columnsOf, torsionCount, halvings, bitsOf, reportList, coordinateAt, coordinateList}
 use Rattle.trials.specs.Trial.{Called, done}
+use Rattle.requests.specs.Question.{Question, asked, rule, two}
+use Rattle.requests.specs.Question as question
 use Rattle.requests.specs.Chains.{coefficientExceeds, boundaryNotZero, chainChecks}
-use Rattle.requests.specs.Call.{callChecks}
-use Rattle.reports.specs.Call.{finished, reportCall, coordinateCall}
-use Rattle.reports.specs.Reductions.{reductionsOf}
+use Rattle.requests.specs.Call.{coordinates, callChecks, earlyChecks, call}
+use Rattle.requests.specs.Call as request
 use Rattle.program_text.specs.Text.{digits, decimal, spaced, generatorLines, dimensionText}
 use Rattle.quick_reduction.specs.Lines.{onList, lineLess, onLines, onEntries}
 use Rattle.quick_reduction.specs.Quick.{quickRows, quickColumns, quickRow, quickColumn, quickPositive, quickBring, quickRowPass, quickColumnPass, quickStep, quickRun, quickReduce, quickSecond, quickAfterFirst, quickReductions}
@@ -49,8 +51,12 @@ unfolding quickReductions quickAfterFirst quickSecond firstStart product secondS
     inverse identity null mul sum floor divides tabulate
 quick = refl
 
-pub reductions-space : reductionsOf pivotRule (sectionsOf sheet) 1 ≡ reduced 17 17 left
-unfolding reductionsOf
+-- dimension 1 of the sheet
+abbrev pub loops : Question
+loops = asked sheet 1
+
+pub reductions-space : two loops ≡ reduced 17 17 left
+unfolding question.cells rule two
 reductions-space = sym (quick-reductions pivotRule entryLimit (sectionsOf sheet) 1) ∙ quick
 
 -- ---- the calls in dimension 1
@@ -64,23 +70,23 @@ abbrev pub counts : Counts
 counts = record { free = 0; torsion = 1; peak = 3; bits = 2 }
 
 -- done, these numbers in the output and the other slots untouched, the work slice cleared
-abbrev gives : List ℤ → List ℤ → Called
+abbrev gives : List ℤ → List ℤ → Called Counts ℤ
 gives numbers rest = record { answer = done counts; output = numbers ++ rest; work = replicate 1560 (pos 0) }
 
 -- the coordinate call on a chain gives one coordinate
 abbrev Coordinate : List ℤ → ℤ → Type 0
-Coordinate chain x = coordinateCall 256 sheet 1 chain (nines 24) (nines 1560) ≡ gives (x ∷ []) (nines 23)
+Coordinate chain x = call 256 loops (coordinates chain) (nines 24) (nines 1560) ≡ gives (x ∷ []) (nines 23)
 
 pub record SpaceCalls : Type 0 where
-  pub report-call : reportCall 256 sheet 1 (nines 602) (nines 1560) ≡ gives report (nines 575)
+  pub report-call : call 256 loops request.report (nines 602) (nines 1560) ≡ gives report (nines 575)
   pub coordinate-loop : Coordinate loop (pos 1)
   pub coordinate-twice : Coordinate twice (negℤ (pos 1))
   pub coordinate-thrice : Coordinate thrice (pos 0)
   pub coordinate-backwards : Coordinate backwards (negℤ (pos 1))
-  pub printed : dimensionText 1 24 (reductionsOf pivotRule (sectionsOf sheet) 1) ≡ text
+  pub printed : dimensionText 1 24 (two loops) ≡ text
 
 pub space-calls : SpaceCalls
-unfolding reportCall coordinateCall callChecks chainChecks coefficientExceeds boundaryNotZero finished
+unfolding call earlyChecks callChecks chainChecks coefficientExceeds boundaryNotZero question.cells splices splice
     refusal countField offsetField cellOf cellsOf sectionsOf some verticesDoNotRise cellsDoNotRise faceMissing without same rises precedes listed start
     countBelow boundary coefficient sign apply sum floor modulo residue tabulate reportList coordinateList coordinateAt torsionCount bitsOf halvings columnsOf reported
     dimensionText generatorLines spaced decimal digits

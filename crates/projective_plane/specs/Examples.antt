@@ -8,6 +8,7 @@ use lib.IntN.{ℤ, pos}
 use lib.ListN.{replicate}
 use Rattle.integers.specs.Division.{floor, modulo, residue, divides}
 use Rattle.lists.specs.Tabulate.{tabulate}
+use Rattle.lists.specs.Splice.{splice, splices}
 use Rattle.matrices.specs.Sum.{sum}
 use Rattle.matrices.specs.Matrix.{mul, identity, null}
 use Rattle.matrices.specs.Vector.{apply}
@@ -18,22 +19,27 @@ use Rattle.sheet_format.specs.Layout.{start}
 use Rattle.sheet_format.specs.Check.{countField, offsetField, cellOf, cellsOf, sectionsOf, some, verticesDoNotRise, cellsDoNotRise, faceMissing, refusal}
 use Rattle.reduction_steps.specs.Table.{table, rowLargest, tableLargest, tableWithin}
 use Rattle.reduction_steps.specs.State.{largest, follow, rowOperation, columnOperation, within, checked, andThen, onRow, onColumn}
-use Rattle.reduction_steps.specs.Pivot.{better, alongRow, downRows, release1, pivotRule}
+use Rattle.reduction_steps.specs.Pivot.{better, alongRow, downRows, release1}
 use Rattle.reduction_steps.specs.Step.{columnKeeps, rowKeeps, rowIndivisible, firstIndivisible, positive, bring, quotient, rowPass, columnPass, next, step, run, reduce}
 use Rattle.reports.specs.Reductions.{tooWide, reduced, firstStart, product, secondStart, afterSecond, second, afterFirst, reductions}
 use Rattle.reports.specs.Report.{Counts, reported, columnsOf, torsionCount, halvings, bitsOf, reportList, coordinateAt, coordinateList}
 use Rattle.trials.specs.Trial.{Called, done}
+use Rattle.requests.specs.Question.{Question, asked, rule, two}
+use Rattle.requests.specs.Question as question
 use Rattle.requests.specs.Chains.{coefficientExceeds, boundaryNotZero, chainChecks}
-use Rattle.requests.specs.Call.{callChecks}
-use Rattle.reports.specs.Call.{finished, reportCall, coordinateCall}
-use Rattle.reports.specs.Reductions.{reductionsOf}
+use Rattle.requests.specs.Call.{coordinates, callChecks, earlyChecks, call}
+use Rattle.requests.specs.Call as request
 use Rattle.program_text.specs.Text.{digits, decimal, spaced, generatorLines, dimensionText}
 use Rattle.reports.specs.WideEnd.{inFirst, inSecond, endOfSecond, endOfProduct, endOfFirst, end, endsWide, end-wide}
 use Rattle.projective_plane.specs.Plane.{cells, sheet, left, report, loop, twice, backwards, text}
 
+-- dimension 1 of the sheet
+abbrev pub loops : Question
+loops = asked sheet 1
+
 -- ten rows of Q, ten pivots
-pub reductions-plane : reductionsOf pivotRule (sectionsOf sheet) 1 ≡ reduced 10 10 left
-unfolding reductionsOf reductions firstStart afterFirst second product secondStart afterSecond countBelow boundary coefficient sign
+pub reductions-plane : two loops ≡ reduced 10 10 left
+unfolding question.cells rule two reductions firstStart afterFirst second product secondStart afterSecond countBelow boundary coefficient sign
     countField cellOf cellsOf sectionsOf without same start
     reduce run step next bring positive quotient rowPass columnPass columnKeeps rowKeeps rowIndivisible firstIndivisible
     release1 downRows alongRow better onRow onColumn checked andThen within largest rowOperation columnOperation follow tableWithin tableLargest rowLargest table
@@ -51,18 +57,18 @@ abbrev pub counts : Counts
 counts = record { free = 0; torsion = 1; peak = 2; bits = 2 }
 
 -- done, these numbers in the output and the other slots untouched, the work slice cleared
-abbrev gives : List ℤ → List ℤ → Called
+abbrev gives : List ℤ → List ℤ → Called Counts ℤ
 gives numbers rest = record { answer = done counts; output = numbers ++ rest; work = replicate 600 (pos 0) }
 
 pub record PlaneCalls : Type 0 where
-  pub report-call : reportCall 256 sheet 1 (nines 242) (nines 600) ≡ gives report (nines 224)
-  pub coordinate-loop : coordinateCall 256 sheet 1 loop (nines 15) (nines 600) ≡ gives (pos 1 ∷ []) (nines 14)
-  pub coordinate-twice : coordinateCall 256 sheet 1 twice (nines 15) (nines 600) ≡ gives (pos 0 ∷ []) (nines 14)
-  pub coordinate-backwards : coordinateCall 256 sheet 1 backwards (nines 15) (nines 600) ≡ gives (pos 1 ∷ []) (nines 14)
-  pub printed : dimensionText 1 15 (reductionsOf pivotRule (sectionsOf sheet) 1) ≡ text
+  pub report-call : call 256 loops request.report (nines 242) (nines 600) ≡ gives report (nines 224)
+  pub coordinate-loop : call 256 loops (coordinates loop) (nines 15) (nines 600) ≡ gives (pos 1 ∷ []) (nines 14)
+  pub coordinate-twice : call 256 loops (coordinates twice) (nines 15) (nines 600) ≡ gives (pos 0 ∷ []) (nines 14)
+  pub coordinate-backwards : call 256 loops (coordinates backwards) (nines 15) (nines 600) ≡ gives (pos 1 ∷ []) (nines 14)
+  pub printed : dimensionText 1 15 (two loops) ≡ text
 
 pub plane-calls : PlaneCalls
-unfolding reportCall coordinateCall callChecks chainChecks coefficientExceeds boundaryNotZero finished
+unfolding call earlyChecks callChecks chainChecks coefficientExceeds boundaryNotZero question.cells splices splice
     refusal countField offsetField cellOf cellsOf sectionsOf some verticesDoNotRise cellsDoNotRise faceMissing without same rises precedes listed start
     countBelow boundary coefficient sign apply sum floor modulo residue tabulate reportList coordinateList coordinateAt torsionCount bitsOf halvings columnsOf reported
     dimensionText generatorLines spaced decimal digits

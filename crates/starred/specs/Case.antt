@@ -8,16 +8,10 @@ use lib.IntN.{ℤ, pos, negℤ}
 use lib.ListN.{replicate}
 use Rattle.reports.specs.Report.{Counts}
 use Rattle.trials.specs.Trial.{Called, refused}
-use Rattle.reports.specs.Call.{reportCall, coordinateCall}
-use Rattle.reports.specs.Lists.{coordinateListsCall}
+use Rattle.requests.specs.Question.{asked}
+use Rattle.requests.specs.Call.{Request, call}
 use Rattle.limits.specs.Limits.{libraryLimit}
 use Rattle.starred.specs.Same.{sameCalled, sameCalled-eq}
-
--- what is asked for: the report, the coordinates of a chain, or those of a number of chains
-pub data Request : Type 0 where
-  report : Request
-  coordinatesOf : List ℤ → Request
-  listsOf : ℕ → List ℤ → Request
 
 -- `output` is the slice lent for the report or the coordinates; it and `work` stand as they are lent
 pub record Call : Type 0 where
@@ -29,17 +23,11 @@ pub record Call : Type 0 where
 
 pub record Case : Type 0 where
   pub call : Call
-  pub expected : Called
-
--- what a request gives
-unfoldable pub answered : List ℕ → ℕ → Request → List ℤ → List ℤ → Called
-answered sheet p report output work = reportCall libraryLimit sheet p output work
-answered sheet p (coordinatesOf z) output work = coordinateCall libraryLimit sheet p z output work
-answered sheet p (listsOf number chains) output work = coordinateListsCall libraryLimit sheet p number chains output work
+  pub expected : Called Counts ℤ
 
 -- what a call gives
-abbrev pub outcome : Call → Called
-outcome c = answered (c .sheet) (c .dimension) (c .request) (c .output) (c .work)
+abbrev pub outcome : Call → Called Counts ℤ
+outcome c = call libraryLimit (asked (c .sheet) (c .dimension)) (c .request) (c .output) (c .work)
 
 unfoldable pub good : Case → Bool
 good c = sameCalled (outcome (c .call)) (c .expected)

@@ -4,7 +4,8 @@ use Prim.Native.Nat.{ℕ}
 use lib.IntN.{pos}
 use Rattle.sheet_format.specs.Starred.{noCells, oneVertex, edgeSheet, hollowTriangle, filledTriangle}
 use Rattle.trials.specs.Trial.{done}
-use Rattle.starred.specs.Case.{Case, report, coordinatesOf, counts, minus, nines, zeros}
+use Rattle.requests.specs.Call.{report, coordinates}
+use Rattle.starred.specs.Case.{Case, counts, minus, nines, zeros}
 
 -- ---- no cells: b = 0, t = 0 and no entries in every dimension
 
@@ -25,7 +26,7 @@ longer p = record {
 -- the empty chain
 abbrev emptyChain : ℕ → Case
 emptyChain p = record {
-  call = record { sheet = noCells; dimension = p; request = coordinatesOf []; output = nines 3; work = nines 3 };
+  call = record { sheet = noCells; dimension = p; request = coordinates []; output = nines 3; work = nines 3 };
   expected = record { answer = done (counts 0 0 0 0); output = nines 3; work = zeros 3 };
 }
 
@@ -81,22 +82,22 @@ abbrev pub coordinateCases : List Case
 coordinateCases =
     -- the edge 01, dimension 0
     record {
-      call = record { sheet = edgeSheet; dimension = 0; request = coordinatesOf (pos 4 ∷ pos 3 ∷ []); output = nines 2; work = nines 10 };
+      call = record { sheet = edgeSheet; dimension = 0; request = coordinates (pos 4 ∷ pos 3 ∷ []); output = nines 2; work = nines 10 };
       expected = record { answer = done (counts 1 0 1 1); output = pos 7 ∷ nines 1; work = zeros 10 };
     }
     -- coefficients at their limit
     ∷ record {
-      call = record { sheet = edgeSheet; dimension = 0; request = coordinatesOf (pos 32767 ∷ minus 32767 ∷ []); output = nines 2; work = nines 10 };
+      call = record { sheet = edgeSheet; dimension = 0; request = coordinates (pos 32767 ∷ minus 32767 ∷ []); output = nines 2; work = nines 10 };
       expected = record { answer = done (counts 1 0 1 1); output = pos 0 ∷ nines 1; work = zeros 10 };
     }
     -- the hollow triangle, dimension 1
     ∷ record {
-      call = record { sheet = hollowTriangle; dimension = 1; request = coordinatesOf (minus 1 ∷ pos 1 ∷ minus 1 ∷ []); output = nines 3; work = nines 27 };
+      call = record { sheet = hollowTriangle; dimension = 1; request = coordinates (minus 1 ∷ pos 1 ∷ minus 1 ∷ []); output = nines 3; work = nines 27 };
       expected = record { answer = done (counts 1 0 1 1); output = minus 1 ∷ nines 2; work = zeros 27 };
     }
     -- the filled triangle, dimension 1: the empty list
     ∷ record {
-      call = record { sheet = filledTriangle; dimension = 1; request = coordinatesOf (pos 1 ∷ minus 1 ∷ pos 1 ∷ []); output = nines 3; work = nines 27 };
+      call = record { sheet = filledTriangle; dimension = 1; request = coordinates (pos 1 ∷ minus 1 ∷ pos 1 ∷ []); output = nines 3; work = nines 27 };
       expected = record { answer = done (counts 0 0 1 1); output = nines 3; work = zeros 27 };
     }
     ∷ []

@@ -16,13 +16,13 @@ sameSlice = sameList sameNumber
 unfoldable pub sameCounts : Counts → Counts → Bool
 sameCounts x y = eqb (x .free) (y .free) && (eqb (x .torsion) (y .torsion) && (eqb (x .peak) (y .peak) && eqb (x .bits) (y .bits)))
 
-unfoldable pub sameAnswer : Answer → Answer → Bool
+unfoldable pub sameAnswer : Answer Counts → Answer Counts → Bool
 sameAnswer (done x) (done y) = sameCounts x y
 sameAnswer (done x) (refused m) = false
 sameAnswer (refused n) (done y) = false
 sameAnswer (refused n) (refused m) = eqb n m
 
-unfoldable pub sameCalled : Called → Called → Bool
+unfoldable pub sameCalled : Called Counts ℤ → Called Counts ℤ → Bool
 sameCalled x y = sameAnswer (x .answer) (y .answer) && (sameSlice (x .output) (y .output) && sameSlice (x .work) (y .work))
 
 -- ---- what passes them is equal
@@ -44,14 +44,14 @@ sameCounts-eq x y h =
       bits = eqb→eq (x .bits) (y .bits) bits i;
     }
 
-sameAnswer-eq : (x y : Answer) → T (sameAnswer x y) → x ≡ y
+sameAnswer-eq : (x y : Answer Counts) → T (sameAnswer x y) → x ≡ y
 unfolding sameAnswer
 sameAnswer-eq (done x) (done y) h = ap done (sameCounts-eq x y h)
 sameAnswer-eq (done x) (refused m) h = absurd h
 sameAnswer-eq (refused n) (done y) h = absurd h
 sameAnswer-eq (refused n) (refused m) h = ap refused (eqb→eq n m h)
 
-pub sameCalled-eq : (x y : Called) → T (sameCalled x y) → x ≡ y
+pub sameCalled-eq : (x y : Called Counts ℤ) → T (sameCalled x y) → x ≡ y
 unfolding sameCalled
 sameCalled-eq x y h =
     let (answer, slices) = both (sameAnswer (x .answer) (y .answer)) _ h in

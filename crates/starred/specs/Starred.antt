@@ -25,15 +25,12 @@ use Rattle.reduction_steps.specs.Step.{columnKeeps, rowKeeps, rowIndivisible, f
 use Rattle.reports.specs.Reductions.{firstStart, product, secondStart, afterSecond, second, afterFirst, reductions}
 use Rattle.reports.specs.Report.{reported, columnsOf, torsionCount, halvings, bitsOf, reportList, coordinateAt, coordinateList}
 use Rattle.trials.specs.Trial.{done}
-use Rattle.requests.specs.Chains.{coefficientExceeds, boundaryNotZero, chainChecks}
-use Rattle.requests.specs.Call.{callChecks}
-use Rattle.reports.specs.Call.{finished, reportCall, coordinateCall}
-use Rattle.reports.specs.Reductions.{reductionsOf}
-use Rattle.requests.specs.Chains.{cyclesChecks, chainsChecks}
-use Rattle.reports.specs.Lists.{coordinateListsCall}
+use Rattle.requests.specs.Question.{asked, cells, rule, two}
+use Rattle.requests.specs.Chains.{coefficientExceeds, boundaryNotZero, chainChecks, cyclesChecks, chainsChecks}
+use Rattle.requests.specs.Call.{lists, callChecks, earlyChecks, call}
 use Rattle.requests.specs.ListsLaws.{no-cells}
 use Rattle.starred.specs.Same.{sameSlice, sameCounts, sameAnswer, sameCalled}
-use Rattle.starred.specs.Case.{Case, answered, good, counts, nines, zeros}
+use Rattle.starred.specs.Case.{Case, good, counts, nines, zeros}
 use Rattle.starred.specs.DoneCases.{noCellsCases, reportCases, coordinateCases}
 use Rattle.starred.specs.RefusedCases.{sheetCases, dimensionCases, sliceCases, chainCases}
 use Rattle.starred.specs.ListCases.{listCases}
@@ -44,21 +41,21 @@ cases = noCellsCases ++ (reportCases ++ (coordinateCases ++ (sheetCases ++ (dime
 
 pub starred-sheets-and-calls : T (every good cases)
 unfolding every good sameCalled sameAnswer sameCounts sameSlice sameList sameNumber
-    answered reportCall coordinateCall callChecks chainChecks coefficientExceeds boundaryNotZero reductionsOf finished
+    call earlyChecks callChecks chainChecks chainsChecks cyclesChecks coefficientExceeds boundaryNotZero cells rule two
     refusal countField offsetField cellOf cellsOf sectionsOf some verticesDoNotRise cellsDoNotRise faceMissing without same rises precedes listed start
     reductions firstStart afterFirst second product secondStart afterSecond countBelow boundary coefficient sign
     reduce run step next bring positive quotient rowPass columnPass columnKeeps rowKeeps rowIndivisible firstIndivisible
     release1 downRows alongRow better onRow onColumn checked andThen within largest rowOperation columnOperation follow tableWithin tableLargest rowLargest table
     onRows onColumns inverse identity null mul apply sum floor modulo residue divides tabulate
     reportList coordinateList coordinateAt torsionCount bitsOf halvings columnsOf reported
-    coordinateListsCall chainsChecks cyclesChecks splices splice
+    splices splice
 starred-sheets-and-calls = tt
 
-pub largest-number : coordinateListsCall libraryLimit hollowTriangle 2 18446744073709551615 [] (nines 2) (nines 3)
+pub largest-number : call libraryLimit (asked hollowTriangle 2) (lists 18446744073709551615 []) (nines 2) (nines 3)
     ≡ record { answer = done (counts 0 0 0 0); output = nines 2; work = zeros 3 }
-unfolding coordinateListsCall callChecks chainsChecks cyclesChecks splices reductionsOf finished
+unfolding call earlyChecks callChecks chainsChecks cyclesChecks cells rule two splices
     refusal countField offsetField cellOf cellsOf sectionsOf some verticesDoNotRise cellsDoNotRise faceMissing without same rises precedes listed start
     reductions firstStart afterFirst second product secondStart afterSecond countBelow boundary coefficient sign
     reduce run step next columnKeeps rowKeeps rowIndivisible firstIndivisible
     release1 downRows alongRow better within largest tableWithin tableLargest rowLargest table identity mul sum tabulate torsionCount bitsOf halvings reported
-largest-number = no-cells hollowTriangle 2 refl libraryLimit 18446744073709551615 [] (nines 2) (nines 3)
+largest-number = no-cells (asked hollowTriangle 2) refl libraryLimit 18446744073709551615 [] (nines 2) (nines 3)

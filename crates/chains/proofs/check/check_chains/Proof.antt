@@ -9,8 +9,8 @@ use lib.IntN.{ℤ}
 use Rattle.trials.specs.Trial.{first}
 use Rattle.refusal.specs.Number.{numberOf}
 use Rattle.refusal.specs.NumberLaws.{number-positive}
-use Rattle.requests.specs.Chains.{cycleChecks}
-use Rattle.requests.specs.Chains.{chainAt}
+use Rattle.sheet_format.specs.Check.{sectionsOf}
+use Rattle.requests.specs.Chains.{cycleChecks, chainAt}
 use Rattle.requests.specs.ChainsLaws.{chain-inside, length-chainAt, chain-part, fault, passed-next, cycles-zero, cycles-told}
 use Rattle.limits.specs.Limits.{coefficientLimit}
 use Rattle.chains.specs.Check.{checkNumber}
@@ -18,7 +18,7 @@ use Rattle.chains.proofs.check.check_chains.Statement.{statement}
 use Rattle.chains.proofs.check.check_chains.Tie as tie
 
 abbrev Inv-loop : tie.InvT-loop
-Inv-loop s p cells number chains i₀ i = (i ≤ number) × ((k : ℕ) → k < i → fault coefficientLimit s p chains k ≡ 0)
+Inv-loop s p cells number chains i₀ i = (i ≤ number) × ((k : ℕ) → k < i → fault coefficientLimit (sectionsOf s) p chains k ≡ 0)
 
 abbrev μ-loop : tie.MeasureT-loop
 μ-loop s p cells number chains i₀ i = number - i
@@ -64,12 +64,12 @@ check-chain-requires c κs =
 
 -- the number that is told of it
 told : (c : tie.After-check-chain Inv-loop μ-loop) → let a = c .before .before .before .before .before .args in
-    fault coefficientLimit (now (a .s)) (a .p) (now (a .chains)) (c .before .before .before .loop .i) ≡ checkNumber (c .check-chain .result)
+    fault coefficientLimit (sectionsOf (now (a .s))) (a .p) (now (a .chains)) (c .before .before .before .loop .i) ≡ checkNumber (c .check-chain .result)
 told c =
     let start = c .before .before .before .before .before in
     let a = start .args in
     let i = c .before .before .before .loop .i in
-    ap (λ (z : List ℤ). first (cycleChecks coefficientLimit (now (a .s)) (a .p) z))
+    ap (λ (z : List ℤ). first (cycleChecks coefficientLimit (sectionsOf (now (a .s))) (a .p) z))
     (ap (λ (n : ℕ). chainAt n (now (a .chains)) i) (sym (start .pre .1 .1)) ∙ sym (chain-part (a .cells) i (now (a .chains))))
     ∙ c .check-chain .ensures
 
@@ -81,7 +81,7 @@ returns c =
     let called = c .before .before .before in
     let a = called .before .before .before .before .before .args in
     let x = c .before .refusal .given in
-    cycles-told coefficientLimit (now (a .s)) (a .p) (now (a .chains)) (a .number) (numberOf (x .0 .0)) (λ e. absurd (omega (arith, number-positive (x .0 .0)))) .1
+    cycles-told coefficientLimit (sectionsOf (now (a .s))) (a .p) (now (a .chains)) (a .number) (numberOf (x .0 .0)) (λ e. absurd (omega (arith, number-positive (x .0 .0)))) .1
     (record {
       place = called .before .before .before .loop .i;
       within = called .before .before .loop-test .taken;
@@ -103,7 +103,7 @@ loop-again c =
 returns-2 : tie.Need-returns-2 Inv-loop μ-loop
 returns-2 c =
     let a = c .before .before .before .args in
-    cycles-zero coefficientLimit (now (a .s)) (a .p) (now (a .chains)) (a .number) .1 (λ k l. c .before .loop .inv .1 k (omega (arith, c .loop-test .left)))
+    cycles-zero coefficientLimit (sectionsOf (now (a .s))) (a .p) (now (a .chains)) (a .number) .1 (λ k l. c .before .loop .inv .1 k (omega (arith, c .loop-test .left)))
 
 pub check-chains-spec : {M : Type 1} → statement M
 check-chains-spec =
