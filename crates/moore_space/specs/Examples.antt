@@ -1,12 +1,11 @@
--- A Moore space of order 3: `reductions-space` gives the two reductions of dimension 1, and the calls and the text follow from it.
+-- A Moore space of order 3: `reductions-space` computes the two reductions of dimension 1, and the calls and the text follow from it.
 --     cells-read     the cells of the sheet
 --     space-calls    the report, and the coordinates of the generator, of two and three times the generator and of its opposite: 1, -1, 0, -1
 use mathlib.Core.List.{List, [], _∷_, _++_}
-use mathlib.Core.Path.{_≡_, refl, sym, _∙_}
+use mathlib.Core.Path.{_≡_, refl}
 use Prim.Native.Nat.{ℕ}
 use lib.IntN.{ℤ, pos, negℤ}
 use lib.ListN.{replicate}
-use Rattle.limits.specs.Limits.{entryLimit}
 use Rattle.integers.specs.Division.{floor, modulo, residue, divides}
 use Rattle.lists.specs.Tabulate.{tabulate}
 use Rattle.matrices.specs.Sum.{sum}
@@ -18,16 +17,14 @@ use Rattle.complexes.specs.Boundary.{sign, coefficient, countBelow, boundary}
 use Rattle.sheet_format.specs.Layout.{start}
 use Rattle.sheet_format.specs.Check.{countField, offsetField, cellOf, cellsOf, sectionsOf, chainCells, some, verticesDoNotRise, cellsDoNotRise, faceMissing, refusal}
 use Rattle.reduction_steps.specs.Table.{table, rowLargest, tableLargest, tableWithin}
-use Rattle.reduction_steps.specs.State.{largest, within, checked, andThen}
+use Rattle.reduction_steps.specs.Lines.{onList, lineLess, onLines, onEntries}
+use Rattle.reduction_steps.specs.State.{largest, rowOperation, columnOperation, within, checked, andThen, onRow, onColumn}
 use Rattle.reduction_steps.specs.Pivot.{better, alongRow, downRows, release1, pivotRule}
-use Rattle.reduction_steps.specs.Step.{columnKeeps, rowKeeps, rowIndivisible, firstIndivisible, quotient, next}
-use Rattle.reports.specs.Reductions.{reduced, firstStart, product, secondStart, afterSecond}
+use Rattle.reduction_steps.specs.Step.{columnKeeps, rowKeeps, rowIndivisible, firstIndivisible, positive, bring, quotient, rowPass, columnPass, next, step, run, reduce}
+use Rattle.reports.specs.Reductions.{reduced, firstStart, product, secondStart, afterSecond, second, afterFirst, reductions}
 use Rattle.reports.specs.Report.{Counts, reported, columnsOf, torsionCount, halvings, bitsOf, reportList, coordinateAt, coordinateList}
 use Rattle.reports.specs.Call.{Called, done, coefficientExceeds, boundaryNotZero, callChecks, chainChecks, finished, reductionsOf, reportCall, coordinateCall}
 use Rattle.reports.specs.Text.{digits, decimal, spaced, generatorLines, dimensionText}
-use Rattle.quick_reduction.specs.Lines.{onList, lineLess, onLines, onEntries}
-use Rattle.quick_reduction.specs.Quick.{quickRows, quickColumns, quickRow, quickColumn, quickPositive, quickBring, quickRowPass, quickColumnPass, quickStep, quickRun, quickReduce, quickSecond, quickAfterFirst, quickReductions}
-use Rattle.quick_reduction.specs.QuickLaws.{quick-reductions}
 use Rattle.moore_space.specs.Space.{cells, sheet, left, report, loop, twice, thrice, backwards, text}
 
 -- the cells of the sheet
@@ -36,18 +33,13 @@ unfolding countField cellOf cellsOf sectionsOf chainCells start tabulate
 cells-read = refl
 
 -- 17 rows of Q, 17 pivots
-quick : quickReductions pivotRule entryLimit (chainCells sheet) 1 ≡ reduced 17 17 left
-unfolding quickReductions quickAfterFirst quickSecond firstStart product secondStart afterSecond countBelow boundary coefficient sign
-    countField cellOf cellsOf sectionsOf chainCells without same start
-    quickReduce quickRun quickStep next quickBring quickPositive quotient quickRowPass quickColumnPass columnKeeps rowKeeps rowIndivisible firstIndivisible
-    release1 downRows alongRow better quickRow quickColumn checked andThen within largest quickRows quickColumns
-    onLines onEntries onList lineLess tableWithin tableLargest rowLargest table
-    inverse identity null mul sum floor divides tabulate
-quick = refl
-
 pub reductions-space : reductionsOf pivotRule (chainCells sheet) 1 ≡ reduced 17 17 left
-unfolding reductionsOf
-reductions-space = sym (quick-reductions pivotRule entryLimit (chainCells sheet) 1) ∙ quick
+unfolding reductionsOf reductions firstStart afterFirst second product secondStart afterSecond countBelow boundary coefficient sign
+    countField cellOf cellsOf sectionsOf chainCells without same start
+    reduce run step next bring positive quotient rowPass columnPass columnKeeps rowKeeps rowIndivisible firstIndivisible
+    release1 downRows alongRow better onRow onColumn checked andThen within largest rowOperation columnOperation onLines onEntries onList lineLess tableWithin tableLargest rowLargest table
+    inverse identity null mul sum floor divides tabulate
+reductions-space = refl
 
 -- ---- the calls in dimension 1
 
