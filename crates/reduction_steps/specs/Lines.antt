@@ -1,11 +1,11 @@
--- An elementary operation on a table that changes the lines, or the entries, that it is about.
+-- An elementary operation on a table. It changes the lines that it is about, or the entries that it is about in every line.
 use mathlib.Core.List.{List, [], _∷_, map}
 use Prim.Native.Nat.{ℕ}
 use lib.IntN.{ℤ, pos, negℤ, _-ℤ_, _*ℤ_}
 use lib.ListN.{getD, set}
 use Rattle.lists.specs.Tabulate.{tabulate}
 use Rattle.matrices.specs.Operation.{Operation, subtract, swap, negate}
 use Rattle.reduction_steps.specs.Table.{Table}
 
 -- on the elements of a list: `outside` stands where there is none, `less q x y` is x less q times y, `minus x` is x with the opposite sign
 module _ {A : Type 0} (outside : A) (less : ℤ → A → A → A) (minus : A → A) where
@@ -23,10 +23,10 @@ lineLess q [] r = []
 lineLess q (x ∷ l) [] = []
 lineLess q (x ∷ l) (y ∷ r) = entryLess q x y ∷ lineLess q l r
 
--- on the rows of a table whose rows have n entries
+-- on the lines of a table, which have n entries each
 unfoldable pub onLines : ℕ → Operation → Table → Table
 onLines n op T = onList (tabulate n (λ j. pos 0)) lineLess (map negℤ) op T
 
--- on its columns
+-- on the columns of a table: on the entries of each line
 unfoldable pub onEntries : Operation → Table → Table
 onEntries op T = map (onList (pos 0) entryLess negℤ op) T

@@ -1,5 +1,5 @@
--- The operations of `Lines` make the tables that the definition's operations make: onLines-is, onEntries-is. They need no bounds on the rows or columns named: what stands
--- outside the table counts as zero in both.
+-- An operation on the lines of a table, or on its columns, makes the table of what it makes of the entries: onLines-is, onEntries-is. They need no bounds
+-- on the rows or columns named: what stands outside the table counts as zero in both.
 use mathlib.Core.Path.{_≡_, refl, sym, _∙_, ap, subst}
 use mathlib.Core.Bool.{Bool, true, false, cond}
 use mathlib.Core.List.{List, _∷_, map}
@@ -14,8 +14,8 @@ use Rattle.lists.specs.TabulateLaws.{getD-tabulate, getD-tabulate-beyond, tabul
 use Rattle.matrices.specs.Matrix.{Matrix}
 use Rattle.matrices.specs.Operation.{Operation, subtract, swap, negate, onRows, onColumns}
 use Rattle.reduction_steps.specs.Table.{Table, entry, table}
-use Rattle.reduction_laws.specs.Shape.{Bounded, bounded-table}
-use Rattle.quick_reduction.specs.Lines.{onList, entryLess, lineLess, onLines, onEntries}
+use Rattle.reduction_steps.specs.Lines.{onList, entryLess, lineLess, onLines, onEntries}
+use Rattle.reduction_laws.specs.Bounded.{Bounded, bounded-table}
 
 -- ---- lists
 
