@@ -14,7 +14,7 @@ use borrow.Author.Tests.{eq-eqb, ne-eqb}
 use Rattle.lists.specs.Same.{every}
 use Rattle.complexes.specs.Complex.{vertexBound}
 use Rattle.complexes.specs.Packed.{Numbered}
-use Rattle.closures.specs.Closure.{cellWith, member, repeats}
+use Rattle.closures.specs.Closure.{elementTop, cellWith, member, repeats}
 use Rattle.closures.specs.Rising as rising
 use Rattle.mesh_format.specs.Mesh.{Element, Mesh}
 use Rattle.mesh_format.specs.Parse.{malformed, parsed, then, headOf, nodesOf, elementsOf, meshOf}
@@ -25,7 +25,7 @@ use Rattle.imports.specs.ImportLaws.{import-is, import-not}
 use Rattle.mesh_elements.specs.Map.{marked}
 use Rattle.mesh_elements.specs.Listed.{Maps}
 use Rattle.refusal.specs.declared.Refusal.the-variants.{MeshMalformed, ElementFaulty, SheetTooLong}
-use Rattle.sheet_format.specs.Layout.{top, layout}
+use Rattle.sheet_format.specs.Layout.{layout}
 use Rattle.closures.specs.ClosureLaws.{ownSections-count}
 use Rattle.cell_sets.specs.Set.{Holds}
 use Rattle.cell_sets.specs.Close.{Exceeds}
@@ -113,7 +113,7 @@ module _ (limit : ℕ) (text sheet marks : List ℕ) (m : Mesh) (e : meshOf text
         (too-many-faces limit (complexOf (m .elements)) sheet (record {
           dimension = x .dimension;
           listed = x .listed;
-          over = omega (arith, x .over, ownSections-count top (map cellWith (nodeLists (m .elements))) (x .dimension));
+          over = omega (arith, x .over, ownSections-count elementTop (map cellWith (nodeLists (m .elements))) (x .dimension));
         }))
 
     pub told-written : {answer : Imported} {after cells counts : List ℕ} → Holds limit cells counts (ownCells (m .elements))

@@ -5,8 +5,8 @@ use mathlib.Core.List.{List}
 use Prim.Native.Nat.{ℕ}
 use lib.ListN.{length}
 use Rattle.complexes.specs.Cell.{Cell}
-use Rattle.sheet_format.specs.Layout.{top, layout}
-use Rattle.closures.specs.Closure.{ownSections, closure}
+use Rattle.sheet_format.specs.Layout.{layout}
+use Rattle.closures.specs.Closure.{elementTop, ownSections, closure}
 use Rattle.cell_sets.specs.Set.{Holds}
 use Rattle.imports.specs.Import as spec
 use Rattle.imports.specs.Import.{tooLong, answerWith}
@@ -32,5 +32,5 @@ pub record ImportTold (called : spec.ImportCalled) (r : ℕ) (output : List ℕ)
 -- the faces of the cells cs were added, and the sheet written if it fits
 abbrev pub WritesClosure : ℕ → List ℕ → List ℕ → List ℕ → Imported → List ℕ → Type 0
 WritesClosure limit cells counts sheet r sheet′ =
-    (cs : List Cell) → Holds limit cells counts (ownSections top cs)
-    → ImportAnswers (answerWith (cond (tooLong limit (length sheet) (closure top cs)) 16 0) (layout (closure top cs)) sheet) r sheet′
+    (cs : List Cell) → Holds limit cells counts (ownSections elementTop cs)
+    → ImportAnswers (answerWith (cond (tooLong limit (length sheet) (closure elementTop cs)) 16 0) (layout (closure elementTop cs)) sheet) r sheet′

@@ -1,5 +1,5 @@
 -- What it means that no element is faulty, and that a text tells the elements.
---     right-few                             each element has at most `suc top` nodes
+--     right-few                             each element has at most `suc elementTop` nodes
 --     element-numbered, mesh-numbered       the nodes of an element that is read, and of a mesh, are vertex numbers
 use mathlib.Core.Path.{_≡_, refl, ap}
 use mathlib.Core.Bool.{Bool, true, false, not, cond, _||_, true≢false, and-eq-true-iff}
@@ -10,8 +10,7 @@ use lib.Dec.{eqb}
 use lib.ListN.{length, getD}
 use borrow.Author.Tests.{eqb-true, not-true, not-false}
 use Rattle.lists.specs.Same.{every}
-use Rattle.sheet_format.specs.Layout.{top}
-use Rattle.closures.specs.Closure.{repeats}
+use Rattle.closures.specs.Closure.{elementTop, repeats}
 use Rattle.closures.specs.Rising as rising
 use Rattle.complexes.specs.Complex.{vertexBound}
 use Rattle.complexes.specs.Packed.{Numbered}
@@ -36,11 +35,11 @@ faulty-number isListed e h =
     (repeats (e .nodes)) h in
     eqb-true (length (e .nodes)) (nodesOfKind (e .kind)) (not-false (eqb (length (e .nodes)) (nodesOfKind (e .kind))) (parts .1 .0))
 
-nodesOfKind-le : (k : ℕ) → nodesOfKind k ≤ suc top
+nodesOfKind-le : (k : ℕ) → nodesOfKind k ≤ suc elementTop
 unfolding nodesOfKind
 nodesOfKind-le k = pick (eqb k 15) (eqb k 1) (eqb k 2) (eqb k 4)
   where
-    pick : (a b c d : Bool) → cond a 1 (cond b 2 (cond c 3 (cond d 4 0))) ≤ suc top
+    pick : (a b c d : Bool) → cond a 1 (cond b 2 (cond c 3 (cond d 4 0))) ≤ suc elementTop
     pick true b c d = omega arith
     pick false true c d = omega arith
     pick false false true d = omega arith
@@ -69,7 +68,7 @@ length-nodeLists (e ∷ es) = ap suc (length-nodeLists es)
 noElement : Element
 noElement = record { kind = 0; nodes = [] }
 
-pub right-few : (isListed : ℕ → Bool) (es : List Element) → noneFaulty isListed es ≡ true → rising.All (λ vs. length vs ≤ suc top) [] (nodeLists es)
+pub right-few : (isListed : ℕ → Bool) (es : List Element) → noneFaulty isListed es ≡ true → rising.All (λ vs. length vs ≤ suc elementTop) [] (nodeLists es)
 right-few isListed es h i l =
     let below : i < length es = rw (length-nodeLists es) at l in
     rw (getD-nodeLists es i noElement below, right-number isListed es h noElement i below) (nodesOfKind-le (getD es i noElement .kind))

@@ -11,9 +11,9 @@ use Prim.Native.Nat.{ℕ, zero, suc, _+_}
 use native.Mathlib.Omega.{arith}
 use lib.ListN.{length, drop}
 use Rattle.complexes.specs.Complex.{Sections}
-use Rattle.sheet_format.specs.Layout.{top, layout}
+use Rattle.sheet_format.specs.Layout.{layout}
 use Rattle.sheet_format.specs.Check.{first}
-use Rattle.closures.specs.Closure.{member}
+use Rattle.closures.specs.Closure.{elementTop, member}
 use Rattle.closures.specs.Form.{IsClosure}
 use Rattle.mesh_format.specs.Mesh.{Mesh}
 use Rattle.mesh_format.specs.Form.{MeshText}
@@ -54,8 +54,8 @@ told-0 true true e = absurd (omega (arith, e))
 told-0 true false e = (refl, refl)
 told-0 false long e = absurd (omega (arith, e))
 
-pub mesh-cells : (m : Mesh) → elementsRight m ≡ true → IsClosure top (nodeLists (m .elements)) (complexOf (m .elements))
-mesh-cells m r = closure-is top (nodeLists (m .elements)) (right-few (λ v. member v (m .nodes)) (m .elements) r)
+pub mesh-cells : (m : Mesh) → elementsRight m ≡ true → IsClosure elementTop (nodeLists (m .elements)) (complexOf (m .elements))
+mesh-cells m r = closure-is elementTop (nodeLists (m .elements)) (right-few (λ v. member v (m .nodes)) (m .elements) r)
 
 module _ (limit : ℕ) (text sheet : List ℕ) where
   abbrev number : ℕ
@@ -104,7 +104,7 @@ module _ (limit : ℕ) (text sheet : List ℕ) where
 
   -- ---- a text whose elements are right
   module _ (m : Mesh) (t : MeshText m text) (r : elementsRight m ≡ true) where
-    module _ (K : Sections) (is : IsClosure top (nodeLists (m .elements)) K) where
+    module _ (K : Sections) (is : IsClosure elementTop (nodeLists (m .elements)) K) where
       same : complexOf (m .elements) ≡ K
       same = closure-unique (mesh-cells m r) is
 

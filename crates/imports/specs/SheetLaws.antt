@@ -1,4 +1,5 @@
 -- What an import writes is an accepted sheet of exactly the elements' cells and their faces: import-sheet, import-number.
+--     on-sheet     a sheet has a section for each dimension of an element, and no other
 use mathlib.Core.Path.{_≡_, sym, ap, ap₂, _∙_, subst}
 use mathlib.Core.Bool.{false}
 use mathlib.Mathlib.Data.Bool.Basic.{or-eq-false-eq-eq-false-and-eq-false}
@@ -18,19 +19,22 @@ use Rattle.sheet_format.specs.SheetLaws.{countField-in, start-mono, count-beyon
 use Rattle.sheet_format.specs.LayoutLaws.{Reads, length-layout, bytes-layout}
 use Rattle.sheet_format.specs.Sheet.{Bytes}
 use Rattle.sheet_format.specs.Accept.{reads-layout, accepted-layout, sections-layout}
-use Rattle.closures.specs.Closure.{member}
+use Rattle.closures.specs.Closure.{elementTop}
 use Rattle.closures.specs.Form.{IsClosure}
 use Rattle.imports.specs.Import.{nodeLists, complexOf, tooLong, Answer, done, refused, importCall, importNumber}
 use Rattle.imports.specs.Sheet.{headerGives, ImportedSheet}
 use native.Mathlib.Decide.{decLe}
-use Rattle.closures.specs.ClosureLaws.{closure-complex}
-use Rattle.imports.specs.Elements.{right-few, mesh-numbered}
+use Rattle.closures.specs.ClosureLaws.{IsClosure-complex}
+use Rattle.imports.specs.Elements.{mesh-numbered}
 use Rattle.imports.specs.ImportLaws.{mesh-cells, Done, import-told, import-done}
 
 -- the length that is answered
 answerLength : Answer → ℕ
 answerLength (done n) = n
 answerLength (refused n) = 0
+
+pub on-sheet : {lists : List (List ℕ)} {K : Sections} → IsClosure elementTop lists K → IsClosure top lists K
+on-sheet is = is
 
 -- ---- the sheet of a complex at the front of a slice
 module _ {limit : ℕ} (small : limit ≤ libraryLimit) {K : Sections} (complex : Complex top limit K) (rest : List ℕ) where
@@ -72,7 +76,7 @@ module _ (limit : ℕ) (small : limit ≤ libraryLimit) (text sheet : List ℕ) 
       K : Sections
       K = complexOf (told .mesh .elements)
 
-      is : IsClosure top (nodeLists (told .mesh .elements)) K
+      is : IsClosure elementTop (nodeLists (told .mesh .elements)) K
       is = mesh-cells (told .mesh) (told .is-right)
 
       called : importCall limit text sheet ≡ record { answer = done (length (layout K)); output = layout K ++ drop (length (layout K)) sheet }
@@ -81,18 +85,17 @@ module _ (limit : ℕ) (small : limit ≤ libraryLimit) (text sheet : List ℕ) 
       size : n ≡ length (layout K)
       size = ap answerLength (sym e ∙ ap (λ c. c .answer) called)
 
-      fits : (ltb (length sheet) (length (layout K)) ≡ false) × (some (suc top) (λ p. ltb limit (count K p)) ≡ false)
+      fits : (ltb (length sheet) (length (layout K)) ≡ false) × (some (suc elementTop) (λ p. ltb limit (count K p)) ≡ false)
       fits =
-          or-eq-false-eq-eq-false-and-eq-false (ltb (length sheet) (length (layout K))) (some (suc top) (λ p. ltb limit (count K p)))
+          or-eq-false-eq-eq-false-and-eq-false (ltb (length sheet) (length (layout K))) (some (suc elementTop) (λ p. ltb limit (count K p)))
           .0 (told .fits)
 
-      within : (p : ℕ) → Dec (p ≤ top) → count K p ≤ limit
-      within p (yes l) = ltb-false limit (count K p) (some-false (suc top) (λ p. ltb limit (count K p)) .0 (fits .1) p (omega arith))
+      within : (p : ℕ) → Dec (p ≤ elementTop) → count K p ≤ limit
+      within p (yes l) = ltb-false limit (count K p) (some-false (suc elementTop) (λ p. ltb limit (count K p)) .0 (fits .1) p (omega arith))
       within p (no l) = omega (arith, count-beyond K p (omega (arith, is .dimensions)))
 
       complex : Complex top limit K
-      complex = closure-complex top limit (nodeLists (told .mesh .elements)) (right-few (λ v. member v (told .mesh .nodes)) (told .mesh .elements) (told .is-right))
-          (mesh-numbered (told .mesh) text (told .is-text)) (λ p. within p (decLe p top))
+      complex = IsClosure-complex (on-sheet is) (mesh-numbered (told .mesh) text (told .is-text)) (λ p. within p (decLe p elementTop))
 
       rest : List ℕ
       rest = drop (length (layout K)) sheet
@@ -107,7 +110,7 @@ module _ (limit : ℕ) (small : limit ≤ libraryLimit) (text sheet : List ℕ) 
         within = omega (arith, length-append (layout K) rest);
         bytes = subst Bytes (sym front) (bytes-layout K);
         accepted = ap (refusal limit) front ∙ accepted-layout complex small;
-        cells = subst (IsClosure top (nodeLists (told .mesh .elements))) (sym (ap sectionsOf front ∙ sections-layout complex small)) is;
+        cells = subst (IsClosure top (nodeLists (told .mesh .elements))) (sym (ap sectionsOf front ∙ sections-layout complex small)) (on-sheet is);
         in-header = front-length small complex rest;
         past = drop-append-seam (layout K) rest;
       }
