@@ -14,8 +14,8 @@ use Rattle.complexes.specs.Cell.{Cell, precedes}
 use Rattle.complexes.specs.Complex.{section}
 use Rattle.closures.specs.Insert.{insert, insertAll}
 use Rattle.closures.specs.Closure.{elementTop, ofDimension, ownSection, ownSections}
-use Rattle.closures.specs.SectionLaws.{ownSection-snoc, ownSection-skip}
-use Rattle.closures.specs.ClosureLaws.{ownSections-section}
+use Rattle.closures.proofs.SectionLaws.{ownSection-snoc, ownSection-skip}
+use Rattle.closures.proofs.ClosureLaws.{ownSections-section}
 use Rattle.cell_sets.specs.Set.{HoldsSection, Holds, adding}
 use Rattle.cell_sets.proofs.Adding.{length-adding, section-adding-same, section-adding-other}
 

@@ -17,9 +17,10 @@ use Rattle.complexes.specs.Complex.{Sections, section}
 use Rattle.complexes.specs.Packed.{packed}
 use Rattle.closures.specs.Closure.{elementTop}
 use Rattle.closures.specs.Insert.{insert, insertAll}
-use Rattle.closures.specs.Rising.{cells-order, All, Rising}
-use Rattle.closures.specs.InsertLaws.{insert-rising, insert-all}
-use Rattle.closures.specs.PackedInsertLaws.{HasVertices, precedes-words, insert-words}
+use Rattle.closures.specs.Rising.{All, Rising, HasVertices}
+use Rattle.closures.proofs.RisingLaws.{cells-order}
+use Rattle.closures.proofs.InsertLaws.{insert-rising, insert-all}
+use Rattle.closures.proofs.PackedInsertLaws.{precedes-words, insert-words}
 use Rattle.cells.specs.Word.{Packs}
 use Rattle.cell_sets.specs.Insert.{part, Has, Puts, Lacks}
 use Rattle.cell_sets.specs.Set.{HoldsSection, Holds, Held, adding, Overfull}

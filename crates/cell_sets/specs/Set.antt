@@ -10,8 +10,7 @@ use Rattle.complexes.specs.Complex.{Sections, section}
 use Rattle.complexes.specs.Packed.{packed}
 use Rattle.closures.specs.Closure.{elementTop}
 use Rattle.closures.specs.Insert.{insert, insertAll}
-use Rattle.closures.specs.Rising.{All, Rising}
-use Rattle.closures.specs.PackedInsertLaws.{HasVertices}
+use Rattle.closures.specs.Rising.{All, Rising, HasVertices}
 use Rattle.cells.specs.Word.{Packs}
 use Rattle.cell_sets.specs.Insert.{part}
 

@@ -40,7 +40,7 @@ use Rattle.closures.specs.Insert.{insert, insertAll}
 use Rattle.closures.specs.Closure.{ofDimension, facesOf, closedSection, closure}
 use Rattle.closures.specs.Form.{IsClosure}
 use Rattle.imports.specs.Import.{nodeLists, complexOf, tooLong, importCall, importNumber}
-use Rattle.imports.specs.ImportLaws.{mesh-cells}
+use Rattle.imports.proofs.ImportLaws.{mesh-cells}
 use Rattle.imports.specs.Sheet.{headerGives, ImportedSheet}
 use Rattle.imports.specs.Examples.{hollow, lent, hollowMesh, hollow-text, hollow-right, hollow-done, hollow-host-done}
 use Rattle.homology_groups.specs.ChainLaws.{boundary-same}

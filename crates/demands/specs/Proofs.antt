@@ -16,11 +16,11 @@ use Rattle.complexes.specs.PackedLaws.{packed-fits, packed-precedes, packed-inj
 use Rattle.sheet_format.specs.Check.{first, sectionsOf, chainCells}
 use Rattle.sheet_format.specs.Sheet.{Bytes}
 use Rattle.sheet_format.specs.Accept.{accepted-iff, sections-layout}
-use Rattle.closures.specs.ClosureLaws.{closure-unique}
-use Rattle.mesh_format.specs.Accept.{mesh-unique}
+use Rattle.closures.proofs.ClosureLaws.{closure-unique}
+use Rattle.mesh_format.proofs.Accept.{mesh-unique}
 use Rattle.imports.specs.Import.{complexOf}
-use Rattle.imports.specs.ImportLaws.{import-malformed, import-faulty, mesh-cells, import-too-long, import-done, import-left}
-use Rattle.imports.specs.SheetLaws.{import-sheet, import-number}
+use Rattle.imports.proofs.ImportLaws.{import-malformed, import-faulty, mesh-cells, import-too-long, import-done, import-left}
+use Rattle.imports.proofs.SheetLaws.{import-sheet, import-number}
 use Rattle.homology_groups.specs.Chain.{Chain, combination}
 use Rattle.homology_groups.specs.ChainLaws.{boundary-same}
 use Rattle.homology_groups.specs.Coefficients.{single-at, single-other}

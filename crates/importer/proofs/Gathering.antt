@@ -14,15 +14,15 @@ use Rattle.complexes.specs.Cell as cell
 use Rattle.complexes.specs.Complex.{section}
 use Rattle.closures.specs.Insert.{insert}
 use Rattle.closures.specs.Closure.{elementTop, cellWith, ownSection, ownSections}
-use Rattle.closures.specs.SectionLaws.{ownSection-grows, ownSection-snoc}
-use Rattle.closures.specs.ClosureLaws.{ownSections-section}
+use Rattle.closures.proofs.SectionLaws.{ownSection-grows, ownSection-snoc}
+use Rattle.closures.proofs.ClosureLaws.{ownSections-section}
 use Rattle.cells.specs.Word.{Packs}
 use Rattle.cell_sets.specs.Set.{Holds, adding, AddsCell}
 use Rattle.cell_sets.specs.Close.{Exceeds}
 use Rattle.cell_sets.proofs.Own.{adding-own}
 use Rattle.mesh_format.specs.Mesh.{Element}
 use Rattle.mesh_format.specs.Parse.{elementLines}
-use Rattle.mesh_format.specs.WalkLaws.{Walk}
+use Rattle.mesh_format.proofs.WalkLaws.{Walk}
 use Rattle.imports.specs.Import.{faulty, noneFaulty, nodeLists}
 use Rattle.refusal.specs.declared.Refusal.{Refusal}
 use Rattle.complexes.specs.Packed.{Numbered}

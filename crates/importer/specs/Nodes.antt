@@ -14,7 +14,7 @@ tellEnd malformed = Malformed
 tellEnd (parsed x at) = To (record { at = at })
 
 -- r tells where the reading of the nodes ended, and the map `after` has these nodes beside those of `before`
-pub record MarksNodes (p : Parsed (List ℕ)) (before after : List ℕ) (r : Skipped) : Type 0 where
+pub record ListsNodes (p : Parsed (List ℕ)) (before after : List ℕ) (r : Skipped) : Type 0 where
   pub told : r ≡ tellEnd p
   pub sized : length after ≡ length before
-  pub marks : (nodes : List ℕ) (at : ℕ) → p ≡ parsed nodes at → (listed : List ℕ) → Maps before listed → Maps after (listed ++ nodes)
+  pub lists : (nodes : List ℕ) (at : ℕ) → p ≡ parsed nodes at → (listed : List ℕ) → Maps before listed → Maps after (listed ++ nodes)

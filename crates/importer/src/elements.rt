@@ -4,7 +4,7 @@ ghost use mathlib.Core.List.{[]};
 ghost use lib.ListN.{length};
 ghost use Rattle.cell_sets.specs.Set.{Holds};
 ghost use Rattle.mesh_format.specs.Parse.{elementLines, elementsOf};
-ghost use Rattle.mesh_elements.specs.Map.{mapLength, marked};
+ghost use Rattle.mesh_elements.specs.Map.{mapLength, inMap};
 ghost use Rattle.importer.specs.Gather.{ownCells};
 ghost use Rattle.importer.specs.Elements.{TellsElements};
 use crate::gather::Outcome;
@@ -38,7 +38,7 @@ fn gather_elements(
 ) -> Elements
     requires { ⌜ (length (now map) ≡ mapLength) × Holds limit (now cells) (now counts) (ownCells []) ⌝ }
     ensures { λ r. ⌜
-        TellsElements limit (marked (now (map .entry))) (elementLines n (now (text .entry)) (c .at)) r (now (cells .exit)) (now (counts .exit))
+        TellsElements limit (inMap (now (map .entry))) (elementLines n (now (text .entry)) (c .at)) r (now (cells .exit)) (now (counts .exit))
         ⌝ }
 {
     let mut here = c;
@@ -66,7 +66,7 @@ pub fn read_elements(
 ) -> Elements
     requires { ⌜ (length (now map) ≡ mapLength) × Holds limit (now cells) (now counts) (ownCells []) ⌝ }
     ensures { λ r. ⌜
-        TellsElements limit (marked (now (map .entry))) (elementsOf (now (text .entry)) (c .at)) r (now (cells .exit)) (now (counts .exit))
+        TellsElements limit (inMap (now (map .entry))) (elementsOf (now (text .entry)) (c .at)) r (now (cells .exit)) (now (counts .exit))
         ⌝ }
 {
     let Skipped::To(a) = the_title(text, c, &ELEMENTS) else {

@@ -16,13 +16,13 @@ use crate::gather::Outcome;
 use crate::nodes::read_nodes;
 use cell_sets::close::close_cells;
 use cell_sets::set::SECTIONS;
-use cell_sets::write::sheet_length;
-use cell_sets::write::write_sheet;
 use mesh_elements::map::MAP_LENGTH;
 use mesh_lines::answer::Skipped;
 use mesh_reader::head::read_head;
 use refusal::Refusal;
 use sheet::reader::Sheet;
+use sheet_writer::write::sheet_length;
+use sheet_writer::write::write_sheet;
 
 // The words that the work array has room for.
 const CELLS: usize = SECTIONS * Sheet::LIBRARY_LIMIT;
@@ -48,7 +48,7 @@ fn write_closure(
     Imported::Done(length)
 }
 
-// The import at a count limit, with a map that marks no node and work arrays that hold no cell.
+// The import at a count limit, with a map that lists no node and work arrays that hold no cell.
 fn import_through(
     limit: usize,
     text: &[u8],

@@ -12,8 +12,8 @@ use native.Mathlib.Omega.{arith}
 use lib.ListN.{length, drop}
 use lib.Seq.{length-take-le}
 use Rattle.mesh_format.specs.Parse.{Parsed, malformed, parsed, then, run, part, someBytes, word, gap, words}
-use Rattle.mesh_format.specs.ReadLaws.{malformed-fails}
-use Rattle.mesh_format.specs.RunLaws.{run-le}
+use Rattle.mesh_format.proofs.ReadLaws.{malformed-fails}
+use Rattle.mesh_format.proofs.RunLaws.{run-le}
 use Rattle.mesh_lines.specs.Class.{inClass, someOf}
 use Rattle.mesh_lines.specs.Steps.{skip, spaced}
 use Rattle.mesh_lines.specs.declared.run.Class.{Class}

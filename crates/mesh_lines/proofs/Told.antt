@@ -10,7 +10,7 @@ use lib.ListN.{length, take}
 use Rattle.complexes.specs.Packed.{wordVertices, packed}
 use Rattle.mesh_format.specs.Mesh as mesh
 use Rattle.mesh_format.specs.Parse.{Parsed, malformed, parsed, part, word, lineEnd, wordLine}
-use Rattle.mesh_format.specs.ReadLaws.{parsed-inj, then-case}
+use Rattle.mesh_format.proofs.ReadLaws.{parsed-inj, then-case}
 use Rattle.mesh_lines.specs.Answer.{tellSkipped, tellNumber, tellTitle, tellElement, TellsElement}
 use Rattle.mesh_lines.specs.Class.{someOf}
 use Rattle.mesh_lines.specs.Steps.{skip}

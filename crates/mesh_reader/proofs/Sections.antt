@@ -14,8 +14,8 @@ use lib.Seq.{take-all}
 use borrow.Author.Tests.{ltb-true}
 use Rattle.mesh_format.specs.Words.{meshFormatName, nodesName, elementsName, opening, ending}
 use Rattle.mesh_format.specs.Parse.{malformed, parsed, then, part, sameWord, wordLine, closingLine, opensSection, sections}
-use Rattle.mesh_format.specs.ReadLaws.{Within}
-use Rattle.mesh_format.specs.StepLaws.{wordLine-within, closingLine-within, sections-step}
+use Rattle.mesh_format.proofs.ReadLaws.{Within}
+use Rattle.mesh_format.proofs.StepLaws.{wordLine-within, closingLine-within, sections-step}
 use Rattle.mesh_lines.specs.Answer.{tellSkipped, tellTitle}
 use Rattle.mesh_lines.specs.declared.answer.Cursor.{Cursor}
 use Rattle.mesh_lines.specs.declared.answer.Skipped.{Skipped}

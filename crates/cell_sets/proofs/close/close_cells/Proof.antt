@@ -15,7 +15,7 @@ use Rattle.complexes.specs.Cell.{Cell, precedes}
 use Rattle.complexes.specs.Complex.{Sections, section}
 use Rattle.closures.specs.Insert.{insertAll}
 use Rattle.closures.specs.Closure.{elementTop, ownSection, facesOf, ownSections, closure}
-use Rattle.closures.specs.ClosureLaws.{closure-dimensions, ownSections-section, closure-top, closure-step}
+use Rattle.closures.proofs.ClosureLaws.{closure-dimensions, ownSections-section, closure-top, closure-step}
 use Rattle.cell_sets.specs.Set.{Holds, adding, Adds}
 use Rattle.cell_sets.specs.Close.{Exceeds}
 use Rattle.cell_sets.proofs.Sets.{held}

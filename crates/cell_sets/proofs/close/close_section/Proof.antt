@@ -15,7 +15,7 @@ use Rattle.complexes.specs.Cell.{Cell, without, precedes}
 use Rattle.complexes.specs.Complex.{Sections, section}
 use Rattle.closures.specs.Insert.{insertAll}
 use Rattle.closures.specs.Closure.{elementTop, facesOf}
-use Rattle.closures.specs.SectionLaws.{facesOf-append, facesOf-snoc}
+use Rattle.closures.proofs.SectionLaws.{facesOf-append, facesOf-snoc}
 use Rattle.cells.specs.Word.{Packs}
 use Rattle.cell_sets.specs.Set.{Holds, adding, Adds}
 use Rattle.cell_sets.specs.Close.{AddsFaces}

@@ -11,7 +11,7 @@ use Rattle.complexes.specs.Cell.{Cell}
 use Rattle.closures.specs.Closure.{elementTop, ownSections, closure}
 use Rattle.cell_sets.specs.Set.{Holds}
 use Rattle.cell_sets.specs.Close.{ClosesOwn}
-use Rattle.cell_sets.specs.Write.{Small}
+use Rattle.sheet_writer.specs.Write.{Small}
 use Rattle.importer.proofs.Writing.{too-many-faces, slice-too-short, sheet-written}
 use Rattle.importer.proofs.import.write_closure.Statement.{statement}
 use Rattle.importer.proofs.import.write_closure.Tie as tie
