@@ -27,7 +27,7 @@ use Rattle.imports.specs.Import.{faulty, noneFaulty, nodeLists}
 use Rattle.refusal.specs.declared.Refusal.{Refusal}
 use Rattle.complexes.specs.Packed.{Numbered}
 use Rattle.mesh_lines.specs.declared.answer.Element as answer
-use Rattle.mesh_lines.specs.Answer.{TellsElement}
+use Rattle.mesh_lines.specs.Tells.{TellsElement}
 use Rattle.mesh_elements.specs.Element.{Checks}
 use Rattle.mesh_elements.specs.declared.element.Checked.the-variants.{Cell, Refused}
 use Rattle.importer.specs.Gather.{ownCells, Gathers, Ready, AddsElement}

@@ -30,7 +30,7 @@ use Rattle.closures.proofs.ClosureLaws.{ownSections-count}
 use Rattle.cell_sets.specs.Set.{Holds}
 use Rattle.cell_sets.specs.Close.{Exceeds}
 use Rattle.importer.specs.Gather.{ownCells}
-use Rattle.importer.specs.Answer.{ImportAnswers, WritesClosure}
+use Rattle.importer.specs.ImportAnswers.{ImportAnswers, WritesClosure}
 use Rattle.importer.specs.declared.answer.Imported.{Imported}
 use Rattle.importer.proofs.Writing.{too-many-faces}
 use Rattle.importer.specs.declared.answer.Imported.the-variants.{Refused}

@@ -16,8 +16,8 @@ use Rattle.closures.specs.Closure.{member}
 use Rattle.mesh_format.specs.Parse.{Parsed, malformed, parsed, number, node, words, lineEnd, nodeLine, nodeLines}
 use Rattle.mesh_format.proofs.ReadLaws.{malformed-fails, parsed-inj, then-case, cond-split, nodeLines-repeats}
 use Rattle.mesh_format.proofs.WalkLaws.{Walk, walk-start, walk-more, walk-end}
-use Rattle.mesh_lines.specs.declared.answer.Cursor.{Cursor}
-use Rattle.mesh_lines.specs.declared.answer.Skipped.the-variants.{Malformed, To}
+use Rattle.mesh_words.specs.declared.answer.Cursor.{Cursor}
+use Rattle.mesh_words.specs.declared.answer.Skipped.the-variants.{Malformed, To}
 use Rattle.mesh_elements.specs.Map.{inMap, Lists}
 use Rattle.mesh_elements.specs.Listed.{Maps}
 use Rattle.importer.specs.Nodes.{tellEnd, ListsNodes}

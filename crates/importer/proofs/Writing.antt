@@ -15,7 +15,7 @@ use Rattle.cell_sets.specs.Set.{Holds}
 use Rattle.cell_sets.specs.Close.{Exceeds}
 use Rattle.imports.specs.Import.{tooLong, done, answerWith}
 use Rattle.refusal.specs.declared.Refusal.the-variants.{SheetTooLong}
-use Rattle.importer.specs.Answer.{ImportAnswers}
+use Rattle.importer.specs.ImportAnswers.{ImportAnswers}
 use Rattle.importer.specs.declared.answer.Imported.the-variants.{Done, Refused}
 
 module _ (limit : ℕ) (K : Sections) (sheet : List ℕ) where

@@ -11,7 +11,7 @@ use Rattle.cell_sets.specs.Close.{Exceeds}
 use Rattle.mesh_format.specs.Mesh as mesh
 use Rattle.imports.specs.Import.{noneFaulty, nodeLists}
 use Rattle.mesh_lines.specs.declared.answer.Element.{Element}
-use Rattle.mesh_lines.specs.Answer.{TellsElement}
+use Rattle.mesh_lines.specs.Tells.{TellsElement}
 use Rattle.importer.specs.declared.gather.Outcome.{Outcome}
 use Rattle.importer.specs.declared.gather.Outcome.the-variants.{Gathered, Faulty, TooMany}
 

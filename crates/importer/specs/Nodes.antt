@@ -4,8 +4,8 @@ use mathlib.Core.List.{List, _++_}
 use Prim.Native.Nat.{ℕ}
 use lib.ListN.{length}
 use Rattle.mesh_format.specs.Parse.{Parsed, malformed, parsed}
-use Rattle.mesh_lines.specs.declared.answer.Skipped.{Skipped}
-use Rattle.mesh_lines.specs.declared.answer.Skipped.the-variants.{Malformed, To}
+use Rattle.mesh_words.specs.declared.answer.Skipped.{Skipped}
+use Rattle.mesh_words.specs.declared.answer.Skipped.the-variants.{Malformed, To}
 use Rattle.mesh_elements.specs.Listed.{Maps}
 
 -- r tells where the reading ended

@@ -10,15 +10,15 @@ ghost use Rattle.importer.specs.Elements.{TellsElements};
 use crate::gather::Outcome;
 use crate::gather::add_element;
 use cell_sets::set::SECTIONS;
-use mesh_lines::answer::Cursor;
 use mesh_lines::answer::ElementLine;
-use mesh_lines::answer::Number;
-use mesh_lines::answer::Skipped;
 use mesh_reader::keywords::ELEMENTS;
 use mesh_reader::keywords::END_ELEMENTS;
 use mesh_reader::read::read_count;
 use mesh_reader::read::read_element;
 use mesh_reader::title::the_title;
+use mesh_words::answer::Cursor;
+use mesh_words::answer::Number;
+use mesh_words::answer::Skipped;
 
 // The outcome of gathering their cells, and where they end.
 pub enum Elements {

@@ -5,13 +5,13 @@ ghost use Rattle.mesh_format.specs.Parse.{nodeLines, nodesOf};
 ghost use Rattle.mesh_elements.specs.Map.{mapLength};
 ghost use Rattle.importer.specs.Nodes.{ListsNodes};
 use mesh_elements::map::list;
-use mesh_lines::answer::Cursor;
-use mesh_lines::answer::Number;
-use mesh_lines::answer::Skipped;
 use mesh_reader::keywords::END_NODES;
 use mesh_reader::read::read_count;
 use mesh_reader::read::read_node;
 use mesh_reader::title::the_title;
+use mesh_words::answer::Cursor;
+use mesh_words::answer::Number;
+use mesh_words::answer::Skipped;
 
 // Reads n lines of nodes, and lists each node.
 fn list_nodes(text: &[u8], c: Cursor, n: usize, map: &mut [u8]) -> Skipped

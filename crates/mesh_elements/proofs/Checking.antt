@@ -19,7 +19,7 @@ use Rattle.imports.specs.Import.{nodesOfKind}
 use Rattle.refusal.specs.declared.Refusal.{Refusal}
 use Rattle.refusal.specs.declared.Refusal.the-variants.{ElementFaulty}
 use Rattle.mesh_lines.specs.declared.answer.Element.{Element}
-use Rattle.mesh_lines.specs.Answer.{TellsElement}
+use Rattle.mesh_lines.specs.Tells.{TellsElement}
 use Rattle.mesh_elements.specs.Map.{inMap}
 use Rattle.mesh_elements.specs.Kind.{IsSimplex, IsKind}
 use Rattle.mesh_elements.specs.Listed.{AllListed}

@@ -9,7 +9,7 @@ use Rattle.mesh_format.specs.Mesh as mesh
 use Rattle.imports.specs.Import.{faulty}
 use Rattle.refusal.specs.Number.{numberOf}
 use Rattle.mesh_lines.specs.declared.answer.Element.{Element}
-use Rattle.mesh_lines.specs.Answer.{TellsElement}
+use Rattle.mesh_lines.specs.Tells.{TellsElement}
 use Rattle.mesh_elements.specs.declared.element.Checked.{Checked}
 use Rattle.mesh_elements.specs.declared.element.Checked.the-variants.{Cell, Refused}
 

@@ -6,7 +6,7 @@ ghost use Rattle.complexes.specs.Packed.{wordVertices};
 ghost use Rattle.mesh_elements.specs.Map.{mapLength};
 ghost use Rattle.mesh_elements.specs.Listed.{AllListed};
 use crate::map::is_listed;
-use mesh_lines::number::NODE_BOUND;
+use mesh_words::number::NODE_BOUND;
 
 // Whether all n nodes of the word are listed.
 pub fn all_listed(map: &[u8], word: u64, n: usize) -> bool

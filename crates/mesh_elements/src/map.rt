@@ -4,7 +4,7 @@ ghost use Prim.Native.Nat.{_^_, _<_};
 ghost use lib.ListN.{length};
 ghost use Rattle.complexes.specs.Complex.{vertexBound};
 ghost use Rattle.mesh_elements.specs.Map.{mapLength, bitOf, inMap, SetsBit, Lists};
-use mesh_lines::number::NODE_BOUND;
+use mesh_words::number::NODE_BOUND;
 
 // The bytes of the map.
 pub const MAP_LENGTH: usize = NODE_BOUND / 8;

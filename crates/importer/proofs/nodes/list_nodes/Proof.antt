@@ -6,7 +6,7 @@ use native.Mathlib.Omega.{arith}
 use denote.Ref.{now}
 use Rattle.mesh_format.proofs.ReadLaws.{nodeLines-repeats}
 use Rattle.mesh_format.proofs.WalkLaws.{walk-stop}
-use Rattle.mesh_lines.proofs.Told.{number-malformed, number-read}
+use Rattle.mesh_words.proofs.Told.{number-malformed, number-read}
 use Rattle.importer.proofs.Listing.{Listing, listing-start, listing-more, listing-end, lists-none, node-below}
 use Rattle.importer.proofs.nodes.list_nodes.Statement.{statement}
 use Rattle.importer.proofs.nodes.list_nodes.Tie as tie

@@ -8,9 +8,9 @@ use denote.Ref.{now}
 use Rattle.mesh_format.specs.Words.{nodesName, ending}
 use Rattle.mesh_format.specs.Parse.{malformed, parsed, then, countLine, nodeLines, titleLine, nodesOf}
 use Rattle.mesh_format.proofs.ReadLaws.{parsed-inj, then-case}
-use Rattle.mesh_lines.specs.Answer.{tellSkipped}
-use Rattle.mesh_lines.proofs.Told.{number-malformed, number-read}
-use Rattle.mesh_lines.specs.declared.answer.Skipped.{Skipped}
+use Rattle.mesh_words.specs.Tells.{tellSkipped}
+use Rattle.mesh_words.proofs.Told.{number-malformed, number-read}
+use Rattle.mesh_words.specs.declared.answer.Skipped.{Skipped}
 use Rattle.mesh_elements.specs.Listed.{Maps}
 use Rattle.importer.specs.Nodes.{tellEnd, ListsNodes}
 use Rattle.importer.proofs.Ends.{end-malformed, end-to, end-then}
