@@ -7,7 +7,8 @@ use Prim.Native.Nat.{ℕ, _≤_}
 use lib.ListN.{length, drop}
 use Rattle.limits.specs.Limits.{libraryLimit, hostLimit}
 use Rattle.complexes.specs.Complex.{Sections}
-use Rattle.sheet_format.specs.Layout.{top, layout}
+use Rattle.sheet_format.specs.Layout.{layout}
+use Rattle.closures.specs.Closure.{elementTop}
 use Rattle.closures.specs.Form.{IsClosure}
 use Rattle.mesh_format.specs.Mesh.{Mesh}
 use Rattle.mesh_format.specs.Form.{MeshText}
@@ -34,25 +35,25 @@ ImportFaulty =
 -- the cells of a mesh: the elements' vertex sets and their nonempty subsets. Where the elements are right there are such sections, and no others
 pub record HasCells (m : Mesh) : Type 0 where
   pub cells : Sections
-  pub are : IsClosure top (nodeLists (m .elements)) cells
+  pub are : IsClosure elementTop (nodeLists (m .elements)) cells
 
 abbrev pub MeshCells : Type 0
 MeshCells = (m : Mesh) → elementsRight m ≡ true → HasCells m
 
 abbrev pub MeshCellsUnique : Type 0
-MeshCellsUnique = (m : Mesh) (K L : Sections) → IsClosure top (nodeLists (m .elements)) K → IsClosure top (nodeLists (m .elements)) L → K ≡ L
+MeshCellsUnique = (m : Mesh) (K L : Sections) → IsClosure elementTop (nodeLists (m .elements)) K → IsClosure elementTop (nodeLists (m .elements)) L → K ≡ L
 
 -- "16, the sheet's slice is too short or a count would exceed its limit": where neither 14 nor 15 applies
 abbrev pub ImportTooLong : Type 0
 ImportTooLong =
-    (limit : ℕ) (text sheet : List ℕ) (m : Mesh) → MeshText m text → elementsRight m ≡ true → (K : Sections) → IsClosure top (nodeLists (m .elements)) K →
+    (limit : ℕ) (text sheet : List ℕ) (m : Mesh) → MeshText m text → elementsRight m ≡ true → (K : Sections) → IsClosure elementTop (nodeLists (m .elements)) K →
     (importNumber (importCall limit text sheet .answer) ≡ 16) ↔ (tooLong limit (length sheet) K ≡ true)
 
 -- demand 3, "A call answers done whenever no numbered refusal applies to it"; "A call that writes a sheet answers done with its length in bytes"; 01,
 -- "untouched past what the call writes"
 abbrev pub ImportDone : Type 0
 ImportDone =
-    (limit : ℕ) (text sheet : List ℕ) (m : Mesh) → MeshText m text → elementsRight m ≡ true → (K : Sections) → IsClosure top (nodeLists (m .elements)) K →
+    (limit : ℕ) (text sheet : List ℕ) (m : Mesh) → MeshText m text → elementsRight m ≡ true → (K : Sections) → IsClosure elementTop (nodeLists (m .elements)) K →
     tooLong limit (length sheet) K ≡ false →
     importCall limit text sheet ≡ record { answer = imports.done (length (layout K)); output = layout K ++ drop (length (layout K)) sheet }
 

@@ -1,7 +1,7 @@
 // What the import call answers.
 ghost use mathlib.Core.Path.{_≡_};
 ghost use Rattle.imports.specs.Import.{importNumber};
-ghost use Rattle.importer.specs.Answer.{answered};
+ghost use Rattle.importer.specs.ImportAnswers.{answered};
 use refusal::Refusal;
 
 // Done, with the sheet's length in bytes, or refused.

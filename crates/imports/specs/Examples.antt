@@ -20,7 +20,7 @@ use Rattle.mesh_format.specs.Words.{valueFrom}
 use Rattle.mesh_format.specs.Form.{joined, MeshText}
 use Rattle.mesh_format.specs.Examples.{openFormat, format, endFormat, openNodes, endNodes, openElements, endElements}
 use Rattle.mesh_format.specs.Parse.{then, run, someBytes, word, gap, lineEnd, digitsAt, number, node, theWord, words, wordLine, titleLine, formatLine, countLine, nodeLine, nodesWithin, nodeNumbers, elementLine, nodeLines, elementLines, closingWithin, closingLine, sectionsWithin, sections, headOf, nodesOf, elementsOf, meshOf}
-use Rattle.mesh_format.specs.Accept.{mesh-iff}
+use Rattle.mesh_format.proofs.Accept.{mesh-iff}
 use Rattle.imports.specs.Import.{nodesOfKind, faulty, noneFaulty, elementsRight, meshIn, isMalformed, tooLong, meshChecks, Answer, done, refused, ImportCalled, answerWith, importCall, importNumber}
 
 -- ---- texts

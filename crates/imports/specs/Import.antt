@@ -6,10 +6,10 @@ use lib.Dec.{eqb, ltb}
 use lib.ListN.{length, drop}
 use Rattle.lists.specs.Same.{every}
 use Rattle.complexes.specs.Complex.{Sections, count}
-use Rattle.sheet_format.specs.Layout.{top, layout}
+use Rattle.sheet_format.specs.Layout.{layout}
 use Rattle.trials.specs.Trial.{first}
 use Rattle.sheet_format.specs.Check.{some}
-use Rattle.closures.specs.Closure.{cellWith, closure, member, repeats}
+use Rattle.closures.specs.Closure.{elementTop, cellWith, closure, member, repeats}
 use Rattle.mesh_format.specs.Mesh.{Element, Mesh}
 use Rattle.mesh_format.specs.Parse.{Parsed, malformed, parsed, meshOf}
 
@@ -40,7 +40,7 @@ nodeLists es = map (λ e. e .nodes) es
 
 -- the cells of the elements and their nonempty subsets, by dimension
 abbrev pub complexOf : List Element → Sections
-complexOf es = closure top (map cellWith (nodeLists es))
+complexOf es = closure elementTop (map cellWith (nodeLists es))
 
 -- ---- the checks
 
@@ -55,7 +55,7 @@ isMalformed (parsed m at) = false
 
 -- the sheet of the cells K is longer than the room for it, or a count exceeds its limit
 unfoldable pub tooLong : ℕ → ℕ → Sections → Bool
-tooLong limit room K = ltb room (length (layout K)) || some (suc top) (λ p. ltb limit (count K p))
+tooLong limit room K = ltb room (length (layout K)) || some (suc elementTop) (λ p. ltb limit (count K p))
 
 -- 14 to 16, for a text that tells the mesh m, at the count limit, with room for so many bytes
 unfoldable pub meshChecks : ℕ → ℕ → Parsed Mesh → List (ℕ × Bool)
