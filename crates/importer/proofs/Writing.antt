@@ -13,7 +13,8 @@ use Rattle.sheet_format.specs.CheckLaws.{some-at, some-false}
 use Rattle.closures.specs.Closure.{elementTop}
 use Rattle.cell_sets.specs.Set.{Holds}
 use Rattle.cell_sets.specs.Close.{Exceeds}
-use Rattle.imports.specs.Import.{tooLong, done, answerWith}
+use Rattle.trials.specs.Trial.{done}
+use Rattle.imports.specs.Import.{tooLong, answerWith}
 use Rattle.refusal.specs.declared.Refusal.the-variants.{SheetTooLong}
 use Rattle.importer.specs.ImportAnswers.{ImportAnswers}
 use Rattle.importer.specs.declared.answer.Imported.the-variants.{Done, Refused}

@@ -8,6 +8,7 @@ use Rattle.complexes.specs.Cell.{Cell}
 use Rattle.sheet_format.specs.Layout.{layout}
 use Rattle.closures.specs.Closure.{elementTop, ownSections, closure}
 use Rattle.cell_sets.specs.Set.{Holds}
+use Rattle.trials.specs.Trial.{Answer, done, refused, numberTold}
 use Rattle.imports.specs.Import as spec
 use Rattle.imports.specs.Import.{tooLong, answerWith}
 use Rattle.refusal.specs.Number.{numberOf}
@@ -15,9 +16,9 @@ use Rattle.importer.specs.declared.answer.Imported.{Imported}
 use Rattle.importer.specs.declared.answer.Imported.the-variants.{Done, Refused}
 
 -- done with the length, or refused with the number that the documents give the refusal
-abbrev pub answered : Imported → spec.Answer
-answered (Done n) = spec.done n
-answered (Refused x) = spec.refused (numberOf x)
+abbrev pub answered : Imported → Answer ℕ
+answered (Done n) = done n
+answered (Refused x) = refused (numberOf x)
 
 -- the answer and the slice for the sheet are those of the definition
 pub record ImportAnswers (called : spec.ImportCalled) (r : Imported) (output : List ℕ) : Type 0 where
@@ -26,7 +27,7 @@ pub record ImportAnswers (called : spec.ImportCalled) (r : Imported) (output : L
 
 -- .. the answer told by its number
 pub record ImportTold (called : spec.ImportCalled) (r : ℕ) (output : List ℕ) : Type 0 where
-  pub number-is : r ≡ spec.importNumber (called .answer)
+  pub number-is : r ≡ numberTold (called .answer)
   pub output-is : output ≡ called .output
 
 -- the faces of the cells cs were added, and the sheet written if it fits

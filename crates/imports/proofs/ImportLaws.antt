@@ -18,15 +18,16 @@ use Rattle.closures.specs.Form.{IsClosure}
 use Rattle.mesh_format.specs.Mesh.{Mesh}
 use Rattle.mesh_format.specs.Form.{MeshText}
 use Rattle.mesh_format.specs.Parse.{Parsed, malformed, parsed, meshOf}
-use Rattle.imports.specs.Import.{elementsRight, nodeLists, complexOf, meshIn, isMalformed, tooLong, meshChecks, done, refused, answerWith, importCall, importNumber}
+use Rattle.trials.specs.Trial.{done, refused, numberTold}
+use Rattle.imports.specs.Import.{elementsRight, nodeLists, complexOf, meshIn, isMalformed, tooLong, meshChecks, answerWith, importCall}
 use Rattle.mesh_format.proofs.Accept.{mesh-iff, malformed-iff, meshOf-ends}
 use Rattle.closures.proofs.ClosureLaws.{closure-is, closure-unique}
 use Rattle.imports.proofs.ElementLaws.{right-few}
 
 -- ---- the number told
 
-answerWith-number : (n : ℕ) (bytes sheet : List ℕ) → importNumber (answerWith n bytes sheet .answer) ≡ n
-unfolding answerWith importNumber
+answerWith-number : (n : ℕ) (bytes sheet : List ℕ) → numberTold (answerWith n bytes sheet .answer) ≡ n
+unfolding answerWith 
 answerWith-number zero bytes sheet = refl
 answerWith-number (suc n) bytes sheet = refl
 
@@ -61,7 +62,7 @@ module _ (limit : ℕ) (text sheet : List ℕ) where
   abbrev number : ℕ
   number = first (meshChecks limit (length sheet) (meshOf text))
 
-  number-is : importNumber (importCall limit text sheet .answer) ≡ number
+  number-is : numberTold (importCall limit text sheet .answer) ≡ number
   unfolding importCall
   number-is = answerWith-number number (layout (complexOf (meshIn (meshOf text) .elements))) sheet
 
@@ -86,10 +87,10 @@ module _ (limit : ℕ) (text sheet : List ℕ) where
   unfolding importCall meshChecks isMalformed answerWith
   import-not e = rw e refl
 
-  import-parsed : (m : Mesh) → MeshText m text → importNumber (importCall limit text sheet .answer) ≡ told (elementsRight m) (long m)
+  import-parsed : (m : Mesh) → MeshText m text → numberTold (importCall limit text sheet .answer) ≡ told (elementsRight m) (long m)
   import-parsed m t = number-is ∙ number-mesh m (length text) (mesh-iff m text .0 t)
 
-  pub import-malformed : (importNumber (importCall limit text sheet .answer) ≡ 14) ↔ ((m : Mesh) → MeshText m text → ⊥)
+  pub import-malformed : (numberTold (importCall limit text sheet .answer) ≡ 14) ↔ ((m : Mesh) → MeshText m text → ⊥)
   import-malformed = (
     λ e. malformed-iff text .0 (only (sym number-is ∙ e) (meshOf text) refl),
     λ h. number-is ∙ number-malformed (malformed-iff text .1 h),
@@ -99,7 +100,7 @@ module _ (limit : ℕ) (text sheet : List ℕ) where
       only n malformed e = e
       only n (parsed m at) e = absurd (told-14 (elementsRight m) (long m) (sym (number-mesh m at e) ∙ n))
 
-  pub import-faulty : (m : Mesh) → MeshText m text → (importNumber (importCall limit text sheet .answer) ≡ 15) ↔ (elementsRight m ≡ false)
+  pub import-faulty : (m : Mesh) → MeshText m text → (numberTold (importCall limit text sheet .answer) ≡ 15) ↔ (elementsRight m ≡ false)
   import-faulty m t = rw (import-parsed m t) (told-15 (elementsRight m) (long m))
 
   -- ---- a text whose elements are right
@@ -108,9 +109,9 @@ module _ (limit : ℕ) (text sheet : List ℕ) where
       same : complexOf (m .elements) ≡ K
       same = closure-unique (mesh-cells m r) is
 
-      pub import-too-long : (importNumber (importCall limit text sheet .answer) ≡ 16) ↔ (tooLong limit (length sheet) K ≡ true)
+      pub import-too-long : (numberTold (importCall limit text sheet .answer) ≡ 16) ↔ (tooLong limit (length sheet) K ≡ true)
       import-too-long =
-          subst (λ (L : Sections). (importNumber (importCall limit text sheet .answer) ≡ 16) ↔ (tooLong limit (length sheet) L ≡ true)) same
+          subst (λ (L : Sections). (numberTold (importCall limit text sheet .answer) ≡ 16) ↔ (tooLong limit (length sheet) L ≡ true)) same
           (rw (import-parsed m t) (told-16 (elementsRight m) (long m) r))
 
       pub import-done : tooLong limit (length sheet) K ≡ false
@@ -122,7 +123,7 @@ module _ (limit : ℕ) (text sheet : List ℕ) where
 
   -- ---- what is left
 
-  pub import-left : importNumber (importCall limit text sheet .answer) ≢ 0 → importCall limit text sheet .output ≡ sheet
+  pub import-left : numberTold (importCall limit text sheet .answer) ≢ 0 → importCall limit text sheet .output ≡ sheet
   unfolding importCall answerWith
   import-left d = left number (λ e. d (number-is ∙ e))
     where
@@ -139,7 +140,7 @@ module _ (limit : ℕ) (text sheet : List ℕ) where
     pub is-right : elementsRight mesh ≡ true
     pub fits : tooLong limit (length sheet) (complexOf (mesh .elements)) ≡ false
 
-  pub import-told : importNumber (importCall limit text sheet .answer) ≡ 0 → Done
+  pub import-told : numberTold (importCall limit text sheet .answer) ≡ 0 → Done
   import-told z = pick (meshOf text) refl
     where
       pick : (r : Parsed Mesh) → meshOf text ≡ r → Done

@@ -21,7 +21,8 @@ use Rattle.sheet_format.specs.Sheet.{Bytes}
 use Rattle.sheet_format.specs.Accept.{reads-layout, accepted-layout, sections-layout}
 use Rattle.closures.specs.Closure.{elementTop}
 use Rattle.closures.specs.Form.{IsClosure}
-use Rattle.imports.specs.Import.{nodeLists, complexOf, tooLong, Answer, done, refused, importCall, importNumber}
+use Rattle.trials.specs.Trial.{Answer, done, refused, numberTold}
+use Rattle.imports.specs.Import.{nodeLists, complexOf, tooLong, importCall}
 use Rattle.imports.specs.Sheet.{headerGives, ImportedSheet}
 use native.Mathlib.Decide.{decLe}
 use Rattle.closures.proofs.ClosureLaws.{IsClosure-complex}
@@ -29,7 +30,7 @@ use Rattle.imports.proofs.ElementLaws.{mesh-numbered}
 use Rattle.imports.proofs.ImportLaws.{mesh-cells, Done, import-told, import-done}
 
 -- the length that is answered
-answerLength : Answer → ℕ
+answerLength : Answer ℕ → ℕ
 answerLength (done n) = n
 answerLength (refused n) = 0
 
@@ -65,13 +66,13 @@ module _ {limit : ℕ} (small : limit ≤ libraryLimit) {K : Sections} (complex 
 -- ---- the import
 module _ (limit : ℕ) (small : limit ≤ libraryLimit) (text sheet : List ℕ) where
   pub import-sheet : (n : ℕ) → importCall limit text sheet .answer ≡ done n → ImportedSheet limit text sheet (importCall limit text sheet .output) n
-  unfolding tooLong importNumber answerLength
+  unfolding tooLong answerLength
   import-sheet n e =
       subst (λ (k : ℕ). ImportedSheet limit text sheet (importCall limit text sheet .output) k) (sym size)
       (subst (λ (out : List ℕ). ImportedSheet limit text sheet out (length (layout K))) (sym (ap (λ c. c .output) called)) written)
     where
       told : Done limit text sheet
-      told = import-told limit text sheet (ap importNumber e)
+      told = import-told limit text sheet (ap numberTold e)
 
       K : Sections
       K = complexOf (told .mesh .elements)
@@ -116,7 +117,7 @@ module _ (limit : ℕ) (small : limit ≤ libraryLimit) (text sheet : List ℕ) 
       }
 
   -- .. told by the number alone, with the length that the header gives
-  pub import-number : importNumber (importCall limit text sheet .answer) ≡ 0
+  pub import-number : numberTold (importCall limit text sheet .answer) ≡ 0
       → ImportedSheet limit text sheet (importCall limit text sheet .output) (headerGives (importCall limit text sheet .output))
   import-number z =
       let d : Done limit text sheet = import-told limit text sheet z in
