@@ -93,7 +93,6 @@ module _ {rule : Rule} (is-rule : IsRule rule) (K : Sections) (p n : ℕ) (chain
 
     pub first-refused : {x : Refusal} {w′ : List ℤ} → ReductionRefused (reductionOf rule W peak w) (length w) x w′
         → TwiceReduced K p (reductionsOf rule K p) n (Refused refusal.TooWide) w′
-    unfolding reductionsOf
     first-refused h = (
       first-wide rule entryLimit K p (sym starts ∙ h .outcome),
       cleared (f .kept .same-length) (h .cleared),
@@ -136,7 +135,7 @@ module _ {rule : Rule} (is-rule : IsRule rule) (K : Sections) (p n : ℕ) (chain
     asked = mul (W .«row_follower» .width) (contents (W .«row_follower») w) (boundary K (suc p))
 
     pub product-refused : {w′ : List ℤ} → Exceeds (W .matrix) w asked w′ → reductionsOf rule K p ≡ reports.tooWide
-    unfolding reductionsOf secondLayout
+    unfolding secondLayout
     product-refused {w′} h =
         product-wide rule entryLimit K p r (stateOf (firstLayoutOf K p) peak w) (f .outcome)
         (product-beyond K p n r slots (f .rank-within) peak w (f .shaped) (rw is at h))
@@ -159,7 +158,6 @@ module _ {rule : Rule} (is-rule : IsRule rule) (K : Sections) (p n : ℕ) (chain
 
     pub second-refused : {x : Refusal} {w″ : List ℤ} → ReductionRefused (reductionOf rule W peak′ w′) (length w′) x w″
         → TwiceReduced K p (reductionsOf rule K p) n (Refused refusal.TooWide) w″
-    unfolding reductionsOf
     second-refused h = (
       second-wide rule entryLimit K p r (stateOf (firstLayoutOf K p) peak w) (s .first .outcome) (s .narrow) (sym starts-again ∙ h .outcome),
       cleared (s .kept .same-length) (h .cleared),
@@ -167,7 +165,7 @@ module _ {rule : Rule} (is-rule : IsRule rule) (K : Sections) (p n : ℕ) (chain
 
     pub second-done : {last peak″ : ℕ} {w″ : List ℤ} → ReductionDone W (reductionOf rule W peak′ w′) (length w′) last peak″ w″
         → TwiceReduced K p (reductionsOf rule K p) n (Done (record { layout = W; rank = last; peak = peak″ })) w″
-    unfolding reductionsOf secondLayout afterSecond
+    unfolding secondLayout afterSecond
     second-done {last} {peak″} {w″} h = record {
       first-rank = r;
       rank-within = s .first .rank-within;
