@@ -17,7 +17,7 @@ use Rattle.sheet_format.specs.Sheet.{Bytes}
 use Rattle.sheet_format.specs.Accept.{accepted-chains}
 use Rattle.reduction_steps.specs.State.{State, within}
 use Rattle.reduction_steps.specs.Pivot.{Rule, IsRule}
-use Rattle.reports.specs.Reductions.{Reductions, tooWide, reduced}
+use Rattle.reports.specs.Reductions.{Reductions, tooWide, reduced, noTransforms}
 use Rattle.reports.specs.Report.{Counts, countsOf}
 use Rattle.reports.specs.ReductionsLaws.{tooWide≢reduced}
 use Rattle.reports.specs.Call.{done, written, finished, callChecks, reductionsOf}
@@ -28,7 +28,7 @@ use Rattle.reports.specs.RefusalLaws.{callChecks-zero}
 use Rattle.answers.specs.Wide.{GoesWide}
 use Rattle.answers.specs.Called.{answerNumber, IsDone, Answers, KeptPast, WorkLeft, Leaves}
 use Rattle.answers.specs.TwoReductions.{Right, reductions-right, reductions-within}
-use Rattle.answers.specs.Headroom.{Headroom, reductions-headroom}
+use Rattle.answers.specs.Headroom.{Headroom, no-transforms-bare, reductions-headroom}
 use Rattle.answers.specs.WideLaws.{wide-iff}
 use Rattle.answers.specs.LeastLimit.{AtLimit, reductions-limit}
 
@@ -129,30 +129,30 @@ pub passed-chains : (limit : ℕ) (b : List ℕ) (p : ℕ) (slots : Sections →
 passed-chains limit b p slots output work bytes e = accepted-chains limit b bytes (callChecks-zero limit b p slots output work .0 e .accepted)
 
 module _ {rule : Rule} (is : IsRule rule) {limit : ℕ} (K : Sections) (p : ℕ) (chains : ChainComplex limit K) where
-  pub reductionsOf-wide : (reductionsOf rule K p ≡ tooWide) ↔ GoesWide entryLimit rule K p
+  pub reductionsOf-wide : (reductionsOf rule K p ≡ tooWide) ↔ GoesWide noTransforms entryLimit rule K p
   unfolding reductionsOf
-  reductionsOf-wide = wide-iff chains rule is entryLimit p (omega arith)
+  reductionsOf-wide = wide-iff chains noTransforms rule is entryLimit p (omega arith)
 
   module _ (s r : ℕ) (x : State) (e : reductionsOf rule K p ≡ reduced s r x) where
     pub reductionsOf-right : Right K p s r x
     unfolding reductionsOf
-    reductionsOf-right = reductions-right chains rule is entryLimit p (omega arith) s r x e
+    reductionsOf-right = reductions-right chains noTransforms rule is entryLimit p (omega arith) s r x e
 
     pub reductionsOf-within : within entryLimit x ≡ true
     unfolding reductionsOf
-    reductionsOf-within = reductions-within chains rule is entryLimit p (omega arith) s r x e
+    reductionsOf-within = reductions-within chains noTransforms rule is entryLimit p (omega arith) s r x e
 
     pub reductionsOf-headroom : Headroom entryLimit K p x
     unfolding reductionsOf
-    reductionsOf-headroom = reductions-headroom chains rule is entryLimit p (omega arith) s r x e
+    reductionsOf-headroom = reductions-headroom chains noTransforms rule is entryLimit p (omega arith) s r x e (no-transforms-bare K p)
 
-    pub reductionsOf-limits : (L : ℕ) → 1 ≤ L → AtLimit rule L K p s r x
+    pub reductionsOf-limits : (L : ℕ) → 1 ≤ L → AtLimit noTransforms rule L K p s r x
     unfolding reductionsOf
-    reductionsOf-limits = reductions-limit chains rule is entryLimit p s r x e
+    reductionsOf-limits = reductions-limit chains noTransforms rule is entryLimit p s r x e
 
 pub call-answers : {rule : Rule} → IsRule rule → {limit : ℕ} (K : Sections) (p before : ℕ) → before ≢ 13 → (before ≡ 0 → ChainComplex limit K)
     → (left : ℕ → ℕ → State → List ℤ) (output work : List ℤ)
-    → Answers before (GoesWide entryLimit rule K p) (answerNumber (call before (reductionsOf rule K p) left output work .answer))
+    → Answers before (GoesWide noTransforms entryLimit rule K p) (answerNumber (call before (reductionsOf rule K p) left output work .answer))
 call-answers {rule} is K p before narrow chains left output work =
     rw (call-number left output work before (reductionsOf rule K p))
     (told-answers before (reductionsOf rule K p) narrow (λ e. reductionsOf-wide is K p (chains e)))
@@ -163,7 +163,7 @@ pub record Answered (rule : Rule) (K : Sections) (p before : ℕ) (counts : Coun
   pub counted : ReducedWith (reductionsOf rule K p) counts
   pub right : Right K p (counted .rows) (counted .rank) (counted .state)
   pub headroom : Headroom entryLimit K p (counted .state)
-  pub limits : (L : ℕ) → 1 ≤ L → AtLimit rule L K p (counted .rows) (counted .rank) (counted .state)
+  pub limits : (L : ℕ) → 1 ≤ L → AtLimit noTransforms rule L K p (counted .rows) (counted .rank) (counted .state)
 
 pub answered : {rule : Rule} → IsRule rule → {limit : ℕ} (K : Sections) (p before : ℕ) → (before ≡ 0 → ChainComplex limit K) → (left : ℕ → ℕ → State → List ℤ)
     (output work : List ℤ) (counts : Counts) → call before (reductionsOf rule K p) left output work .answer ≡ done counts → Answered rule K p before counts

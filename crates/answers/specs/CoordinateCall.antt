@@ -15,6 +15,7 @@ use Rattle.sheet_format.specs.Sheet.{Bytes}
 use Rattle.reduction_steps.specs.State.{State}
 use Rattle.reduction_steps.specs.Pivot.{pivotRule}
 use Rattle.reduction_steps.specs.PivotLaws.{pivotRule-is-rule}
+use Rattle.reports.specs.Reductions.{noTransforms}
 use Rattle.reports.specs.Report.{Counts, coordinateList}
 use Rattle.reports.specs.ReportLaws.{coordinates-fit}
 use Rattle.reports.specs.Call.{Called, done, written, callChecks, chainChecks, coordinateSlots, reductionsOf, coordinateCall}
@@ -60,7 +61,7 @@ module _ (limit : ℕ) (b : List ℕ) (p : ℕ) (z coordinates work : List ℤ) 
   pub chain-cycle : coordinatesBefore ≡ 0 → IsCycle (chainCells b) p (slot z)
   chain-cycle e = chain-passes coefficientLimit b p z (coordinates-passed .0 e .1) .cycle
 
-  pub coordinates-answer : Bytes b → Answers coordinatesBefore (GoesWide entryLimit pivotRule (chainCells b) p) (answerNumber (coordinatesCalled .answer))
+  pub coordinates-answer : Bytes b → Answers coordinatesBefore (GoesWide noTransforms entryLimit pivotRule (chainCells b) p) (answerNumber (coordinatesCalled .answer))
   unfolding coordinateCall
   coordinates-answer bytes = call-answers pivotRule-is-rule (chainCells b) p coordinatesBefore coordinates-narrow (coordinates-chains bytes) coordinatesLeft coordinates work
 

@@ -17,6 +17,7 @@ use Rattle.sheet_format.specs.Sheet.{Bytes}
 use Rattle.reduction_steps.specs.State.{State}
 use Rattle.reduction_steps.specs.Pivot.{pivotRule}
 use Rattle.reduction_steps.specs.PivotLaws.{pivotRule-is-rule}
+use Rattle.reports.specs.Reductions.{noTransforms}
 use Rattle.reports.specs.Report.{Counts, coordinateList}
 use Rattle.reports.specs.ReportLaws.{coordinates-fit}
 use Rattle.reports.specs.Call.{Called, done, written, callChecks, chainChecks, coordinateSlots, workSlots, reductionsOf, coordinateCall}
@@ -68,7 +69,7 @@ module _ (limit : ℕ) (b : List ℕ) (p number : ℕ) (chains coordinates work 
       passed-chains limit b p (listSlots number) (length coordinates) (length work) bytes
       (call-chain-zero limit b p (listSlots number) (length coordinates) (length work) (chainsChecks coefficientLimit b p number chains) .0 e .0)
 
-  pub lists-answer : Bytes b → Answers listsBefore (GoesWide entryLimit pivotRule (chainCells b) p) (answerNumber (listsCalled .answer))
+  pub lists-answer : Bytes b → Answers listsBefore (GoesWide noTransforms entryLimit pivotRule (chainCells b) p) (answerNumber (listsCalled .answer))
   unfolding coordinateListsCall
   lists-answer bytes = call-answers pivotRule-is-rule (chainCells b) p listsBefore lists-narrow (lists-chains bytes) listsLeft coordinates work
 

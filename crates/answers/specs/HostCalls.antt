@@ -12,7 +12,7 @@ use Rattle.complexes.specs.Complex.{Sections, count}
 use Rattle.complexes.specs.ChainComplex.{ChainComplex}
 use Rattle.reduction_steps.specs.State.{State, within}
 use Rattle.reduction_steps.specs.Pivot.{Rule, IsRule}
-use Rattle.reports.specs.Reductions.{Reductions, tooWide, reduced}
+use Rattle.reports.specs.Reductions.{Reductions, tooWide, reduced, noTransforms}
 use Rattle.limits.specs.Limits.{libraryLimit, hostLimit, entryLimit}
 use Rattle.reports.specs.Call.{reductionsOf}
 use Rattle.reports.specs.WrittenLaws.{length-written, getD-written-past}
@@ -89,7 +89,7 @@ module _ (numbers : ℕ → ℕ → State → List ℤ) (output : List ℕ) wher
 -- on a sheet that is accepted where nothing is refused
 module _ {rule : Rule} (is : IsRule rule) (K : Sections) (p before : ℕ) (chains : before ≡ 0 → ChainComplex hostLimit K) (left : ℕ → ℕ → State → List ℕ)
     (output : List ℕ) where
-  pub host-answers : before ≢ 13 → Answers before (GoesWide entryLimit rule K p) (hostCall before (reductionsOf rule K p) left output .number)
+  pub host-answers : before ≢ 13 → Answers before (GoesWide noTransforms entryLimit rule K p) (hostCall before (reductionsOf rule K p) left output .number)
   host-answers narrow =
       rw (number left output before (reductionsOf rule K p)) (told-answers before (reductionsOf rule K p) narrow (λ e. reductionsOf-wide is K p (chains e)))
 

@@ -17,6 +17,7 @@ use Rattle.sheet_format.specs.Sheet.{Bytes}
 use Rattle.reduction_steps.specs.State.{State}
 use Rattle.reduction_steps.specs.Pivot.{pivotRule}
 use Rattle.reduction_steps.specs.PivotLaws.{pivotRule-is-rule}
+use Rattle.reports.specs.Reductions.{noTransforms}
 use Rattle.reports.specs.Report.{freeRank, torsionCount, coordinateList}
 use Rattle.reports.specs.ReportLaws.{coordinates-fit}
 use Rattle.reports.specs.Call.{callChecks, chainChecks, coordinateSlots, workSlots, reductionsOf}
@@ -74,7 +75,7 @@ module _ (b : List ℕ) (bytes : Bytes b) (p number : ℕ) (chains output : List
       passed-chains hostLimit b p (listSlots number) (slotsIn output) (workSlots (chainCells b) p) bytes
       (callChecks-zero hostLimit b p (listSlots number) (slotsIn output) (workSlots (chainCells b) p) .1 (passed-both e .0))
 
-  pub host-lists-answer : Answers hostListsBefore (GoesWide entryLimit pivotRule (chainCells b) p) (called .number)
+  pub host-lists-answer : Answers hostListsBefore (GoesWide noTransforms entryLimit pivotRule (chainCells b) p) (called .number)
   unfolding hostCoordinateLists
   host-lists-answer =
       host-answers pivotRule-is-rule (chainCells b) p hostListsBefore chain-complex left output

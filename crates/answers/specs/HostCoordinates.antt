@@ -18,6 +18,7 @@ use Rattle.sheet_format.specs.Sheet.{Bytes}
 use Rattle.reduction_steps.specs.State.{State}
 use Rattle.reduction_steps.specs.Pivot.{pivotRule}
 use Rattle.reduction_steps.specs.PivotLaws.{pivotRule-is-rule}
+use Rattle.reports.specs.Reductions.{noTransforms}
 use Rattle.reports.specs.Report.{freeRank, torsionCount, coordinateList}
 use Rattle.reports.specs.ReportLaws.{coordinates-fit}
 use Rattle.reports.specs.Call.{callChecks, chainChecks, coordinateSlots, workSlots, reductionsOf}
@@ -76,7 +77,7 @@ module _ (b : List ℕ) (bytes : Bytes b) (p : ℕ) (chain output : List ℕ) wh
   chains : hostCoordinatesBefore ≡ 0 → ChainComplex hostLimit (chainCells b)
   chains e = passed-chains hostLimit b p coordinateSlots (slotsIn output) (workSlots (chainCells b) p) bytes (passed .0 e .0)
 
-  pub host-coordinates-answer : Answers hostCoordinatesBefore (GoesWide entryLimit pivotRule (chainCells b) p) (hostCoordinates b p chain output .number)
+  pub host-coordinates-answer : Answers hostCoordinatesBefore (GoesWide noTransforms entryLimit pivotRule (chainCells b) p) (hostCoordinates b p chain output .number)
   unfolding hostCoordinates
   host-coordinates-answer =
       host-answers pivotRule-is-rule (chainCells b) p hostCoordinatesBefore chains left output

@@ -14,6 +14,7 @@ use Rattle.sheet_format.specs.Sheet.{Bytes}
 use Rattle.reduction_steps.specs.State.{State}
 use Rattle.reduction_steps.specs.Pivot.{pivotRule}
 use Rattle.reduction_steps.specs.PivotLaws.{pivotRule-is-rule}
+use Rattle.reports.specs.Reductions.{noTransforms}
 use Rattle.reports.specs.Report.{freeRank, torsionCount, reportList}
 use Rattle.reports.specs.ReportLaws.{report-fits}
 use Rattle.reports.specs.Call.{callChecks, reportSlots, workSlots, reductionsOf}
@@ -44,7 +45,7 @@ module _ (b : List ℕ) (bytes : Bytes b) (p : ℕ) (output : List ℕ) where
   chains : hostReportBefore ≡ 0 → ChainComplex hostLimit (chainCells b)
   chains = passed-chains hostLimit b p reportSlots (slotsIn output) (workSlots (chainCells b) p) bytes
 
-  pub host-report-answers : Answers hostReportBefore (GoesWide entryLimit pivotRule (chainCells b) p) (hostReport b p output .number)
+  pub host-report-answers : Answers hostReportBefore (GoesWide noTransforms entryLimit pivotRule (chainCells b) p) (hostReport b p output .number)
   unfolding hostReport
   host-report-answers =
       host-answers pivotRule-is-rule (chainCells b) p hostReportBefore chains left output (callChecks-narrow hostLimit b p reportSlots (slotsIn output) (workSlots (chainCells b) p))

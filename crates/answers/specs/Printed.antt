@@ -8,6 +8,7 @@ use Rattle.sheet_format.specs.Layout.{top}
 use Rattle.sheet_format.specs.Check.{sectionsOf}
 use Rattle.reduction_steps.specs.Pivot.{pivotRule}
 use Rattle.limits.specs.Limits.{hostLimit, entryLimit}
+use Rattle.reports.specs.Reductions.{noTransforms}
 use Rattle.reports.specs.Report.{Counts}
 use Rattle.reports.specs.Call.{done, reportCall}
 use Rattle.reports.specs.Text.{refusalLine, reportText, programText}
@@ -15,7 +16,7 @@ use Rattle.answers.specs.Wide.{GoesWide}
 
 -- the text of dimension p: `R 13` where the reduction goes too wide, else the text of the report that a report call at the same count limit leaves
 pub data DimensionPrinted (b : List ℕ) (p : ℕ) (text : List ℕ) : Type 0 where
-  too-wide : GoesWide entryLimit pivotRule (sectionsOf b) p → text ≡ refusalLine 13 → DimensionPrinted b p text
+  too-wide : GoesWide noTransforms entryLimit pivotRule (sectionsOf b) p → text ≡ refusalLine 13 → DimensionPrinted b p text
   reports :
       (report work : List ℤ) (counts : Counts) → reportCall hostLimit b p report work .answer ≡ done counts →
       text ≡ reportText p (count (sectionsOf b) p) (counts .torsion) (counts .torsion + counts .free) (reportCall hostLimit b p report work .output) →

@@ -15,6 +15,7 @@ use Rattle.sheet_format.specs.Sheet.{Bytes}
 use Rattle.reduction_steps.specs.State.{State}
 use Rattle.reduction_steps.specs.Pivot.{pivotRule}
 use Rattle.reduction_steps.specs.PivotLaws.{pivotRule-is-rule}
+use Rattle.reports.specs.Reductions.{noTransforms}
 use Rattle.reports.specs.Report.{Counts, reportList}
 use Rattle.reports.specs.ReportLaws.{report-fits}
 use Rattle.reports.specs.Call.{Called, done, written, callChecks, reportSlots, reductionsOf, reportCall}
@@ -49,7 +50,7 @@ module _ (limit : ℕ) (b : List ℕ) (p : ℕ) (report work : List ℤ) where
   report-chains : Bytes b → reportBefore ≡ 0 → ChainComplex limit (chainCells b)
   report-chains bytes = passed-chains limit b p reportSlots (length report) (length work) bytes
 
-  pub report-answers : Bytes b → Answers reportBefore (GoesWide entryLimit pivotRule (chainCells b) p) (answerNumber (reportCalled .answer))
+  pub report-answers : Bytes b → Answers reportBefore (GoesWide noTransforms entryLimit pivotRule (chainCells b) p) (answerNumber (reportCalled .answer))
   unfolding reportCall
   report-answers bytes = call-answers pivotRule-is-rule (chainCells b) p reportBefore report-narrow (report-chains bytes) reportLeft report work
 

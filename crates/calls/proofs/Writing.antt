@@ -10,6 +10,7 @@ use Rattle.complexes.specs.Complex.{Sections, count}
 use Rattle.complexes.specs.ChainComplex.{ChainComplex}
 use Rattle.complexes.specs.Boundary.{countBelow}
 use Rattle.reduction_steps.specs.Pivot.{Rule, IsRule}
+use Rattle.reports.specs.Reductions.{noTransforms}
 use Rattle.reports.specs.Call.{workSlots, reportSlots, reductionsOf}
 use Rattle.limits.specs.Limits.{entryLimit, coefficientLimit, libraryLimit}
 use Rattle.answers.specs.TwoReductions.{Right, reductions-right}
@@ -32,7 +33,7 @@ module _ {rule : Rule} (is : IsRule rule) {K : Sections} {p n : ℕ} {x : Reduce
   right : Right K p (x .layout .matrix .lines) (x .rank) (stateIn x w)
   unfolding reductionsOf
   right =
-      reductions-right chains rule is entryLimit p (omega arith) (x .layout .matrix .lines) (x .rank) (stateIn x w) (h .is)
+      reductions-right chains noTransforms rule is entryLimit p (omega arith) (x .layout .matrix .lines) (x .rank) (stateIn x w) (h .is)
 
   kinds : Kinds (x .layout .matrix) w
   kinds = record { nonneg = right .reduced .second .nonneg }

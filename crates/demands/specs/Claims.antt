@@ -26,7 +26,7 @@ use Rattle.imports.specs.Import as imports
 use Rattle.imports.specs.Sheet.{headerGives, ImportedSheet}
 use Rattle.homology_groups.specs.Chain.{Chain, combination}
 use Rattle.reduction_steps.specs.Pivot.{pivotRule}
-use Rattle.reports.specs.Reductions.{reductions}
+use Rattle.reports.specs.Reductions.{noTransforms, reductions}
 use Rattle.reports.specs.Report.{Counts}
 use Rattle.reports.specs.Call.{done, callChecks, chainChecks, reportSlots, coordinateSlots, workSlots, reportCall, coordinateCall}
 use Rattle.reports.specs.Lists.{chainAt, chainBytes, listSlots, chainsChecks, coordinateListsCall, hostCoordinateLists, FirstFault}
@@ -41,7 +41,7 @@ use Rattle.answers.specs.Printed.{DimensionsPrinted}
 
 -- the reduction of document 01, with its limit and the calls' pivot rule, goes too wide
 abbrev pub TooWide : List ℕ → ℕ → Type 0
-TooWide b p = GoesWide entryLimit pivotRule (sectionsOf b) p
+TooWide b p = GoesWide noTransforms entryLimit pivotRule (sectionsOf b) p
 
 -- ==== Demand 1
 
@@ -447,8 +447,8 @@ HeadroomNone = (b : List ℕ) (p : ℕ) → Bytes b → (counts : Counts) → Co
 -- peak, and come to the same where it is not. L is 1 at least, so that the matrix of p, V and its inverse, which no operation has written yet, lie within
 -- it. This fixes every peak above 1, and `HeadroomNone` tells 0 from 1
 pub record AtEntryLimit (b : List ℕ) (p L : ℕ) (counts : Counts) : Type 0 where
-  pub too-wide : GoesWide L pivotRule (sectionsOf b) p ↔ (L < counts .peak)
-  pub same : counts .peak ≤ L → reductions pivotRule L (sectionsOf b) p ≡ reductions pivotRule entryLimit (sectionsOf b) p
+  pub too-wide : GoesWide noTransforms L pivotRule (sectionsOf b) p ↔ (L < counts .peak)
+  pub same : counts .peak ≤ L → reductions noTransforms pivotRule L (sectionsOf b) p ≡ reductions noTransforms pivotRule entryLimit (sectionsOf b) p
 
 abbrev pub LeastLimit : Type 0
 LeastLimit = (b : List ℕ) (p : ℕ) → Bytes b → (counts : Counts) → CountsAnswered b p counts → (L : ℕ) → 1 ≤ L → AtEntryLimit b p L counts

@@ -48,6 +48,7 @@ use Rattle.homology_groups.specs.PresentationLaws.{combination-ext}
 use Rattle.reduction_steps.specs.Pivot.{release1, pivotRule}
 use Rattle.reduction_steps.specs.PivotLaws.{release1-is-rule}
 use Rattle.limits.specs.Limits.{libraryLimit, hostLimit, coefficientLimit}
+use Rattle.reports.specs.Reductions.{noTransforms}
 use Rattle.reports.specs.Call.{Called, callChecks, chainChecks, coefficientExceeds, boundaryNotZero, reportSlots, coordinateSlots, workSlots, reportCall, coordinateCall}
 use Rattle.reports.specs.Lists.{chainAt, chainBytes, listSlots, cyclesChecks, chainsChecks, coordinateListsCall, hostCoordinateLists, FirstFault}
 use Rattle.reports.specs.Host.{coefficientAt, coefficientIn, chainFrom, slotsIn, numberAt, hostReport, hostCoordinates}
@@ -121,10 +122,10 @@ pub loop-answered : CountsAnswered sheet 1 counts
 loop-answered =
     claims.CountsAnswered.by-coordinates 256 loop (nines 15) (nines 600) counts (ap (λ (c : Called). c .answer) (plane-calls .coordinate-loop))
 
-pub plane-limit : GoesWide 1 pivotRule (sectionsOf sheet) 1
+pub plane-limit : GoesWide noTransforms 1 pivotRule (sectionsOf sheet) 1
 plane-limit = leastLimit sheet 1 plane-bytes counts plane-answered 1 (omega arith) .too-wide .1 (omega arith)
 
-pub plane-enough : GoesWide 2 pivotRule (sectionsOf sheet) 1 → ⊥
+pub plane-enough : GoesWide noTransforms 2 pivotRule (sectionsOf sheet) 1 → ⊥
 plane-enough g = omega (arith, leastLimit sheet 1 plane-bytes counts plane-answered 2 (omega arith) .too-wide .0 g)
 
 -- ---- what the claims on generators say of them
@@ -210,9 +211,9 @@ same-cells : sectionsOf sheet ≡ cells
 unfolding sectionsOf cellsOf cellOf countField start tabulate
 same-cells = refl
 
-pub plane-goes-wide : GoesWide 1 release1 cells 2 × GoesWide 1 release1 cells 1
+pub plane-goes-wide : GoesWide noTransforms 1 release1 cells 2 × GoesWide noTransforms 1 release1 cells 1
 plane-goes-wide =
-    (wide-iff chains release1 release1-is-rule 1 2 (omega arith) .0 (plane-too-wide .0), wide-iff chains release1 release1-is-rule 1 1 (omega arith) .0 (plane-too-wide .1))
+    (wide-iff chains noTransforms release1 release1-is-rule 1 2 (omega arith) .0 (plane-too-wide .0), wide-iff chains noTransforms release1 release1-is-rule 1 1 (omega arith) .0 (plane-too-wide .1))
   where
     chains : ChainComplex 256 cells
     chains = complex-chains (subst (λ (K : Sections). Complex top 256 K) same-cells (accepted-complex 256 sheet plane-bytes accepted))

@@ -14,7 +14,7 @@ use Rattle.sheet_format.specs.Layout.{top}
 use Rattle.sheet_format.specs.Check.{chainCells, some, first, sheetChecks}
 use Rattle.reduction_steps.specs.State.{State}
 use Rattle.reduction_steps.specs.Pivot.{Rule, pivotRule}
-use Rattle.reports.specs.Reductions.{Reductions, tooWide, reduced, reductions}
+use Rattle.reports.specs.Reductions.{Reductions, tooWide, reduced, noTransforms, reductions}
 use Rattle.reports.specs.Report.{Counts, countsOf, reportList, coordinateList}
 
 -- ---- the slots that check 9 asks for
@@ -93,7 +93,7 @@ finished (reduced s r x) left output work = record { answer = done (countsOf s r
 
 -- the two reductions of dimension p of the cells K, by a pivot rule
 unfoldable pub reductionsOf : Rule → Sections → ℕ → Reductions
-reductionsOf rule K p = reductions rule entryLimit K p
+reductionsOf rule K p = reductions noTransforms rule entryLimit K p
 
 -- the report call at a count limit, on a sheet, a dimension, a report slice and a work slice
 unfoldable pub reportCall : ℕ → List ℕ → ℕ → List ℤ → List ℤ → Called

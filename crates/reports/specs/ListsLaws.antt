@@ -21,7 +21,7 @@ use Rattle.complexes.specs.Complex.{count}
 use Rattle.sheet_format.specs.Check.{chainCells, first}
 use Rattle.reduction_steps.specs.State.{State}
 use Rattle.reduction_steps.specs.Pivot.{Rule, pivotRule}
-use Rattle.reports.specs.Reductions.{Reductions, tooWide, reduced}
+use Rattle.reports.specs.Reductions.{Reductions, tooWide, reduced, noTransforms}
 use Rattle.reports.specs.ReductionsLaws.{reductions-done}
 use Rattle.reports.specs.Report.{countsOf, reported, coordinateList}
 use Rattle.reports.specs.Call.{done, cleared, finished, written, callChecks, chainChecks, coordinateSlots, workSlots, reductionsOf, coordinateCall}
@@ -134,7 +134,7 @@ module _ (b : List ℕ) (p : ℕ) (empty : count (chainCells b) p ≡ 0) where
   no-coordinates rule s r x e n z = rw rows
     where
       rows : s ≡ 0
-      rows = omega (arith, reductions-done rule entryLimit (chainCells b) p s r x e .rows, empty)
+      rows = omega (arith, reductions-done noTransforms rule entryLimit (chainCells b) p s r x e .rows, empty)
 
   none : (number : ℕ) → number * count (chainCells b) p ≡ 0 * count (chainCells b) p
   none number = rw empty (mul-zero number)
