@@ -11,7 +11,7 @@ use Rattle.complexes.specs.ChainComplex.{ChainComplex}
 use Rattle.complexes.specs.Boundary.{countBelow}
 use Rattle.reduction_steps.specs.Pivot.{Rule, IsRule}
 use Rattle.requests.specs.Call.{workSlots}
-use Rattle.reports.specs.Reductions.{reductionsOf}
+use Rattle.reports.specs.Reductions.{noTransforms, reductionsOf}
 use Rattle.limits.specs.Limits.{entryLimit, coefficientLimit, libraryLimit}
 use Rattle.answers.specs.TwoReductions.{Right, reductions-right}
 use Rattle.lines.specs.Slice.{at}
@@ -32,7 +32,7 @@ module _ {rule : Rule} (is : IsRule rule) {K : Sections} {p n : ℕ} {x : Reduce
 
   right : Right K p (x .layout .matrix .lines) (x .rank) (stateIn x w)
   right =
-      reductions-right chains rule is entryLimit p (omega arith) (x .layout .matrix .lines) (x .rank) (stateIn x w) (h .is)
+      reductions-right chains noTransforms rule is entryLimit p (omega arith) (x .layout .matrix .lines) (x .rank) (stateIn x w) (h .is)
 
   kinds : Kinds (x .layout .matrix) w
   kinds = record { nonneg = right .reduced .second .nonneg }
