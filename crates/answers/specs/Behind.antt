@@ -14,7 +14,7 @@ use Rattle.reduction_steps.specs.State.{State, within}
 use Rattle.reduction_steps.specs.Step as machine
 use Rattle.reduction_steps.specs.Pivot.{IsRule}
 use Rattle.reduction_steps.specs.PivotLaws.{pivotRule-is-rule}
-use Rattle.reports.specs.Reductions.{Reductions, tooWide, reduced, firstSizes, firstStart, secondSizes, secondStart, afterSecond}
+use Rattle.reports.specs.Reductions.{Reductions, tooWide, reduced, firstSizes, firstStart, secondSizes, secondStart, afterSecond, reductions}
 use Rattle.reports.specs.ReductionsLaws.{reductions-done, after-second}
 use Rattle.requests.specs.Question.{Question, cells, rule, two}
 use Rattle.requests.specs.Call.{Request, earlyChecks}
@@ -23,7 +23,7 @@ use Rattle.answers.specs.TwoReductions.{Right, reductions-right, reducti
 use Rattle.answers.specs.Headroom.{Headroom, reductions-headroom}
 use Rattle.answers.specs.WideLaws.{reaches-outcome, first-is, second-is, wide-iff}
 use Rattle.answers.specs.LeastLimit.{AtLimit, reductions-limit}
-use Rattle.answers.specs.Outcome.{TooWide, Ends}
+use Rattle.answers.specs.Outcome.{TooWide, EndsAt, Ends}
 
 -- what passes the early checks has a chain complex
 pub early-chains : (limit : ℕ) (q : Question) (request : Request) (output work : ℕ) → Bytes (q .sheet) → first (earlyChecks limit q request output work) ≡ 0
@@ -37,14 +37,29 @@ rule-is q = pivotRule-is-rule
 
 -- two reductions that are right, with entries within their limit; their peak, and what they come to at other entry limits
 pub record Behind (q : Question) : Type 0 where
+  pub limit : ℕ
+  pub chains : ChainComplex limit (cells q)
   pub rows : ℕ
   pub rank : ℕ
   pub state : State
-  pub reductions : two q ≡ reduced rows rank state
+  pub reductions-are : two q ≡ reduced rows rank state
   pub right : Right (cells q) (q .dimension) rows rank state
   pub small : within entryLimit state ≡ true
   pub headroom : Headroom entryLimit (cells q) (q .dimension) state
   pub limits : (L : ℕ) → 1 ≤ L → AtLimit (rule q) L (cells q) (q .dimension) rows rank state
+
+-- the machine comes to the end that the reductions give, at any entry limit
+pub ends-at : (q : Question) (s r : ℕ) (x : State) (L : ℕ) → reductions (rule q) L (cells q) (q .dimension) ≡ reduced s r x → EndsAt L q s r x
+ends-at q s r x L e =
+    let d = reductions-done (rule q) L (cells q) (q .dimension) s r x e in
+    record {
+      firstRank = d .firstRank;
+      firstState = d .firstState;
+      first = reaches-outcome L (rule q) (firstSizes (cells q) (q .dimension)) (firstStart (cells q) (q .dimension)) (machine.done (d .firstRank) (d .firstState)) (d .first);
+      narrow = d .narrow;
+      rows = d .rows;
+      second = reaches-outcome L (rule q) (secondSizes (cells q) (q .dimension) (d .firstRank)) (secondStart (cells q) (q .dimension) (d .firstRank) (d .firstState)) (machine.done r x) (d .second);
+    }
 
 module _ {limit : ℕ} (q : Question) (chains : ChainComplex limit (cells q)) where
   pub two-wide : (two q ≡ tooWide) ↔ TooWide q
@@ -59,10 +74,12 @@ module _ {limit : ℕ} (q : Question) (chains : ChainComplex limit (cells q)) wh
     pub behind : two q ≡ reduced s r x → Behind q
     unfolding two
     behind e = record {
+      limit = limit;
+      chains = chains;
       rows = s;
       rank = r;
       state = x;
-      reductions = e;
+      reductions-are = e;
       right = two-right e;
       small = reductions-within chains (rule q) (rule-is q) entryLimit (q .dimension) (omega arith) s r x e;
       headroom = reductions-headroom chains (rule q) (rule-is q) entryLimit (q .dimension) (omega arith) s r x e;
@@ -71,16 +88,7 @@ module _ {limit : ℕ} (q : Question) (chains : ChainComplex limit (cells q)) wh
 
     pub ends : two q ≡ reduced s r x → Ends q s r x
     unfolding two
-    ends e =
-        let d = reductions-done (rule q) entryLimit (cells q) (q .dimension) s r x e in
-        record {
-          firstRank = d .firstRank;
-          firstState = d .firstState;
-          first = reaches-outcome entryLimit (rule q) (firstSizes (cells q) (q .dimension)) (firstStart (cells q) (q .dimension)) (machine.done (d .firstRank) (d .firstState)) (d .first);
-          narrow = d .narrow;
-          rows = d .rows;
-          second = reaches-outcome entryLimit (rule q) (secondSizes (cells q) (q .dimension) (d .firstRank)) (secondStart (cells q) (q .dimension) (d .firstRank) (d .firstState)) (machine.done r x) (d .second);
-        }
+    ends e = ends-at q s r x entryLimit e
 
     pub ends-two : Ends q s r x → two q ≡ reduced s r x
     unfolding two afterSecond
@@ -93,8 +101,12 @@ module _ {limit : ℕ} (q : Question) (chains : ChainComplex limit (cells q)) wh
 
 -- what holds of two reductions that are done holds of them however they are found
 pub same-behind : {q : Question} (P : ℕ → ℕ → State → Type 0) (B D : Behind q) → P (B .rows) (B .rank) (B .state) → P (D .rows) (D .rank) (D .state)
-same-behind P B D = subst of (sym (B .reductions) ∙ D .reductions)
+same-behind P B D = subst of (sym (B .reductions-are) ∙ D .reductions-are)
   where
     of : Reductions → Type 0
     of tooWide = Unit {0}
     of (reduced s r x) = P s r x
+
+-- the end that the machine comes to is what stands behind
+pub ends-reduced : {q : Question} (B : Behind q) {s r : ℕ} {x : State} → Ends q s r x → two q ≡ reduced s r x
+ends-reduced {q} B {s} {r} {x} e = ends-two q (B .chains) s r x e

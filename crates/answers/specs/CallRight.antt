@@ -18,7 +18,7 @@ use Rattle.reports.specs.Reductions.{Reductions, tooWide, reduced}
 use Rattle.reports.specs.ReductionsLaws.{tooWide≢reduced}
 use Rattle.reports.specs.Report.{Counts, freeRank, torsionCount, countsOf}
 use Rattle.requests.specs.Question.{Question, cells, two}
-use Rattle.requests.specs.Call.{Request, listCount, listSlots, numbersOf, requestChecks, workSlots, earlyChecks, call}
+use Rattle.requests.specs.Call.{Request, listCount, listSlots, numbersOf, requestChecks, workSlots, earlyChecks, callWith, call}
 use Rattle.requests.specs.CheckLaws.{Passed}
 use Rattle.requests.specs.CallLaws.{with-early, with-wide, with-done, with-number, early-iff}
 use Rattle.answers.specs.Right.{slot}
@@ -82,7 +82,7 @@ module _ (limit : ℕ) (q : Question) (request : Request) (output work : List �
     unfolding call
     called-is =
         with-done early (two q) left output work (early-iff limit q request (length output) (length work) .1 (answered .passed, answered .request-passed))
-        (B .rows) (B .rank) (B .state) (B .reductions)
+        (B .rows) (B .rank) (B .state) (B .reductions-are)
 
     -- how many numbers each list has
     abbrev width : ℕ
@@ -107,3 +107,39 @@ module _ (limit : ℕ) (q : Question) (request : Request) (output work : List �
     list-between i l j h m =
         ap (λ (c : Called Counts ℤ). slot (c .output) (i * listSlots q request + j)) called-is
         ∙ splices-between (listSlots q request) numbers output (listCount request) list-fit i j (pos 0) l (omega (arith, numbers-width q (B .right) request i)) m
+
+-- the counts that a call answers are those of what stands behind it
+pub counts-behind : (limit : ℕ) (q : Question) (request : Request) (output work : List ℤ) (bytes : Bytes (q .sheet)) {counts : Counts}
+    (e : call limit q request output work .answer ≡ done counts)
+    → counts
+    ≡ countsOf (answered limit q request output work bytes (done-number e) .reductions-behind .rows)
+    (answered limit q request output work bytes (done-number e) .reductions-behind .rank)
+    (answered limit q request output work bytes (done-number e) .reductions-behind .state)
+counts-behind limit q request output work bytes {counts} e =
+    let B = answered limit q request output work bytes (done-number e) .reductions-behind in
+    let same : done counts ≡ done (countsOf (B .rows) (B .rank) (B .state)) =
+        sym e ∙ ap (λ (c : Called Counts ℤ). c .answer) (called-is limit q request output work bytes (done-number e)) in
+    cc
+
+-- a call that passes the early checks, where the reductions are done
+pub passed-done : (limit : ℕ) (q : Question) (request : Request) (output work : List ℤ) → first (earlyChecks limit q request (length output) (length work)) ≡ 0 → (B : Behind q)
+    → call limit q request output work .answer ≡ done (countsOf (B .rows) (B .rank) (B .state))
+unfolding call
+passed-done limit q request output work e B =
+    ap (λ (c : Called Counts ℤ). c .answer)
+    (with-done (first (earlyChecks limit q request (length output) (length work))) (two q)
+    (λ s r x. splices (listSlots q request) (numbersOf q request s r x) (listCount request) output) output work e (B .rows) (B .rank) (B .state) (B .reductions-are))
+
+-- a number but 13 is told exactly when the early checks give it
+pub call-earlier : (limit : ℕ) (q : Question) (request : Request) (output work : List ℤ) (k : ℕ) → k ≢ 0 → k ≢ 13
+    → (numberTold (call limit q request output work .answer) ≡ k) ↔ (first (earlyChecks limit q request (length output) (length work)) ≡ k)
+unfolding call
+call-earlier limit q request output work k nonzero narrow = go (first (earlyChecks limit q request (length output) (length work))) (two q)
+  where
+    left : ℕ → ℕ → State → List ℤ
+    left s r x = splices (listSlots q request) (numbersOf q request s r x) (listCount request) output
+
+    go : (n : ℕ) (R : Reductions) → (numberTold (callWith n R left output work .answer) ≡ k) ↔ (n ≡ k)
+    go (suc n) R = (λ e. e, λ e. e)
+    go zero tooWide = (λ e. absurd (narrow (sym e)), λ e. absurd (nonzero (sym e)))
+    go zero (reduced s r x) = (λ e. e, λ e. e)

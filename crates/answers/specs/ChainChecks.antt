@@ -18,8 +18,8 @@ use Rattle.sheet_format.specs.Check.{some}
 use Rattle.trials.specs.FirstLaws.{first-zero, first-append-absent}
 use Rattle.sheet_format.specs.CheckLaws.{some-false}
 use Rattle.complexes.specs.Complex.{Sections, count}
-use Rattle.requests.specs.Chains.{chainChecks, chainLengthDiffers, coefficientExceeds, boundaryNotZero}
-use Rattle.requests.specs.ChainsLaws.{coefficients-iff}
+use Rattle.requests.specs.Chains.{chainAt, chainChecks, chainLengthDiffers, coefficientExceeds, boundaryNotZero}
+use Rattle.requests.specs.ChainsLaws.{coefficients-iff, fault}
 use Rattle.answers.specs.Homology.{IsCycle}
 use Rattle.answers.specs.Right.{slot}
 use Rattle.answers.specs.Outcome.{NoCycle}
@@ -101,3 +101,9 @@ not-a-cycle-iff limit K p z = (forward, backward)
           coefficients-iff limit z .1 (h .small),
           told h (boundaryNotZero K p z) refl,
         )
+
+-- a chain of many, of n_p coefficients, is at fault as by itself
+pub chain-told : (limit : ℕ) (K : Sections) (p : ℕ) (chains : List ℤ) (i : ℕ) → length (chainAt (count K p) chains i) ≡ count K p
+    → first (chainChecks limit K p (chainAt (count K p) chains i)) ≡ fault limit K p chains i
+unfolding chainChecks
+chain-told limit K p chains i e = rw (eq-eqb (length (chainAt (count K p) chains i)) (count K p) e)

@@ -27,7 +27,7 @@ use Rattle.answers.specs.Right.{slot}
 use Rattle.answers.specs.Outcome.{listWidth, Carries}
 use Rattle.answers.specs.Behind.{Behind, early-chains, behind, same-behind}
 use Rattle.answers.specs.ListLaws.{numbers-width, width-fits, numbers-word}
-use Rattle.answers.specs.CallRight.{Answered, done-number, answered, called-is, list-reads}
+use Rattle.answers.specs.CallRight.{Answered, done-number, answered, counts-behind, list-reads}
 
 module _ (q : Question) (request : Request) (output : List ℕ) (bytes : Bytes (q .sheet)) where
   abbrev host : HostCalled
@@ -75,7 +75,7 @@ module _ (q : Question) (request : Request) (output : List ℕ) (bytes : Bytes (
         ap (λ (c : HostCalled). c .output)
         (host-done q request output
         (early-iff hostLimit q request (slotsIn output) (workSlots (cells q) (q .dimension)) .1 (host-answered .passed, host-answered .request-passed))
-        (B .rows) (B .rank) (B .state) (B .reductions))
+        (B .rows) (B .rank) (B .state) (B .reductions-are))
 
     bytes-width : (i : ℕ) → length (written i) ≡ 8 * width
     bytes-width i = omega (arith, length-numbersBytes (numbers i), numbers-width q (B .right) request i)
@@ -163,10 +163,7 @@ module _ (q : Question) (request : Request) (output : List ℕ) (bytes : Bytes (
     L = answered hostLimit q request slots work bytes (done-number e) .reductions-behind
 
     counts-are : counts ≡ countsOf (L .rows) (L .rank) (L .state)
-    counts-are =
-        let same : done counts ≡ done (countsOf (L .rows) (L .rank) (L .state)) =
-            sym e ∙ ap (λ (c : Called Counts ℤ). c .answer) (called-is hostLimit q request slots work bytes (done-number e)) in
-        cc
+    counts-are = counts-behind hostLimit q request slots work bytes e
 
     -- the width of a list, by the counts and by what stands behind the host's call
     width-is : listWidth q request (counts .free) (counts .torsion) ≡ listWidth q request (freeRank (H .rows) (H .rank)) (torsionCount (H .rank) (H .state))

@@ -26,7 +26,7 @@ use Rattle.answers.specs.Right.{reportLength}
 use Rattle.answers.specs.Numbers.{report-length, coordinates-length}
 use Rattle.answers.specs.Behind.{Behind}
 use Rattle.answers.specs.ListLaws.{width-fits}
-use Rattle.answers.specs.CallRight.{Answered, done-number, answered, called-is}
+use Rattle.answers.specs.CallRight.{Answered, done-number, answered, counts-behind}
 
 -- the question, whose sheet is accepted, has these counts
 pub record Sized (q : Question) (counts : Counts) : Type 0 where
@@ -51,10 +51,7 @@ module _ (q : Question) (bytes : Bytes (q .sheet)) (output work : List ℤ) (cou
   B = A .reductions-behind
 
   counts-are : counts ≡ countsOf (B .rows) (B .rank) (B .state)
-  counts-are =
-      let same : done counts ≡ done (countsOf (B .rows) (B .rank) (B .state)) =
-          sym e ∙ ap (λ (c : Called Counts ℤ). c .answer) (called-is hostLimit q report output work bytes (done-number e)) in
-      cc
+  counts-are = counts-behind hostLimit q report output work bytes e
 
   free-is : counts .free ≡ freeRank (B .rows) (B .rank)
   free-is = ap (λ (c : Counts). c .free) counts-are

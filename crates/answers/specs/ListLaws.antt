@@ -23,6 +23,7 @@ use Rattle.answers.specs.Numbers.{report-length, coordinates-length}
 use Rattle.answers.specs.ChainChecks.{chain-passes}
 use Rattle.answers.specs.Fits.{report-word, coordinates-word}
 use Rattle.answers.specs.Outcome.{listWidth}
+use Rattle.answers.specs.Behind.{Behind}
 
 module _ (q : Question) {s r : ℕ} {x : State} (R : Right (cells q) (q .dimension) s r x) where
   pub numbers-width : (request : Request) (i : ℕ) → length (numbersOf q request s r x i) ≡ listWidth q request (freeRank s r) (torsionCount r x)
@@ -45,3 +46,7 @@ module _ (q : Question) {s r : ℕ} {x : State} (R : Right (cells q) (q .dimensi
     numbers-word (lists number chains) passed i l j =
         coordinates-word R small few (chainAt (cellCount q) chains i)
         (fault-small coefficientLimit (cells q) (q .dimension) chains i (chains-zero coefficientLimit (cells q) (q .dimension) chains number .0 passed .1 i l)) j
+
+-- how many coordinates a chain has, by what stands behind a call
+abbrev pub coordinates-width : {q : Question} → Behind q → ℕ
+coordinates-width B = torsionCount (B .rank) (B .state) + freeRank (B .rows) (B .rank)

@@ -24,19 +24,21 @@ use Rattle.answers.specs.Homology.{IsCycle}
 use Rattle.answers.specs.Right.{slot, reportLength}
 use Rattle.answers.specs.Wide.{FirstReaches, SecondReaches, GoesWide}
 
-module _ (q : Question) where
-  -- the reductions of document 01 make an entry beyond its limit
-  abbrev pub TooWide : Type 0
-  TooWide = GoesWide entryLimit (rule q) (cells q) (q .dimension)
+-- the reductions of document 01 make an entry beyond its limit
+abbrev pub TooWide : Question → Type 0
+TooWide q = GoesWide entryLimit (rule q) (cells q) (q .dimension)
 
-  -- they come to their end: s rows of Q, and the second reduction, of rank r, leaves x
-  pub record Ends (s r : ℕ) (x : State) : Type 0 where
-    pub firstRank : ℕ
-    pub firstState : State
-    pub first : FirstReaches entryLimit (rule q) (cells q) (q .dimension) (machine.done firstRank firstState)
-    pub narrow : tableWithin entryLimit (product (cells q) (q .dimension) firstRank firstState) ≡ true
-    pub rows : s ≡ cellCount q - firstRank
-    pub second : SecondReaches entryLimit (rule q) (cells q) (q .dimension) firstRank firstState (machine.done r x)
+-- With an entry limit the reductions come to their end: s rows of Q, and the second reduction, of rank r, leaves x.
+pub record EndsAt (limit : ℕ) (q : Question) (s r : ℕ) (x : State) : Type 0 where
+  pub firstRank : ℕ
+  pub firstState : State
+  pub first : FirstReaches limit (rule q) (cells q) (q .dimension) (machine.done firstRank firstState)
+  pub narrow : tableWithin limit (product (cells q) (q .dimension) firstRank firstState) ≡ true
+  pub rows : s ≡ cellCount q - firstRank
+  pub second : SecondReaches limit (rule q) (cells q) (q .dimension) firstRank firstState (machine.done r x)
+
+abbrev pub Ends : Question → ℕ → ℕ → State → Type 0
+Ends q s r x = EndsAt entryLimit q s r x
 
 -- A call of the library at a count limit: refused with the first early check that applies, and every slice left alone; or refused 13, exactly where the
 -- reductions go too wide, and the work slice reads 0; or done with the counts of their end, its lists written over the output and nothing else, and

@@ -1,6 +1,12 @@
--- The owner's demands over what the calls answer and leave and what the program prints: `Claims` states them, `Proofs` proves them, and `Met` and
--- `MetOrder3` show that their hypotheses are met.
-pub mod Claims
-pub mod Proofs
-pub mod Met
-pub mod MetOrder3
+-- The owner's demands, sentence by sentence. In reading order: `Sheets`, what is accepted; `Calls`, which number is told, what is left and what is written;
+-- `Answers`, the mathematics of reports and coordinates; `Headroom`; `Host`, the host calls beside the library's; `Meshes`, the import; `Program`; `Words`.
+-- `Consequences` follow from the others. proofs/ proves each claim and, in the files named `Use`, takes a concrete consequence from each.
+pub mod Sheets
+pub mod Calls
+pub mod Answers
+pub mod Headroom
+pub mod Host
+pub mod Meshes
+pub mod Program
+pub mod Words
+pub mod Consequences

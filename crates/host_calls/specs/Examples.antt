@@ -14,13 +14,14 @@ use Rattle.lists.specs.Same.{every, sameList, both, sameList-eq}
 use Rattle.matrices.specs.Vector.{apply}
 use Rattle.matrices.specs.Sum.{sum}
 use Rattle.matrices.specs.Matrix.{mul, identity, null}
-use Rattle.matrices.specs.Operation.{onRows, onColumns, inverse}
+use Rattle.matrices.specs.Operation.{inverse}
 use Rattle.complexes.specs.Cell.{without, same, rises, precedes, listed}
 use Rattle.complexes.specs.Boundary.{sign, coefficient, countBelow, boundary}
 use Rattle.sheet_format.specs.Layout.{start}
 use Rattle.sheet_format.specs.Check.{countField, offsetField, cellOf, cellsOf, sectionsOf, some, verticesDoNotRise, cellsDoNotRise, faceMissing, refusal}
 use Rattle.reduction_steps.specs.Table.{table, rowLargest, tableLargest, tableWithin}
-use Rattle.reduction_steps.specs.State.{largest, follow, rowOperation, columnOperation, within, checked, andThen, onRow, onColumn}
+use Rattle.reduction_steps.specs.Lines.{onList, lineLess, onLines, onEntries}
+use Rattle.reduction_steps.specs.State.{largest, rowOperation, columnOperation, within, checked, andThen, onRow, onColumn}
 use Rattle.reduction_steps.specs.Pivot.{better, alongRow, downRows, release1}
 use Rattle.reduction_steps.specs.Step.{columnKeeps, rowKeeps, rowIndivisible, firstIndivisible, positive, bring, quotient, rowPass, columnPass, next, step, run, reduce}
 use Rattle.sheet_format.specs.Starred.{hollowTriangle}
@@ -62,8 +63,8 @@ unfolding every sameList hostGood called sameCalled
     refusal countField offsetField cellOf cellsOf sectionsOf some verticesDoNotRise cellsDoNotRise faceMissing without same rises precedes listed start
     two cells rule reductions firstStart afterFirst second product secondStart afterSecond countBelow boundary coefficient sign
     reduce run step next bring positive quotient rowPass columnPass columnKeeps rowKeeps rowIndivisible firstIndivisible
-    release1 downRows alongRow better onRow onColumn checked andThen within largest rowOperation columnOperation follow tableWithin tableLargest rowLargest table
-    onRows onColumns inverse identity null mul apply sum floor modulo residue divides tabulate reported torsionCount
+    release1 downRows alongRow better onRow onColumn checked andThen within largest rowOperation columnOperation onLines onEntries onList lineLess tableWithin tableLargest rowLargest table
+    inverse identity null mul apply sum floor modulo residue divides tabulate reported torsionCount
     hostCall earlyChecks callChecks chainChecks coefficientExceeds boundaryNotZero chainsChecks cyclesChecks splices splice
     chainFrom otherLength coefficientAt numbersBytes numberBytes lowBytes reportList coordinateList coordinateAt columnsOf
 host-examples = tt

@@ -1,8 +1,8 @@
 -- Chains of the host calls, read from bytes.
 --     chainFrom-whole, length-chainFrom, chainFrom-other,
 --     chainFrom-size                                        the bytes of m coefficients, and other bytes
---     chainAt-bytes                                         one of many chains
---     chainFrom-part, coefficientIn-part                    its bytes, and what they give
+--     chainAt-bytes, chainAt-coefficient                    one of many chains
+--     given-coefficient                                     the coefficients of a single one
 use mathlib.Core.Path.{_≡_, sym, _∙_, ap}
 use mathlib.Core.Logic.{_≢_}
 use mathlib.Core.List.{List}
@@ -63,39 +63,12 @@ module _ (n number : ℕ) (chains : List ℕ) (size : length chains ≡ 4 * (num
       long : length (chainAt n whole i) ≡ n
       long = length-chainAt n number whole (length-chainFrom (number * n) chains size) i l
 
--- ---- the bytes of one of many chains
+  -- coefficient j of chain i
+  pub chainAt-coefficient : (i : ℕ) → i < number → (j : ℕ) → j < n → getD (chainAt n whole i) j (pos 0) ≡ coefficientIn chains (i * n + j)
+  chainAt-coefficient i l j m =
+      ap (λ (z : List ℤ). getD z j (pos 0)) (chainAt-bytes i l) ∙ getD-tabulate n (λ k. coefficientIn chains (i * n + k)) j (pos 0) m
 
-module _ (n number : ℕ) (chains : List ℕ) (size : length chains ≡ 4 * (number * n)) (i : ℕ) (next : i < number) where
-  length-chainBytes : length (chainBytes n chains i) ≡ 4 * n
-  length-chainBytes =
-      length-take-le (4 * n) (drop (i * (4 * n)) chains)
-      (omega (arith, length-drop (i * (4 * n)) chains, size, mul-left-comm i 4 n, suc-mul i n, mul-le-mul-right n next))
-
-  pub coefficientIn-part : (j : ℕ) → j < n → coefficientIn (chainBytes n chains i) j ≡ coefficientIn chains (i * n + j)
-  unfolding coefficientAt
-  coefficientIn-part j l = rw (byte (4 * j) start (omega arith), byte (4 * j + 1) next-byte (omega arith), byte (4 * j + 2) third (omega arith), byte (4 * j + 3) last (omega arith))
-    where
-      start : i * (4 * n) + 4 * j ≡ 4 * (i * n + j)
-      start = omega (arith, mul-left-comm i 4 n)
-
-      next-byte : i * (4 * n) + (4 * j + 1) ≡ 4 * (i * n + j) + 1
-      next-byte = omega (arith, mul-left-comm i 4 n)
-
-      third : i * (4 * n) + (4 * j + 2) ≡ 4 * (i * n + j) + 2
-      third = omega (arith, mul-left-comm i 4 n)
-
-      last : i * (4 * n) + (4 * j + 3) ≡ 4 * (i * n + j) + 3
-      last = omega (arith, mul-left-comm i 4 n)
-
-      byte : {k : ℕ} (t : ℕ) → i * (4 * n) + t ≡ k → t < 4 * n → getD (chainBytes n chains i) t 0 ≡ getD chains k 0
-      byte t e h =
-          getD-take (4 * n) (drop (i * (4 * n)) chains) t 0 h
-          ∙ getD-drop (i * (4 * n)) chains t 0
-          ∙ ap (λ (k : ℕ). getD chains k 0) e
-
-  -- they give the chain
-  pub chainFrom-part : chainFrom n (chainBytes n chains i) ≡ chainAt n (chainFrom (number * n) chains) i
-  chainFrom-part =
-      chainFrom-whole n (chainBytes n chains i) length-chainBytes
-      ∙ tabulate-ext n (λ j. coefficientIn (chainBytes n chains i) j) (λ j. coefficientIn chains (i * n + j)) coefficientIn-part
-      ∙ sym (chainAt-bytes n number chains size i next)
+-- a chain of n coefficients has those that its bytes give
+pub given-coefficient : (n : ℕ) (chain : List ℕ) → length (chainFrom n chain) ≡ n → (i : ℕ) → i < n → getD (chainFrom n chain) i (pos 0) ≡ coefficientIn chain i
+given-coefficient n chain e i l =
+    ap (λ (z : List ℤ). getD z i (pos 0)) (chainFrom-whole n chain (chainFrom-size n chain e)) ∙ getD-tabulate n (λ k. coefficientIn chain k) i (pos 0) l

@@ -1,12 +1,11 @@
--- A Moore space of order 3: `reductions-space` gives the two reductions of dimension 1, and the calls and the text follow from it.
+-- A Moore space of order 3: `reductions-space` computes the two reductions of dimension 1, and the calls and the text follow from it.
 --     cells-read     the cells of the sheet
 --     space-calls    the report, and the coordinates of the generator, of two and three times the generator and of its opposite: 1, -1, 0, -1
 use mathlib.Core.List.{List, [], _∷_, _++_}
-use mathlib.Core.Path.{_≡_, refl, sym, _∙_}
+use mathlib.Core.Path.{_≡_, refl}
 use Prim.Native.Nat.{ℕ}
 use lib.IntN.{ℤ, pos, negℤ}
 use lib.ListN.{replicate}
-use Rattle.limits.specs.Limits.{entryLimit}
 use Rattle.integers.specs.Division.{floor, modulo, residue, divides}
 use Rattle.lists.specs.Tabulate.{tabulate}
 use Rattle.lists.specs.Splice.{splice, splices}
@@ -19,10 +18,11 @@ use Rattle.complexes.specs.Boundary.{sign, coefficient, countBelow, boundary}
 use Rattle.sheet_format.specs.Layout.{start}
 use Rattle.sheet_format.specs.Check.{countField, offsetField, cellOf, cellsOf, sectionsOf, some, verticesDoNotRise, cellsDoNotRise, faceMissing, refusal}
 use Rattle.reduction_steps.specs.Table.{table, rowLargest, tableLargest, tableWithin}
-use Rattle.reduction_steps.specs.State.{largest, within, checked, andThen}
+use Rattle.reduction_steps.specs.Lines.{onList, lineLess, onLines, onEntries}
+use Rattle.reduction_steps.specs.State.{largest, rowOperation, columnOperation, within, checked, andThen, onRow, onColumn}
 use Rattle.reduction_steps.specs.Pivot.{better, alongRow, downRows, release1, pivotRule}
-use Rattle.reduction_steps.specs.Step.{columnKeeps, rowKeeps, rowIndivisible, firstIndivisible, quotient, next}
-use Rattle.reports.specs.Reductions.{reduced, firstStart, product, secondStart, afterSecond}
+use Rattle.reduction_steps.specs.Step.{columnKeeps, rowKeeps, rowIndivisible, firstIndivisible, positive, bring, quotient, rowPass, columnPass, next, step, run, reduce}
+use Rattle.reports.specs.Reductions.{reduced, firstStart, product, secondStart, afterSecond, second, afterFirst, reductions}
 use Rattle.reports.specs.Report.{Counts, reported, columnsOf, torsionCount, halvings, bitsOf, reportList, coordinateAt, coordinateList}
 use Rattle.trials.specs.Trial.{Called, done}
 use Rattle.requests.specs.Question.{Question, asked, rule, two}
@@ -31,9 +31,6 @@ use Rattle.requests.specs.Chains.{coefficientExceeds, boundaryNotZero, chainChe
 use Rattle.requests.specs.Call.{coordinates, callChecks, earlyChecks, call}
 use Rattle.requests.specs.Call as request
 use Rattle.program_text.specs.Text.{digits, decimal, spaced, generatorLines, dimensionText}
-use Rattle.quick_reduction.specs.Lines.{onList, lineLess, onLines, onEntries}
-use Rattle.quick_reduction.specs.Quick.{quickRows, quickColumns, quickRow, quickColumn, quickPositive, quickBring, quickRowPass, quickColumnPass, quickStep, quickRun, quickReduce, quickSecond, quickAfterFirst, quickReductions}
-use Rattle.quick_reduction.specs.QuickLaws.{quick-reductions}
 use Rattle.moore_space.specs.Space.{cells, sheet, left, report, loop, twice, thrice, backwards, text}
 
 -- the cells of the sheet
@@ -41,23 +38,18 @@ pub cells-read : sectionsOf sheet ≡ cells
 unfolding countField cellOf cellsOf sectionsOf start tabulate
 cells-read = refl
 
--- 17 rows of Q, 17 pivots
-quick : quickReductions pivotRule entryLimit (sectionsOf sheet) 1 ≡ reduced 17 17 left
-unfolding quickReductions quickAfterFirst quickSecond firstStart product secondStart afterSecond countBelow boundary coefficient sign
-    countField cellOf cellsOf sectionsOf without same start
-    quickReduce quickRun quickStep next quickBring quickPositive quotient quickRowPass quickColumnPass columnKeeps rowKeeps rowIndivisible firstIndivisible
-    release1 downRows alongRow better quickRow quickColumn checked andThen within largest quickRows quickColumns
-    onLines onEntries onList lineLess tableWithin tableLargest rowLargest table
-    inverse identity null mul sum floor divides tabulate
-quick = refl
-
 -- dimension 1 of the sheet
 abbrev pub loops : Question
 loops = asked sheet 1
 
+-- 17 rows of Q, 17 pivots
 pub reductions-space : two loops ≡ reduced 17 17 left
-unfolding question.cells rule two
-reductions-space = sym (quick-reductions pivotRule entryLimit (sectionsOf sheet) 1) ∙ quick
+unfolding question.cells rule two reductions firstStart afterFirst second product secondStart afterSecond countBelow boundary coefficient sign
+    countField cellOf cellsOf sectionsOf without same start
+    reduce run step next bring positive quotient rowPass columnPass columnKeeps rowKeeps rowIndivisible firstIndivisible
+    release1 downRows alongRow better onRow onColumn checked andThen within largest rowOperation columnOperation onLines onEntries onList lineLess tableWithin tableLargest rowLargest table
+    inverse identity null mul sum floor divides tabulate
+reductions-space = refl
 
 -- ---- the calls in dimension 1
 

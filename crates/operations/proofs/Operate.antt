@@ -15,8 +15,9 @@ use Rattle.matrices.specs.Operation.{Operation, onRows, inverse}
 use Rattle.matrices.specs.OperationLaws.{onRows-ext, onColumns-ext}
 use Rattle.matrices.specs.Within.{Within, Within-inverse}
 use Rattle.reduction_steps.specs.Table.{Table, entry, table, tableLargest}
-use Rattle.reduction_steps.specs.State.{State, made, tooWide, largest, noted, follow, within, checked}
+use Rattle.reduction_steps.specs.State.{State, made, tooWide, largest, noted, within, checked}
 use Rattle.reduction_laws.specs.Tables.{entry-table, table-ext, Eq-table, tableLargest-table}
+use Rattle.reduction_laws.specs.Shape.{linesAnew}
 use Rattle.lines.specs.Slice.{entryLimit, at, lineAt, Under}
 use Rattle.lines.specs.Matrices.{Held, contents, Exceeds, Became}
 use Rattle.lines.specs.Operations.{Fits}
@@ -76,8 +77,8 @@ matrix-table columns W op f w = table-ext (onColumns-ext op f (Eq-table (W .matr
 companion-table :
     (M : Matrix) (m : ℕ) (op : Operation) → M .lines ≡ m → Within m op
     → {w w′ : List ℤ} → Kept M w w′
-    → follow m (M .width) op (linesOf M w) ≡ shaped M (onRows op (contents M w′))
-unfolding follow linesOf
+    → linesAnew m (M .width) op (linesOf M w) ≡ shaped M (onRows op (contents M w′))
+unfolding linesOf
 companion-table M m op e f {w} {w′} h = subst Same e here
   where
     Same : ℕ → Type 0
@@ -137,7 +138,7 @@ module _ (x : Side) (op : Operation) (W : Layout) (peak : ℕ) (w : List ℤ) (l
       {w₁ w₂ : List ℤ} → Kept (follower x W) w w₁ → Kept (undone x W) w w₂
       → outcomeOn x W op (stateOf W peak w) ≡ checked entryLimit (noted (newState x op W peak w w₁ w₂))
   outcome-is h k =
-      outcome-put x W op peak w
+      outcome-put x l op peak w
       ∙ cc (
         matrix-table x W op f w,
         companion-table (follower x W) (count x W) op (follower-lines l x) f h,

@@ -1,6 +1,6 @@
 -- The operations on rows and those on columns, told alike. An operation on a side changes the matrix, the side's follower and its
--- inverse companion, and keeps the two companions of the other side.
-use mathlib.Core.Path.{_≡_, refl}
+-- inverse companion, and keeps the two companions of the other side. `shaped-state`: the tables of a slice have the sizes of its layout.
+use mathlib.Core.Path.{_≡_, refl, sym, _∙_, ap}
 use mathlib.Core.List.{List}
 use Prim.Native.Nat.{ℕ, _≤_, max}
 use native.Mathlib.Omega.{arith}
@@ -8,9 +8,11 @@ use lib.IntN.{ℤ}
 use Rattle.matrices.specs.Matrix as theory
 use Rattle.matrices.specs.Operation.{Operation, onRows, onColumns, inverse}
 use Rattle.reduction_steps.specs.Table.{Table, entry, table, tableLargest}
-use Rattle.reduction_steps.specs.State.{State, Outcome, largest, noted, follow, rowOperation, columnOperation, checked, onRow, onColumn}
+use Rattle.reduction_steps.specs.State.{State, Outcome, largest, noted, checked, onRow, onColumn}
+use Rattle.reduction_laws.specs.Tables.{table-entry}
+use Rattle.reduction_laws.specs.Shape.{Shaped, linesAnew, rows-anew, columns-anew}
 use Rattle.lines.specs.Slice.{entryLimit}
-use Rattle.lines.specs.Matrices.{end, Held}
+use Rattle.lines.specs.Matrices.{end, Held, contents}
 use Rattle.lines.specs.Operations.{Fits}
 use Rattle.lines.specs.declared.matrix.Matrix.{Matrix}
 use Rattle.lines.proofs.Operations.{Fits-inverse}
@@ -65,19 +67,33 @@ pub noted-put :
 noted-put rows a b c d e peak = refl
 noted-put columns a b c d e peak = refl
 
+-- a table is the table of its own entries, with its number of lines written in another way
+table-lines : {m m′ : ℕ} → m ≡ m′ → (n : ℕ) (A : theory.Matrix) → table m n A ≡ table m′ n (entry (table m n A))
+table-lines {m} e n A = sym (table-entry m n A) ∙ ap (λ (x : ℕ). table x n (entry (table m n A))) e
+
+pub shaped-state : {n : ℕ} {W : Layout} (peak : ℕ) (w : List ℤ) → Laid n W → Shaped (sizesOf W) (stateOf W peak w)
+unfolding linesOf
+shaped-state {n} {W} peak w h = record {
+  matrix = table-lines refl (W .matrix .width) (contents (W .matrix) w);
+  rowFollower = table-lines (h .row-follower-lines) (W .«row_follower» .width) (contents (W .«row_follower») w);
+  rowInverse = table-lines (h .row-inverse-lines) (W .«row_inverse» .width) (contents (W .«row_inverse») w);
+  columnFollower = table-lines (h .column-follower-lines) (W .«column_follower» .width) (contents (W .«column_follower») w);
+  columnInverse = table-lines (h .column-inverse-lines) (W .«column_inverse» .width) (contents (W .«column_inverse») w);
+}
+
 pub outcome-put :
-    (x : Side) (W : Layout) (op : Operation) (peak : ℕ) (w : List ℤ)
+    (x : Side) {n : ℕ} {W : Layout} → Laid n W → (op : Operation) (peak : ℕ) (w : List ℤ)
     → outcomeOn x W op (stateOf W peak w)
     ≡ checked entryLimit (noted (put x
     (table (W .matrix .lines) (W .matrix .width) (onSide x op (entry (linesOf (W .matrix) w))))
-    (follow (count x W) (follower x W .width) op (linesOf (follower x W) w))
-    (follow (count x W) (undone x W .width) (inverse op) (linesOf (undone x W) w))
+    (linesAnew (count x W) (follower x W .width) op (linesOf (follower x W) w))
+    (linesAnew (count x W) (undone x W .width) (inverse op) (linesOf (undone x W) w))
     (linesOf (follower (across x) W) w)
     (linesOf (undone (across x) W) w)
     peak))
-unfolding onRow onColumn rowOperation columnOperation
-outcome-put rows W op peak w = refl
-outcome-put columns W op peak w = refl
+unfolding onRow onColumn
+outcome-put rows l op peak w = ap (checked entryLimit) (rows-anew op (shaped-state peak w l))
+outcome-put columns l op peak w = ap (checked entryLimit) (columns-anew op (shaped-state peak w l))
 
 -- the largest entry of a state, whatever its peak
 pub record Largest (a b c n : ℕ) : Type 0 where

@@ -26,10 +26,11 @@ use Rattle.operations.specs.Laid.{Laid, sizesOf, stateOf}
 use Rattle.operations.specs.declared.layout.Layout.{Layout}
 use Rattle.integers.specs.Floor.{floor-zero}
 use Rattle.operations.proofs.Unchanged.{columns-unchanged}
+use Rattle.operations.proofs.Side.{shaped-state}
 use Rattle.refusal.specs.declared.Refusal.the-variants as Refusal
 use Rattle.passes.specs.Answer.{Placed, ColumnClear, rowPassOf, columnPassOf, PassMade, PassRefused}
 use Rattle.lines.proofs.Spans.{line-span, span-inside}
-use Rattle.passes.proofs.States.{held-matrix, entry-state, shaped-state, rowsDone-moves}
+use Rattle.passes.proofs.States.{held-matrix, entry-state, rowsDone-moves}
 
 -- ---- one operation of a pass
 

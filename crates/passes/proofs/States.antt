@@ -1,15 +1,15 @@
--- The state that a slice holds: entry-state, shaped-state, held-matrix, laid-kept. operated-done, operated-under, operated-wide: what an operation
+-- The state that a slice holds: entry-state, held-matrix, laid-kept. operated-done, operated-under, operated-wide: what an operation
 -- came to. rowsDone-moves: a stage's operations keep its finished rows.
-use mathlib.Core.Path.{_≡_, refl, sym, _∙_, ap, subst}
+use mathlib.Core.Path.{_≡_, sym, _∙_, ap, subst}
 use mathlib.Core.List.{List}
 use Prim.Native.Nat.{ℕ, _<_}
 use native.Mathlib.Omega.{arith}
 use lib.ListN.{length}
 use lib.IntN.{ℤ}
 use Rattle.matrices.specs.Matrix as theory
-use Rattle.reduction_steps.specs.Table.{table, entry}
+use Rattle.reduction_steps.specs.Table.{entry}
 use Rattle.reduction_steps.specs.State.{Sizes, State, Outcome, made, tooWide}
-use Rattle.reduction_laws.specs.Tables.{entry-table, table-entry}
+use Rattle.reduction_laws.specs.Tables.{entry-table}
 use Rattle.reduction_laws.specs.Shape.{Shaped, shaped-rows, shaped-columns, matrix-rows, matrix-columns}
 use Rattle.reduction_laws.specs.Moves.{Moves, Keeps, moves-keep}
 use Rattle.reduction_laws.specs.StageLaws as stage-laws
@@ -18,7 +18,7 @@ use Rattle.lines.specs.Matrices.{Held, contents}
 use Rattle.lines.specs.declared.line.Written.{Written}
 use Rattle.lines.specs.declared.line.Effect.{Effect}
 use Rattle.lines.specs.declared.line.Effect.the-variants.{Done, TooWide}
-use Rattle.operations.specs.Laid.{Laid, sizesOf, linesOf, stateOf, outcomeOf, UnderDone, Operated}
+use Rattle.operations.specs.Laid.{Laid, linesOf, stateOf, outcomeOf, UnderDone, Operated}
 use Rattle.operations.specs.declared.layout.Layout.{Layout}
 
 -- ---- the state of a slice
@@ -26,20 +26,6 @@ use Rattle.operations.specs.declared.layout.Layout.{Layout}
 pub entry-state : (W : Layout) (w : List ℤ) (i j : ℕ) → i < W .matrix .lines → j < W .matrix .width → entry (linesOf (W .matrix) w) i j ≡ contents (W .matrix) w i j
 unfolding linesOf
 entry-state W w i j a b = entry-table (W .matrix .lines) (W .matrix .width) (contents (W .matrix) w) i j a b
-
--- a table is the table of its own entries, with its number of lines written in another way
-table-lines : {m m′ : ℕ} → m ≡ m′ → (n : ℕ) (A : theory.Matrix) → table m n A ≡ table m′ n (entry (table m n A))
-table-lines {m} e n A = sym (table-entry m n A) ∙ ap (λ (x : ℕ). table x n (entry (table m n A))) e
-
-pub shaped-state : {n : ℕ} {W : Layout} (peak : ℕ) (w : List ℤ) → Laid n W → Shaped (sizesOf W) (stateOf W peak w)
-unfolding linesOf
-shaped-state {n} {W} peak w h = record {
-  matrix = table-lines refl (W .matrix .width) (contents (W .matrix) w);
-  rowFollower = table-lines (h .row-follower-lines) (W .«row_follower» .width) (contents (W .«row_follower») w);
-  rowInverse = table-lines (h .row-inverse-lines) (W .«row_inverse» .width) (contents (W .«row_inverse») w);
-  columnFollower = table-lines (h .column-follower-lines) (W .«column_follower» .width) (contents (W .«column_follower») w);
-  columnInverse = table-lines (h .column-inverse-lines) (W .«column_inverse» .width) (contents (W .«column_inverse») w);
-}
 
 -- the layout after an operation or a pass
 pub laid-kept : {W : Layout} {n : ℕ} (w′ : List ℤ) → Laid n W → length w′ ≡ n → Laid (length w′) W

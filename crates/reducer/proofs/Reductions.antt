@@ -20,7 +20,8 @@ use Rattle.reducer.specs.declared.stage.Stage.the-variants as stage
 use Rattle.passes.specs.Answer.{matrixOf}
 use Rattle.reducer.specs.Answer.{Begun, sizeAt, chosenSize, reductionOf, Goes, ChoiceEnds, ReductionDone, ReductionRefused}
 use Rattle.operations.proofs.Operate.{within-under}
-use Rattle.passes.proofs.States.{entry-state, shaped-state}
+use Rattle.operations.proofs.Side.{shaped-state}
+use Rattle.passes.proofs.States.{entry-state}
 use Rattle.passes.proofs.Words.{small-entry}
 
 -- from the slice w₀ the reduction has come to letter a of stage k with the slice w

@@ -6,9 +6,10 @@ use Rattle.lists.specs.Tabulate.{tabulate}
 use Rattle.lists.specs.Same.{every, sameNumber, sameList}
 use Rattle.integers.specs.Division.{floor, divides}
 use Rattle.matrices.specs.Matrix.{identity}
-use Rattle.matrices.specs.Operation.{onRows, onColumns, inverse}
+use Rattle.matrices.specs.Operation.{inverse}
 use Rattle.reduction_steps.specs.Table.{table, rowLargest, tableLargest}
-use Rattle.reduction_steps.specs.State.{largest, follow, rowOperation, columnOperation, within, checked, andThen, onRow, onColumn}
+use Rattle.reduction_steps.specs.Lines.{onList, lineLess, onLines, onEntries}
+use Rattle.reduction_steps.specs.State.{largest, rowOperation, columnOperation, within, checked, andThen, onRow, onColumn}
 use Rattle.reduction_steps.specs.Pivot.{better, alongRow, downRows, release1}
 use Rattle.reduction_steps.specs.Step.{columnKeeps, rowKeeps, rowIndivisible, firstIndivisible, positive, bring, quotient, rowPass, columnPass, next, step, run, reduce}
 use Rattle.reduction_examples.specs.Same.{sameTable, sameState, sameMachine}
@@ -22,5 +23,5 @@ abbrev pub cases : List Case
 cases = steps ++ (shapes ++ (limits ++ peaks))
 
 pub reduction-examples : T (every good cases)
-unfolding tabulate floor divides identity onRows onColumns inverse table rowLargest tableLargest largest follow rowOperation columnOperation within checked andThen onRow onColumn better alongRow downRows release1 columnKeeps rowKeeps rowIndivisible firstIndivisible positive bring quotient rowPass columnPass next step run reduce sameNumber sameList sameTable sameState sameMachine outcome good every
+unfolding tabulate floor divides identity inverse table rowLargest tableLargest largest onList lineLess onLines onEntries rowOperation columnOperation within checked andThen onRow onColumn better alongRow downRows release1 columnKeeps rowKeeps rowIndivisible firstIndivisible positive bring quotient rowPass columnPass next step run reduce sameNumber sameList sameTable sameState sameMachine outcome good every
 reduction-examples = tt

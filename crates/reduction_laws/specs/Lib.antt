@@ -3,6 +3,8 @@ pub mod Tables
 pub mod Run
 pub mod Steps
 pub mod StageLaws
+pub mod Bounded
+pub mod LinesLaws
 pub mod Shape
 pub mod Scans
 pub mod Moves

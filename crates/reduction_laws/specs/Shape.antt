@@ -1,23 +1,21 @@
--- Tables of the right sizes: `Shaped`, kept by every operation (shaped-rows, shaped-columns); what the matrix holds after an
--- operation (matrix-rows, matrix-columns); largest-iff: the largest absolute value of an entry is at most the limit where each table lies within it;
--- within-iff: so with the test of the limit.
-use mathlib.Core.Path.{_≡_, sym, _∙_, subst}
+-- Tables of the right sizes: `Shaped`. An operation on such a state makes every table that it changes from the entries (rows-anew, columns-anew) and
+-- keeps the sizes (shaped-rows, shaped-columns); what the matrix holds after it (matrix-rows, matrix-columns). largest-iff: the largest absolute value
+-- of an entry is at most the limit where each table lies within it; within-iff: so with the test of the limit.
+use mathlib.Core.Path.{_≡_, sym, _∙_, ap, subst}
 use mathlib.Core.Logic.{_↔_}
 use mathlib.Core.Bool.{true}
-use Prim.Native.Nat.{ℕ, _≤_, _<_, zero-le, max}
+use Prim.Native.Nat.{ℕ, _≤_, max}
 use native.Mathlib.Nat.{max-le}
 use native.Mathlib.Omega.{arith}
-use native.Mathlib.Decide.{decLt}
 use borrow.Author.Tests.{leb-true, le-leb}
-use lib.IntN.{pos, natAbs}
-use Rattle.matrices.specs.Matrix.{Matrix, transpose}
-use Rattle.matrices.specs.Product.{matrix-ext}
+use lib.IntN.{natAbs}
 use Rattle.matrices.specs.Operation.{Operation, onRows, onColumns, inverse}
 use Rattle.matrices.specs.Within.{Within}
 use Rattle.reduction_steps.specs.Table.{Table, entry, table, tableLargest, tableWithin}
-use Rattle.reduction_steps.specs.State.{Sizes, State, rowOperation, columnOperation, follow, largest, within}
-use Rattle.reduction_laws.specs.Tables.{entry-table, entry-table-below, entry-table-right, table-entry, tableWithin-le, tableWithin-iff}
-use Rattle.reduction_laws.specs.StageLaws.{From-zero, onRows-beyond, onRows-zero}
+use Rattle.reduction_steps.specs.State.{Sizes, State, noted, rowOperation, columnOperation, largest, within}
+use Rattle.reduction_laws.specs.Tables.{table-entry, tableWithin-le, tableWithin-iff}
+use Rattle.reduction_laws.specs.Bounded.{Bounded, bounded-table, entry-bounded, bounded-rows, bounded-columns}
+use Rattle.reduction_laws.specs.LinesLaws.{onLines-is, onEntries-is}
 
 -- every table of the state is the table of its own entries, at its size
 pub record Shaped (z : Sizes) (s : State) : Type 0 where
@@ -27,61 +25,74 @@ pub record Shaped (z : Sizes) (s : State) : Type 0 where
   pub columnFollower : s .columnFollower ≡ table (z .columns) (z .columnFollower) (entry (s .columnFollower))
   pub columnInverse : s .columnInverse ≡ table (z .columns) (z .columnInverse) (entry (s .columnInverse))
 
-pub shaped-rows : {z : Sizes} {s : State} (op : Operation) → Shaped z s → Shaped z (rowOperation z op s)
-unfolding rowOperation follow
-shaped-rows {z} {s} op h = record {
-  matrix = sym (table-entry (z .rows) (z .columns) (onRows op (entry (s .matrix))));
-  rowFollower = sym (table-entry (z .rows) (z .rowFollower) (onRows op (entry (s .rowFollower))));
-  rowInverse = sym (table-entry (z .rows) (z .rowInverse) (onRows (inverse op) (entry (s .rowInverse))));
-  columnFollower = h .columnFollower;
-  columnInverse = h .columnInverse;
-}
+-- ---- an operation, every table of it made anew
 
-pub shaped-columns : {z : Sizes} {s : State} (op : Operation) → Shaped z s → Shaped z (columnOperation z op s)
-unfolding columnOperation follow
-shaped-columns {z} {s} op h = record {
-  matrix = sym (table-entry (z .rows) (z .columns) (onColumns op (entry (s .matrix))));
-  rowFollower = h .rowFollower;
-  rowInverse = h .rowInverse;
-  columnFollower = sym (table-entry (z .columns) (z .columnFollower) (onRows op (entry (s .columnFollower))));
-  columnInverse = sym (table-entry (z .columns) (z .columnInverse) (onRows (inverse op) (entry (s .columnInverse))));
-}
+-- so many lines, so long, after an operation on them
+abbrev pub linesAnew : ℕ → ℕ → Operation → Table → Table
+linesAnew lines long op T = table lines long (onRows op (entry T))
+
+abbrev pub rowsAnew : Sizes → Operation → State → State
+rowsAnew z op s =
+    noted (record {
+      matrix = linesAnew (z .rows) (z .columns) op (s .matrix);
+      rowFollower = linesAnew (z .rows) (z .rowFollower) op (s .rowFollower);
+      rowInverse = linesAnew (z .rows) (z .rowInverse) (inverse op) (s .rowInverse);
+      columnFollower = s .columnFollower;
+      columnInverse = s .columnInverse;
+      peak = s .peak;
+    })
+
+abbrev pub columnsAnew : Sizes → Operation → State → State
+columnsAnew z op s =
+    noted (record {
+      matrix = table (z .rows) (z .columns) (onColumns op (entry (s .matrix)));
+      rowFollower = s .rowFollower;
+      rowInverse = s .rowInverse;
+      columnFollower = linesAnew (z .columns) (z .columnFollower) op (s .columnFollower);
+      columnInverse = linesAnew (z .columns) (z .columnInverse) (inverse op) (s .columnInverse);
+      peak = s .peak;
+    })
+
+module _ {z : Sizes} {s : State} (op : Operation) (h : Shaped z s) where
+  pub rows-anew : rowOperation z op s ≡ rowsAnew z op s
+  unfolding rowOperation
+  rows-anew =
+      rw (
+        onLines-is (z .rows) (z .columns) (s .matrix) (h .matrix) op,
+        onLines-is (z .rows) (z .rowFollower) (s .rowFollower) (h .rowFollower) op,
+        onLines-is (z .rows) (z .rowInverse) (s .rowInverse) (h .rowInverse) (inverse op),
+      )
+
+  pub columns-anew : columnOperation z op s ≡ columnsAnew z op s
+  unfolding columnOperation
+  columns-anew =
+      rw (
+        onEntries-is (z .rows) (z .columns) (s .matrix) (h .matrix) op,
+        onLines-is (z .columns) (z .columnFollower) (s .columnFollower) (h .columnFollower) op,
+        onLines-is (z .columns) (z .columnInverse) (s .columnInverse) (h .columnInverse) (inverse op),
+      )
+
+  pub shaped-rows : Shaped z (rowOperation z op s)
+  shaped-rows =
+      subst (Shaped z) (sym rows-anew) (record {
+        matrix = sym (table-entry (z .rows) (z .columns) (onRows op (entry (s .matrix))));
+        rowFollower = sym (table-entry (z .rows) (z .rowFollower) (onRows op (entry (s .rowFollower))));
+        rowInverse = sym (table-entry (z .rows) (z .rowInverse) (onRows (inverse op) (entry (s .rowInverse))));
+        columnFollower = h .columnFollower;
+        columnInverse = h .columnInverse;
+      })
+
+  pub shaped-columns : Shaped z (columnOperation z op s)
+  shaped-columns =
+      subst (Shaped z) (sym columns-anew) (record {
+        matrix = sym (table-entry (z .rows) (z .columns) (onColumns op (entry (s .matrix))));
+        rowFollower = h .rowFollower;
+        rowInverse = h .rowInverse;
+        columnFollower = sym (table-entry (z .columns) (z .columnFollower) (onRows op (entry (s .columnFollower))));
+        columnInverse = sym (table-entry (z .columns) (z .columnInverse) (onRows (inverse op) (entry (s .columnInverse))));
+      })
 
 -- ---- the matrix after an operation
-
--- zero outside m rows and n columns
-pub record Bounded (m n : ℕ) (A : Matrix) : Type 0 where
-  pub below : (i j : ℕ) → m ≤ i → A i j ≡ pos 0
-  pub right : (i j : ℕ) → n ≤ j → A i j ≡ pos 0
-
-pub bounded-table : (m n : ℕ) (A : Matrix) → Bounded m n (entry (table m n A))
-bounded-table m n A = record { below = entry-table-below m n A; right = entry-table-right m n A }
-
-pub bounded-transpose : {m n : ℕ} {A : Matrix} → Bounded m n A → Bounded n m (transpose A)
-bounded-transpose b = record { below = λ i j h. b .right j i h; right = λ i j h. b .below j i h }
-
--- the table of a bounded matrix has its entries everywhere
-pub entry-bounded : (m n : ℕ) (A : Matrix) → Bounded m n A → entry (table m n A) ≡ A
-entry-bounded m n A b = matrix-ext (entry (table m n A)) A (λ i j. go i j (decLt i m) (decLt j n))
-  where
-    go : (i j : ℕ) → Dec (i < m) → Dec (j < n) → entry (table m n A) i j ≡ A i j
-    go i j (yes p) (yes q) = entry-table m n A i j p q
-    go i j (no p) q = entry-table-below m n A i j (omega arith) ∙ sym (b .below i j (omega arith))
-    go i j (yes p) (no q) = entry-table-right m n A i j (omega arith) ∙ sym (b .right i j (omega arith))
-
-pub bounded-rows : {m n : ℕ} {A : Matrix} (op : Operation) → Within m op → Bounded m n A → Bounded m n (onRows op A)
-bounded-rows {m} {n} {A} op w b = record {
-  below = λ i j h. onRows-beyond op w A i j h ∙ b .below i j h;
-  right = λ i j h. go i j h (decLt i m);
-}
-  where
-    go : (i j : ℕ) → n ≤ j → Dec (i < m) → onRows op A i j ≡ pos 0
-    go i j h (yes l) = onRows-zero op (From-zero op) w A j (λ a _ _. b .right a j h) i zero-le l
-    go i j h (no l) = onRows-beyond op w A i j (omega arith) ∙ b .right i j h
-
-pub bounded-columns : {m n : ℕ} {A : Matrix} (op : Operation) → Within n op → Bounded m n A → Bounded m n (onColumns op A)
-unfolding onColumns
-bounded-columns op w b = bounded-transpose (bounded-rows op w (bounded-transpose b))
 
 pub shaped-bounded : {z : Sizes} {s : State} → Shaped z s → Bounded (z .rows) (z .columns) (entry (s .matrix))
 shaped-bounded {z} {s} h =
@@ -90,12 +101,14 @@ shaped-bounded {z} {s} h =
 module _ {z : Sizes} {s : State} (op : Operation) (h : Shaped z s) where
   -- the entries of the matrix after an operation, also outside the range
   pub matrix-rows : Within (z .rows) op → entry (rowOperation z op s .matrix) ≡ onRows op (entry (s .matrix))
-  unfolding rowOperation
-  matrix-rows w = entry-bounded (z .rows) (z .columns) (onRows op (entry (s .matrix))) (bounded-rows op w (shaped-bounded h))
+  matrix-rows w =
+      ap (λ (u : State). entry (u .matrix)) (rows-anew op h)
+      ∙ entry-bounded (z .rows) (z .columns) (onRows op (entry (s .matrix))) (bounded-rows op w (shaped-bounded h))
 
   pub matrix-columns : Within (z .columns) op → entry (columnOperation z op s .matrix) ≡ onColumns op (entry (s .matrix))
-  unfolding columnOperation
-  matrix-columns w = entry-bounded (z .rows) (z .columns) (onColumns op (entry (s .matrix))) (bounded-columns op w (shaped-bounded h))
+  matrix-columns w =
+      ap (λ (u : State). entry (u .matrix)) (columns-anew op h)
+      ∙ entry-bounded (z .rows) (z .columns) (onColumns op (entry (s .matrix))) (bounded-columns op w (shaped-bounded h))
 
 -- ---- the test of the limit
 

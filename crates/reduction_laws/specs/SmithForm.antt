@@ -20,7 +20,8 @@ use Rattle.reduction_steps.specs.Table.{entry}
 use Rattle.reduction_steps.specs.State.{Sizes, State, within}
 use Rattle.reduction_steps.specs.Pivot.{Rule, IsRule}
 use Rattle.reduction_steps.specs.Step.{done, enough, reduce}
-use Rattle.reduction_laws.specs.Shape.{Shaped, Bounded, shaped-bounded}
+use Rattle.reduction_laws.specs.Bounded.{Bounded}
+use Rattle.reduction_laws.specs.Shape.{Shaped, shaped-bounded}
 use Rattle.reduction_laws.specs.Moves.{Moves}
 use Rattle.reduction_laws.specs.Leading.{Leading}
 use Rattle.reduction_laws.specs.Stage.{Finished}

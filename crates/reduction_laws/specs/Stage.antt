@@ -45,10 +45,10 @@ module _ (limit : ℕ) (z : Sizes) (s₀ : State) (k : ℕ) where
   stage-keeps : Keeps limit z k Stage
   stage-keeps = record {
     onRows = λ op t f w h p.
-        stays p (shaped-rows op (p .shaped)) h (rows op (From-zero op) w h (p .moves)) (tracked-rows op (p .tracked) w)
+        stays p (shaped-rows op (p .shaped)) h (rows op (From-zero op) w h (p .moves)) (tracked-rows op (p .shaped) (p .tracked) w)
         (matrix-rows op (p .shaped) w) (leading-rows op f w (p .leading));
     onColumns = λ op t f w h p.
-        stays p (shaped-columns op (p .shaped)) h (columns op (From-zero op) w h (p .moves)) (tracked-columns op (p .tracked) w)
+        stays p (shaped-columns op (p .shaped)) h (columns op (From-zero op) w h (p .moves)) (tracked-columns op (p .shaped) (p .tracked) w)
         (matrix-columns op (p .shaped) w) (leading-columns op f w (p .leading));
   }
 

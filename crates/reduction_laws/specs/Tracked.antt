@@ -1,6 +1,6 @@
 -- The transforms behind a state that was made from s₀ by operations: `Tracked`. It holds at the start (tracked-refl), and every operation
 -- within the range keeps it (tracked-rows, tracked-columns).
-use mathlib.Core.Path.{sym, ap}
+use mathlib.Core.Path.{sym, ap, subst}
 use Prim.Native.Nat.{ℕ}
 use Rattle.matrices.specs.Matrix.{Matrix, Eq, mul, identity, transpose}
 use Rattle.matrices.specs.Product.{Eq-trans, Eq-transpose, Eq-of, matrix-ext, mul-identity-left, mul-identity-right}
@@ -9,8 +9,9 @@ use Rattle.matrices.specs.Within.{Within, Within-inverse}
 use Rattle.matrices.specs.OperationLaws.{onRows-ext, onColumns-ext, onRows-mul, onColumns-mul}
 use Rattle.matrices.specs.Inverse.{InversePair, inverse-pair-identity, inverse-pair-rows, inverse-pair-columns}
 use Rattle.reduction_steps.specs.Table.{entry, table}
-use Rattle.reduction_steps.specs.State.{Sizes, State, rowOperation, columnOperation, follow}
+use Rattle.reduction_steps.specs.State.{Sizes, State, rowOperation, columnOperation}
 use Rattle.reduction_laws.specs.Tables.{Eq-table}
+use Rattle.reduction_laws.specs.Shape.{Shaped, rows-anew, columns-anew}
 
 -- The row transform U and the column transform C, with their inverses, carry the matrix of s₀ to that of s, and each companion of s₀
 -- to that of s. The lines of `rowInverse` and `columnFollower` are columns, so these two stand transposed.
@@ -67,10 +68,9 @@ lines-follow op m n l A X Y w e =
     Eq-trans (Eq-transpose (Eq-table n m (onRows op A)))
     (Eq-trans (onColumns-ext op w e) (Eq-of m n (onColumns op (mul l X Y)) (mul l X (onColumns op Y)) (onColumns-mul op l X Y)))
 
-module _ {z : Sizes} {s₀ s : State} (op : Operation) (t : Tracked z s₀ s) where
+module _ {z : Sizes} {s₀ s : State} (op : Operation) (h : Shaped z s) (t : Tracked z s₀ s) where
   pub tracked-rows : Within (z .rows) op → Tracked z s₀ (rowOperation z op s)
-  unfolding rowOperation follow
-  tracked-rows w = record {
+  tracked-rows w = subst (Tracked z s₀) (sym (rows-anew op h)) (record {
     U = onRows op (t .U);
     Ui = onColumns (inverse op) (t .Ui);
     C = t .C;
@@ -90,11 +90,10 @@ module _ {z : Sizes} {s₀ s : State} (op : Operation) (t : Tracked z s₀ s) wh
         (Within-inverse (z .rows) op w) (t .rowInverse);
     columnFollower = t .columnFollower;
     columnInverse = t .columnInverse;
-  }
+  })
 
   pub tracked-columns : Within (z .columns) op → Tracked z s₀ (columnOperation z op s)
-  unfolding columnOperation follow
-  tracked-columns w = record {
+  tracked-columns w = subst (Tracked z s₀) (sym (columns-anew op h)) (record {
     U = t .U;
     Ui = t .Ui;
     C = onColumns op (t .C);
@@ -108,4 +107,4 @@ module _ {z : Sizes} {s₀ s : State} (op : Operation) (t : Tracked z s₀ s) wh
         w (t .columnFollower);
     columnInverse = rows-follow (inverse op) (z .columns) (z .columnInverse) (z .columns) (entry (s .columnInverse)) (t .Ci) (entry (s₀ .columnInverse))
         (Within-inverse (z .columns) op w) (t .columnInverse);
-  }
+  })

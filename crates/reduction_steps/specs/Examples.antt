@@ -6,9 +6,10 @@ use Prim.Native.Nat.{ℕ}
 use lib.IntN.{ℤ, pos, negℤ}
 use Rattle.integers.specs.Division.{floor, divides}
 use Rattle.lists.specs.Tabulate.{tabulate}
-use Rattle.matrices.specs.Operation.{onRows, onColumns, inverse}
+use Rattle.matrices.specs.Operation.{inverse}
 use Rattle.reduction_steps.specs.Table.{Table, table, rowLargest, tableLargest}
-use Rattle.reduction_steps.specs.State.{Sizes, State, largest, follow, rowOperation, columnOperation, within, checked, andThen, onRow, onColumn}
+use Rattle.reduction_steps.specs.Lines.{onList, lineLess, onLines, onEntries}
+use Rattle.reduction_steps.specs.State.{Sizes, State, largest, rowOperation, columnOperation, within, checked, andThen, onRow, onColumn}
 use Rattle.reduction_steps.specs.Pivot.{better, alongRow, downRows, release1}
 use Rattle.reduction_steps.specs.Step.{Machine, at, a, c, d, e, done, wide, columnKeeps, rowKeeps, rowIndivisible, firstIndivisible, positive, bring, quotient, rowPass, columnPass, next, step}
 
@@ -128,5 +129,5 @@ Right (x ∷ l) = (step 6 sizes release1 (x .before) ≡ x .after) × Right l
 
 pub step-examples : Right cases
 unfolding step next bring positive quotient rowPass columnPass columnKeeps rowKeeps rowIndivisible firstIndivisible release1 downRows alongRow better
-    onRow onColumn checked andThen within largest tableLargest rowLargest rowOperation columnOperation follow table onRows onColumns inverse floor divides tabulate
+    onRow onColumn checked andThen within largest tableLargest rowLargest rowOperation columnOperation onLines onEntries onList lineLess table inverse floor divides tabulate
 step-examples = (refl, (refl, (refl, (refl, (refl, (refl, (refl, (refl, (refl, (refl, (refl, (refl, (refl, (refl, (refl, (refl, (refl, tt)))))))))))))))))

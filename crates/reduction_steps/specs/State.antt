@@ -2,8 +2,9 @@
 use mathlib.Core.Bool.{Bool, cond}
 use Prim.Native.Nat.{ℕ, max}
 use lib.Dec.{leb}
-use Rattle.matrices.specs.Operation.{Operation, onRows, onColumns, inverse}
-use Rattle.reduction_steps.specs.Table.{Table, entry, table, tableLargest}
+use Rattle.matrices.specs.Operation.{Operation, inverse}
+use Rattle.reduction_steps.specs.Table.{Table, tableLargest}
+use Rattle.reduction_steps.specs.Lines.{onLines, onEntries}
 
 -- The rows and columns of the matrix, and the length of a line of each companion. A companion that is absent has lines of length 0.
 pub record Sizes : Type 0 where
@@ -44,17 +45,13 @@ noted s =
       peak = max (s .peak) (largest s);
     }
 
--- a companion's lines, so many and so long, after an operation on them
-unfoldable pub follow : ℕ → ℕ → Operation → Table → Table
-follow lines long op T = table lines long (onRows op (entry T))
-
 -- an operation on the rows of the matrix
 unfoldable pub rowOperation : Sizes → Operation → State → State
 rowOperation z op s =
     noted (record {
-      matrix = table (z .rows) (z .columns) (onRows op (entry (s .matrix)));
-      rowFollower = follow (z .rows) (z .rowFollower) op (s .rowFollower);
-      rowInverse = follow (z .rows) (z .rowInverse) (inverse op) (s .rowInverse);
+      matrix = onLines (z .columns) op (s .matrix);
+      rowFollower = onLines (z .rowFollower) op (s .rowFollower);
+      rowInverse = onLines (z .rowInverse) (inverse op) (s .rowInverse);
       columnFollower = s .columnFollower;
       columnInverse = s .columnInverse;
       peak = s .peak;
@@ -64,11 +61,11 @@ rowOperation z op s =
 unfoldable pub columnOperation : Sizes → Operation → State → State
 columnOperation z op s =
     noted (record {
-      matrix = table (z .rows) (z .columns) (onColumns op (entry (s .matrix)));
+      matrix = onEntries op (s .matrix);
       rowFollower = s .rowFollower;
       rowInverse = s .rowInverse;
-      columnFollower = follow (z .columns) (z .columnFollower) op (s .columnFollower);
-      columnInverse = follow (z .columns) (z .columnInverse) (inverse op) (s .columnInverse);
+      columnFollower = onLines (z .columnFollower) op (s .columnFollower);
+      columnInverse = onLines (z .columnInverse) (inverse op) (s .columnInverse);
       peak = s .peak;
     })
 

@@ -7,12 +7,13 @@ use Rattle.integers.specs.Division.{floor, modulo, divides}
 use Rattle.lists.specs.Tabulate.{tabulate}
 use Rattle.matrices.specs.Sum.{sum}
 use Rattle.matrices.specs.Matrix.{mul, identity, null}
-use Rattle.matrices.specs.Operation.{onRows, onColumns, inverse}
+use Rattle.matrices.specs.Operation.{inverse}
 use Rattle.complexes.specs.Cell.{without, same, listed}
 use Rattle.complexes.specs.Boundary.{sign, coefficient, countBelow, boundary}
 use Rattle.sheet_format.specs.Starred.{edgeSections}
 use Rattle.reduction_steps.specs.Table.{table, rowLargest, tableLargest, tableWithin}
-use Rattle.reduction_steps.specs.State.{largest, follow, rowOperation, columnOperation, within, checked, andThen, onRow, onColumn}
+use Rattle.reduction_steps.specs.Lines.{onList, lineLess, onLines, onEntries}
+use Rattle.reduction_steps.specs.State.{largest, rowOperation, columnOperation, within, checked, andThen, onRow, onColumn}
 use Rattle.reduction_steps.specs.Pivot.{better, alongRow, downRows, release1}
 use Rattle.reduction_steps.specs.Step.{columnKeeps, rowKeeps, rowIndivisible, firstIndivisible, positive, bring, quotient, rowPass, columnPass, next, step, run, reduce}
 use Rattle.reports.specs.Reductions.{tooWide, reduced, firstStart, product, secondStart, afterSecond, second, afterFirst, reductions}
@@ -30,8 +31,8 @@ pub examples : Examples
 unfolding end endOfFirst endOfProduct endOfSecond
     reductions firstStart afterFirst second product secondStart afterSecond countBelow boundary coefficient sign without same listed
     reduce run step next bring positive quotient rowPass columnPass columnKeeps rowKeeps rowIndivisible firstIndivisible
-    release1 downRows alongRow better onRow onColumn checked andThen within largest rowOperation columnOperation follow tableWithin tableLargest rowLargest table
-    onRows onColumns inverse identity null mul sum floor modulo divides tabulate
+    release1 downRows alongRow better onRow onColumn checked andThen within largest rowOperation columnOperation onLines onEntries onList lineLess tableWithin tableLargest rowLargest table
+    inverse identity null mul sum floor modulo divides tabulate
 examples = record { wideInFirst = refl; wideInProduct = refl; notWide = refl; peakOfFirst = refl }
 
 -- the edge's reductions at the limit 0 are too wide

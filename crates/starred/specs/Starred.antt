@@ -10,7 +10,7 @@ use Rattle.lists.specs.Splice.{splice, splices}
 use Rattle.matrices.specs.Sum.{sum}
 use Rattle.matrices.specs.Matrix.{mul, identity, null}
 use Rattle.matrices.specs.Vector.{apply}
-use Rattle.matrices.specs.Operation.{onRows, onColumns, inverse}
+use Rattle.matrices.specs.Operation.{inverse}
 use Rattle.complexes.specs.Cell.{without, same, rises, precedes, listed}
 use Rattle.complexes.specs.Boundary.{sign, coefficient, countBelow, boundary}
 use Rattle.sheet_format.specs.Layout.{start}
@@ -19,7 +19,8 @@ use Rattle.sheet_format.specs.Starred.{hollowTriangle}
 use Rattle.sheet_format.specs.Check.{countField, offsetField, cellOf, cellsOf, sectionsOf, some, verticesDoNotRise, cellsDoNotRise, faceMissing, refusal}
 use Rattle.lists.specs.Same.{every, sameNumber, sameList}
 use Rattle.reduction_steps.specs.Table.{table, rowLargest, tableLargest, tableWithin}
-use Rattle.reduction_steps.specs.State.{largest, follow, rowOperation, columnOperation, within, checked, andThen, onRow, onColumn}
+use Rattle.reduction_steps.specs.Lines.{onList, lineLess, onLines, onEntries}
+use Rattle.reduction_steps.specs.State.{largest, rowOperation, columnOperation, within, checked, andThen, onRow, onColumn}
 use Rattle.reduction_steps.specs.Pivot.{better, alongRow, downRows, release1}
 use Rattle.reduction_steps.specs.Step.{columnKeeps, rowKeeps, rowIndivisible, firstIndivisible, positive, bring, quotient, rowPass, columnPass, next, step, run, reduce}
 use Rattle.reports.specs.Reductions.{firstStart, product, secondStart, afterSecond, second, afterFirst, reductions}
@@ -45,8 +46,8 @@ unfolding every good sameCalled sameAnswer sameCounts sameSlice sameList sameNum
     refusal countField offsetField cellOf cellsOf sectionsOf some verticesDoNotRise cellsDoNotRise faceMissing without same rises precedes listed start
     reductions firstStart afterFirst second product secondStart afterSecond countBelow boundary coefficient sign
     reduce run step next bring positive quotient rowPass columnPass columnKeeps rowKeeps rowIndivisible firstIndivisible
-    release1 downRows alongRow better onRow onColumn checked andThen within largest rowOperation columnOperation follow tableWithin tableLargest rowLargest table
-    onRows onColumns inverse identity null mul apply sum floor modulo residue divides tabulate
+    release1 downRows alongRow better onRow onColumn checked andThen within largest rowOperation columnOperation onLines onEntries onList lineLess tableWithin tableLargest rowLargest table
+    inverse identity null mul apply sum floor modulo residue divides tabulate
     reportList coordinateList coordinateAt torsionCount bitsOf halvings columnsOf reported
     splices splice
 starred-sheets-and-calls = tt

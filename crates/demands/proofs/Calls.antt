@@ -1,0 +1,125 @@
+-- The claims on the calls: the number, what is left and what is written.
+use mathlib.Core.Path.{_≡_, refl, sym, _∙_, ap}
+use mathlib.Core.Logic.{_↔_, _≢_}
+use mathlib.Core.List.{List}
+use Prim.Native.Nat.{ℕ, _+_, _*_, _≤_, _<_}
+use native.Mathlib.Nat.{one-mul}
+use native.Mathlib.Omega.{arith}
+use lib.ListN.{length}
+use lib.IntN.{ℤ}
+use Rattle.limits.specs.Limits.{coefficientLimit}
+use Rattle.trials.specs.Trial.{first, done, numberTold, Called}
+use Rattle.sheet_format.specs.Sheet.{Bytes}
+use Rattle.reduction_steps.specs.State.{State}
+use Rattle.reports.specs.Report.{Counts, coordinateList}
+use Rattle.requests.specs.Question.{Question, cells, cellCount}
+use Rattle.requests.specs.Chains.{chainAt, chainChecks, cyclesChecks, chainsChecks, FirstFault}
+use Rattle.requests.specs.ChainsLaws.{length-chainAt, fault, cycles-told, chains-sized, chains-zero}
+use Rattle.requests.specs.Call.{coordinates, lists, listSlots, workSlots, callChecks, earlyChecks, call}
+use Rattle.requests.specs.CheckLaws.{call-passed}
+use Rattle.requests.specs.CallLaws.{early-iff}
+use Rattle.answers.specs.Right.{slot}
+use Rattle.answers.specs.ChainChecks.{chain-told, not-a-cycle-iff}
+use Rattle.answers.specs.Behind.{Behind, same-behind}
+use Rattle.answers.specs.CallRight.{Answered, done-number, call-outcome, call-earlier, counts-behind, answered, passed-done, list-reads}
+use Rattle.answers.specs.ListLaws.{coordinates-width}
+use Rattle.demands.specs.Calls.{Calls, NotACycle, FirstFaultyChain, ListSingle, ListsSingle}
+
+pub calls : Calls
+calls = call-outcome
+
+pub notACycle : NotACycle
+notACycle = not-a-cycle-iff
+
+-- the first faulty chain is the same by other numbers that are equal
+fault-same : {f g : ℕ → ℕ} (number k : ℕ) → ((i : ℕ) → i < number → f i ≡ g i) → FirstFault f number k → FirstFault g number k
+fault-same number k same x = record {
+  place = x .place;
+  within = x .within;
+  told = sym (same (x .place) (x .within)) ∙ x .told;
+  earlier = λ i l. sym (same i (omega (arith, x .within))) ∙ x .earlier i l;
+}
+
+pub firstFaultyChain : FirstFaultyChain
+unfolding earlyChecks
+firstFaultyChain limit q number chains output work bytes passed size k nonzero narrow = (
+  λ e. fault-same number k (λ i l. sym (same i l)) (iff .0 (sym before ∙ answers .0 e)),
+  λ f. answers .1 (before ∙ iff .1 (fault-same number k same f)),
+)
+  where
+    p : ℕ
+    p = q .dimension
+
+    answers : (numberTold (call limit q (lists number chains) output work .answer) ≡ k) ↔ (first (earlyChecks limit q (lists number chains) (length output) (length work)) ≡ k)
+    answers = call-earlier limit q (lists number chains) output work k nonzero narrow
+
+    before : first (earlyChecks limit q (lists number chains) (length output) (length work)) ≡ first (cyclesChecks coefficientLimit (cells q) (q .dimension) number chains)
+    before =
+        call-passed limit q (number * cellCount q) (workSlots (cells q) (q .dimension)) (length output) (length work)
+        (chainsChecks coefficientLimit (cells q) (q .dimension) number chains) passed
+        ∙ chains-sized coefficientLimit (cells q) (q .dimension) chains number size
+
+    iff : (first (cyclesChecks coefficientLimit (cells q) (q .dimension) number chains) ≡ k) ↔ FirstFault (fault coefficientLimit (cells q) (q .dimension) chains) number k
+    iff = cycles-told coefficientLimit (cells q) (q .dimension) chains number k nonzero
+
+    same : (i : ℕ) → i < number
+        → first (chainChecks coefficientLimit (cells q) (q .dimension) (chainAt (cellCount q) chains i)) ≡ fault coefficientLimit (cells q) (q .dimension) chains i
+    same i l = chain-told coefficientLimit (cells q) (q .dimension) chains i (length-chainAt (cellCount q) number chains size i l)
+
+module _ (limit : ℕ) (q : Question) (number : ℕ) (chains output work : List ℤ) (bytes : Bytes (q .sheet)) (counts : Counts)
+    (e : call limit q (lists number chains) output work .answer ≡ done counts) (i : ℕ) (next : i < number)
+    (output′ work′ : List ℤ) (room : cellCount q ≤ length output′) (space : workSlots (cells q) (q .dimension) ≤ length work′) where
+  abbrev A : Answered limit q (lists number chains) (length output) (length work)
+  A = answered limit q (lists number chains) output work bytes (done-number e)
+
+  abbrev L : Behind q
+  L = A .reductions-behind
+
+  abbrev z : List ℤ
+  z = chainAt (cellCount q) chains i
+
+  -- what the single call passes
+  single-passed : first (earlyChecks limit q (coordinates z) (length output′) (length work′)) ≡ 0
+  single-passed =
+      let chains-passed = chains-zero coefficientLimit (cells q) (q .dimension) chains number .0 (A .request-passed) in
+      early-iff limit q (coordinates z) (length output′) (length work′) .1 (
+        record {
+          accepted = A .passed .accepted;
+          dimension = A .passed .dimension;
+          output-slots = omega (arith, room);
+          work-slots = space;
+        },
+        chain-told coefficientLimit (cells q) (q .dimension) chains i (length-chainAt (cellCount q) number chains (chains-passed .0) i next) ∙ chains-passed .1 i next,
+      )
+
+  abbrev single : Called Counts ℤ
+  single = call limit q (coordinates z) output′ work′
+
+  answer : single .answer ≡ done counts
+  answer = passed-done limit q (coordinates z) output′ work′ single-passed L ∙ ap done (sym (counts-behind limit q (lists number chains) output work bytes e))
+
+  abbrev S : Behind q
+  S = answered limit q (coordinates z) output′ work′ bytes (done-number answer) .reductions-behind
+
+  width-lists : counts .torsion + counts .free ≡ coordinates-width L
+  width-lists = ap (λ (c : Counts). c .torsion + c .free) (counts-behind limit q (lists number chains) output work bytes e)
+
+  width-single : counts .torsion + counts .free ≡ coordinates-width S
+  width-single = ap (λ (c : Counts). c .torsion + c .free) (counts-behind limit q (coordinates z) output′ work′ bytes answer)
+
+  same : (j : ℕ) → j < counts .torsion + counts .free
+      → slot (call limit q (lists number chains) output work .output) (i * cellCount q + j) ≡ slot (single .output) j
+  same j l =
+      list-reads limit q (lists number chains) output work bytes (done-number e) i next j (omega (arith, width-lists))
+      ∙ same-behind (λ s r x. slot (coordinateList (cellCount q) s x z) j ≡ slot (single .output) j) S L
+      (sym (list-reads limit q (coordinates z) output′ work′ bytes (done-number answer) 0 (omega arith) j (omega (arith, width-single)))
+      ∙ ap (slot (single .output)) place)
+    where
+      place : 0 * cellCount q + j ≡ j
+      place = omega arith
+
+pub listsSingle : ListsSingle
+listsSingle limit q number chains output work bytes counts e i l output′ work′ room space = record {
+  answer = answer limit q number chains output work bytes counts e i l output′ work′ room space;
+  same = same limit q number chains output work bytes counts e i l output′ work′ room space;
+}

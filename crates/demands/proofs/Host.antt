@@ -1,0 +1,6 @@
+-- The claim on the host calls.
+use Rattle.answers.specs.HostRight.{carries}
+use Rattle.demands.specs.Host.{HostCalls}
+
+pub hostCalls : HostCalls
+hostCalls = carries

@@ -1,0 +1,11 @@
+-- The proofs of the claims, and uses of them.
+mod Sheets
+mod Calls
+mod Behind
+mod Answers
+mod Headroom
+mod Host
+mod Meshes
+mod Program
+mod Words
+mod Consequences

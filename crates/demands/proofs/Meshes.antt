@@ -1,0 +1,39 @@
+-- The claims on the import.
+use native.Mathlib.Omega.{arith}
+use Rattle.limits.specs.Limits.{hostLimit}
+use Rattle.closures.proofs.ClosureLaws.{closure-unique}
+use Rattle.mesh_format.proofs.Accept.{mesh-unique}
+use Rattle.imports.specs.Import.{complexOf}
+use Rattle.imports.proofs.ImportLaws.{import-malformed, import-faulty, mesh-cells, import-too-long, import-done, import-left}
+use Rattle.imports.proofs.SheetLaws.{import-sheet, import-number}
+use Rattle.demands.specs.Meshes.{ImportMalformed, MeshesUnique, ImportFaulty, MeshCells, MeshCellsUnique, ImportTooLong, ImportDone, ImportLeft, ImportSheet, HostImportSheet}
+
+pub importMalformed : ImportMalformed
+importMalformed = import-malformed
+
+pub meshesUnique : MeshesUnique
+meshesUnique = mesh-unique
+
+pub importFaulty : ImportFaulty
+importFaulty = import-faulty
+
+pub meshCells : MeshCells
+meshCells m r = record { cells = complexOf (m .elements); are = mesh-cells m r }
+
+pub meshCellsUnique : MeshCellsUnique
+meshCellsUnique m K L = closure-unique
+
+pub importTooLong : ImportTooLong
+importTooLong = import-too-long
+
+pub importDone : ImportDone
+importDone = import-done
+
+pub importLeft : ImportLeft
+importLeft = import-left
+
+pub importSheet : ImportSheet
+importSheet limit small text sheet = import-sheet limit small text sheet
+
+pub hostImportSheet : HostImportSheet
+hostImportSheet text sheet = import-number hostLimit (omega arith) text sheet

@@ -1,0 +1,13 @@
+-- The claims on the program.
+use Rattle.program_text.specs.TextLaws.{programText-take}
+use Rattle.answers.specs.ProgramText.{dimensions-printed, refused-iff}
+use Rattle.demands.specs.Program.{ProgramRefuses, ProgramPrints, ProgramInput}
+
+pub programRefuses : ProgramRefuses
+programRefuses = refused-iff
+
+pub programPrints : ProgramPrints
+programPrints = dimensions-printed
+
+pub programInput : ProgramInput
+programInput = programText-take
