@@ -1,30 +1,27 @@
 -- What the call on many chains answers: lists-refuse, for the checks 1 to 9; length-refuses, for 10; cycles-refuse, for 11 and 12; lists-wide,
 -- lists-done.
-use mathlib.Core.Path.{_≡_, refl, _∙_, ap}
+use mathlib.Core.Path.{_≡_, _∙_, ap}
 use mathlib.Core.Logic.{_≢_}
-use mathlib.Core.Bool.{Bool}
-use mathlib.Core.List.{List, _++_}
+use mathlib.Core.List.{List}
 use Prim.Native.Nat.{ℕ, _*_}
 use native.Mathlib.Omega.{arith}
-use borrow.Author.Tests.{ne-eqb}
 use lib.IntN.{ℤ, pos}
 use lib.ListN.{length, replicate}
+use Rattle.limits.specs.Limits.{coefficientLimit}
 use Rattle.lists.specs.Splice.{splices}
 use Rattle.trials.specs.Trial.{first, Called}
+use Rattle.complexes.specs.Complex.{Sections}
 use Rattle.sheet_format.specs.Check.{sectionsOf}
 use Rattle.reduction_steps.specs.State.{State}
 use Rattle.reduction_steps.specs.PivotLaws.{pivotRule-is-rule}
 use Rattle.reports.specs.Report as reports
 use Rattle.reports.specs.Report.{coordinateList}
-use Rattle.requests.specs.Question.{cells, rule, two}
-use Rattle.requests.specs.Chains.{chainAt, cyclesChecks, chainsChecks}
-use Rattle.requests.specs.Call.{lists, listSlots, numbersOf, callChecks, earlyChecks, call}
-use Rattle.requests.specs.ChainsLaws.{chain-inside, length-chainAt, cycles-zero, chains-sized, fault-small}
 use Rattle.reports.specs.Reductions.{tooWide}
-use Rattle.limits.specs.Limits.{coefficientLimit}
-use Rattle.requests.specs.CheckLaws.{callChecks-zero, call-told, call-passed}
+use Rattle.requests.specs.Question.{cells, rule, two}
+use Rattle.requests.specs.Chains.{chainAt, cyclesChecks}
+use Rattle.requests.specs.ChainsLaws.{chain-inside, length-chainAt}
+use Rattle.requests.specs.Call.{lists, listSlots, numbersOf, call}
 use Rattle.refusal.specs.Number.{numberOf}
-use Rattle.refusal.specs.NumberLaws.{number-positive}
 use Rattle.refusal.specs.declared.Refusal.{Refusal}
 use Rattle.refusal.specs.declared.Refusal.the-variants as refusal
 use Rattle.writers.specs.Written.{stateIn, Counted, CanList, coordinatesOf}
@@ -36,29 +33,24 @@ use Rattle.calls.specs.Answer.{CallAnswers}
 use Rattle.calls.specs.declared.admission.Sizes.{Sizes}
 use Rattle.calls.specs.declared.admission.Request.the-variants.{Coordinates}
 use Rattle.calls.specs.declared.answer.Answer.the-variants.{Done, Refused}
-use Rattle.calls.proofs.Admitting.{Lent, lengths, cellsOf, slotsAsked, spaceAsked, Granted, twice, Reduces}
+use Rattle.calls.proofs.Admitting.{Lent, lengths, cellsOf, Granted, twice, Reduces}
 use Rattle.calls.proofs.Answering.{refuses, goes-wide, is-done}
+use Rattle.calls.proofs.ListChecks.{listsEarly, admission-told, length-told, cycles-next, small-coefficients}
 use Rattle.calls.proofs.Writing.{follower-width, can-coordinate}
 
 module _ (l : Lent) (number : ℕ) (chains : List ℤ) where
+  abbrev K : Sections
+  K = sectionsOf (l .question .sheet)
+
+  abbrev p : ℕ
+  p = l .question .dimension
+
   -- n_p
   abbrev many : ℕ
   many = cellsOf (l .question)
 
-  -- the checks 1 to 9, then 10 to 12
-  abbrev callChecked : List (ℕ × Bool)
-  callChecked =
-      callChecks (l .limit) (l .question) (slotsAsked (lengths l) (Coordinates number)) (spaceAsked (lengths l) (Coordinates number)) (length (l .output)) (length (l .work))
-
-  abbrev chainChecked : List (ℕ × Bool)
-  chainChecked = chainsChecks coefficientLimit (sectionsOf (l .question .sheet)) (l .question .dimension) number chains
-
   abbrev early : ℕ
-  early = first (earlyChecks (l .limit) (l .question) (lists number chains) (length (l .output)) (length (l .work)))
-
-  early-is : early ≡ first (callChecked ++ chainChecked)
-  unfolding earlyChecks cells
-  early-is = refl
+  early = listsEarly (lengths l) number chains
 
   -- what the coordinates leave
   abbrev left : ℕ → ℕ → State → List ℤ
@@ -67,42 +59,30 @@ module _ (l : Lent) (number : ℕ) (chains : List ℤ) where
   abbrev pub listsCalled : Called reports.Counts ℤ
   listsCalled = call (l .limit) (l .question) (lists number chains) (l .output) (l .work)
 
-  pub lists-refuse : {x : Refusal} → admission (l .limit) (l .question) (Coordinates number) (length (l .output)) (length (l .work)) ≡ numberOf x
-      → CallAnswers listsCalled (Refused x) (l .output) (l .work)
+  told : (x : Refusal) → early ≡ numberOf x → CallAnswers listsCalled (Refused x) (l .output) (l .work)
   unfolding call
-  lists-refuse {x} e =
-      refuses early (two (l .question)) left (l .output) (l .work)
-      (early-is
-      ∙ call-told (l .limit) (l .question) (slotsAsked (lengths l) (Coordinates number)) (spaceAsked (lengths l) (Coordinates number)) (length (l .output)) (length (l .work)) chainChecked
-      (λ q. absurd (omega (arith, number-positive x)))
-      ∙ e)
+  told x e = refuses early (two (l .question)) left (l .output) (l .work) e
 
-  module _ {sizes : Sizes} (g : Granted (lengths l) (Coordinates number) sizes) where
-    chains-next : early ≡ first chainChecked
-    chains-next =
-        early-is
-        ∙ call-passed (l .limit) (l .question) (slotsAsked (lengths l) (Coordinates number)) (spaceAsked (lengths l) (Coordinates number)) (length (l .output)) (length (l .work)) chainChecked
-        (callChecks-zero (l .limit) (l .question) (slotsAsked (lengths l) (Coordinates number)) (spaceAsked (lengths l) (Coordinates number)) (length (l .output)) (length (l .work)) .1
-        (g .passed))
+  pub lists-refuse : (x : Refusal) → admission (l .limit) (l .question) (Coordinates number) (length (l .output)) (length (l .work)) ≡ numberOf x
+      → CallAnswers listsCalled (Refused x) (l .output) (l .work)
+  lists-refuse x e = told x (admission-told (lengths l) number chains x e)
 
+  module _ {n : Sizes} (g : Granted (lengths l) (Coordinates number) n) where
     pub length-refuses : length chains ≢ number * many → CallAnswers listsCalled (Refused refusal.ChainLengthDiffers) (l .output) (l .work)
-    unfolding call chainsChecks
-    length-refuses d = refuses early (two (l .question)) left (l .output) (l .work) (chains-next ∙ rw (ne-eqb (length chains) (number * many) d))
+    length-refuses d = told refusal.ChainLengthDiffers (length-told (lengths l) number chains g d)
 
     module _ (size : length chains ≡ number * many) where
-      cycles-next : early ≡ first (cyclesChecks coefficientLimit (sectionsOf (l .question .sheet)) (l .question .dimension) number chains)
-      cycles-next = chains-next ∙ chains-sized coefficientLimit (sectionsOf (l .question .sheet)) (l .question .dimension) chains number size
+      pub cycles-refuse : (x : Refusal) → first (cyclesChecks coefficientLimit K p number chains) ≡ numberOf x → CallAnswers listsCalled (Refused x) (l .output) (l .work)
+      cycles-refuse x e = told x (cycles-next (lengths l) number chains g size ∙ e)
 
-      pub cycles-refuse : {x : Refusal} → first (cyclesChecks coefficientLimit (sectionsOf (l .question .sheet)) (l .question .dimension) number chains) ≡ numberOf x
-          → CallAnswers listsCalled (Refused x) (l .output) (l .work)
-      unfolding call two rule cells
-      cycles-refuse e = refuses early (two (l .question)) left (l .output) (l .work) (cycles-next ∙ e)
+      module _ (passed : first (cyclesChecks coefficientLimit K p number chains) ≡ 0) where
+        passes : early ≡ 0
+        passes = cycles-next (lengths l) number chains g size ∙ passed
 
-      module _ (passed : first (cyclesChecks coefficientLimit (sectionsOf (l .question .sheet)) (l .question .dimension) number chains) ≡ 0) where
         pub lists-wide : {x : Refusal} {work′ : List ℤ} → (twice (lengths l) ≡ tooWide) × Cleared (length (l .work)) x work′
             → CallAnswers listsCalled (Refused refusal.TooWide) (l .output) work′
         unfolding call two rule cells
-        lists-wide h = goes-wide early (two (l .question)) left (l .output) (l .work) (cycles-next ∙ passed) (h .0) (h .1 .zeros)
+        lists-wide h = goes-wide early (two (l .question)) left (l .output) (l .work) passes (h .0) (h .1 .zeros)
 
         module _ {x : Reduced} {w : List ℤ} (h : Reduces (lengths l) x w) where
           -- the lists can be written
@@ -113,8 +93,7 @@ module _ (l : Lent) (number : ℕ) (chains : List ℤ) where
             each = λ i m.
                 can-coordinate pivotRule-is-rule (g .chains) (g .passed .work-slots) h
                 (omega (arith, chain-inside many number chains size i m, size, g .passed .output-slots))
-                (length-chainAt many number chains size i m)
-                (fault-small coefficientLimit (sectionsOf (l .question .sheet)) (l .question .dimension) chains i (cycles-zero coefficientLimit (sectionsOf (l .question .sheet)) (l .question .dimension) chains number .0 passed i m));
+                (length-chainAt many number chains size i m) (small-coefficients (lengths l) number chains passed i m);
           }
 
           pub lists-done : {counts : Counts} {coordinates′ work′ : List ℤ} → Counted x w counts
@@ -122,7 +101,7 @@ module _ (l : Lent) (number : ℕ) (chains : List ℤ) where
               → CallAnswers listsCalled (Done counts) coordinates′ work′
           unfolding call two rule cells
           lists-done k o e =
-              is-done early (two (l .question)) left (l .output) (l .work) (cycles-next ∙ passed) (h .is) k
+              is-done early (two (l .question)) left (l .output) (l .work) passes (h .is) k
               (o
               ∙ ap (λ (width : ℕ). splices many (λ i. coordinateList width (x .layout .matrix .lines) (stateIn x w) (chainAt many chains i)) number (l .output))
               (follower-width pivotRule-is-rule (g .chains) (g .passed .work-slots) h))

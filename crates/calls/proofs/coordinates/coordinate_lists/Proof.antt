@@ -54,7 +54,7 @@ returns c =
     let called = c .before .before .before in
     let start = called .before .before .before in
     let l = lent start in
-    lists-refuse l (start .args .number) (now (start .args .chains))
+    lists-refuse l (start .args .number) (now (start .args .chains)) (c .before .refusal .given .0 .0)
     (admit-refused (lengths l) (Coordinates (start .args .number)) (called .admit .result) (admits called) (c .before .refusal .given .1))
 
 enum-known-sizes : tie.Need-enum-known-sizes
@@ -143,7 +143,7 @@ returns-3 c =
     let checked = c .before .before .before in
     let m = checked .before in
     let k = known m in
-    on-lists m (cycles-refuse (lent (entered k)) (lists m) (chains-of k) (regranted m) (size m) (checked .check-chains .ensures ∙ ap checkNumber (c .before .refusal2 .given .1)))
+    on-lists m (cycles-refuse (lent (entered k)) (lists m) (chains-of k) (regranted m) (size m) (c .before .refusal2 .given .0 .0) (checked .check-chains .ensures ∙ ap checkNumber (c .before .refusal2 .given .1)))
 
 enum-told : tie.Need-enum-told
 enum-told c = c .match2 .keys2
