@@ -80,13 +80,13 @@ module _ (limit : ℕ) (host : limit ≡ hostLimit) (b : List ℕ) (accepted : r
     cells-are is = is ∙ sym (count-sectionsOf b p)
 
     -- what the reductions leave
-    k : Behind q
+    abbrev k : Behind q
     k = sizes .is-sized .reductions-behind
 
     abbrev list : List ℤ
     list = reportList (cellCount q) (k .rows) (k .rank) (k .state)
 
-    rest : List ℤ
+    abbrev rest : List ℤ
     rest = drop (length list) report
 
     left : after ≡ list ++ rest
