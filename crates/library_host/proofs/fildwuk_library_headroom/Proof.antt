@@ -1,9 +1,9 @@
--- `library_headroom` meets its contract: it answers the number of what the report call answers, and writes the headroom of its counts. Assumes nothing.
+-- `fildwuk_library_headroom` meets its contract: it answers the number of what the report call answers, and writes the headroom of its counts. Assumes nothing.
 use borrow.Author.Needs.{needs}
 use denote.Ref.{now}
 use Rattle.library_host.proofs.Told.{told-done, told-refused}
-use Rattle.library_host.proofs.library_headroom.Statement.{statement}
-use Rattle.library_host.proofs.library_headroom.Tie as tie
+use Rattle.library_host.proofs.fildwuk_library_headroom.Statement.{statement}
+use Rattle.library_host.proofs.fildwuk_library_headroom.Tie as tie
 
 returns : tie.Need-returns
 returns c =
@@ -15,8 +15,8 @@ returns-2 c =
     let told = c .before in let called = told .before .before .before .before .before in let args = called .before .before .before .before .args in
     told-refused (now (args .peak)) (now (args .bits)) (called .report .ensures) (told .before .refusal .given .1) (c .number .ensures)
 
-pub library-headroom-spec : {M : Type 1} → statement M
-library-headroom-spec =
+pub fildwuk-library-headroom-spec : {M : Type 1} → statement M
+fildwuk-library-headroom-spec =
     tie.close
     (tie.spec (λ c κs. search needs) (λ c. search needs) (λ c. search needs) (λ c κs. search needs) (λ c. search needs) (λ c. search needs) returns
     (λ c. search needs) (λ c. search needs) returns-2)
