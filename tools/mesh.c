@@ -42,7 +42,7 @@ static int take_word(struct reading *reading, struct range *word, const char *wa
 }
 
 /* Takes the next line, which must be this word. */
-static int take_this(struct reading *reading, const char *wanted, const char *wanted) {
+static int take_this(struct reading *reading, const char *wanted) {
     struct range word;
     return take_word(reading, &word, wanted) && (lines_word_is(reading->lines.text, word, wanted) || faulty(reading, wanted));
 }
@@ -82,14 +82,14 @@ static int is_empty(struct range word) { return word.start == word.end; }
 static int read_format(struct reading *reading) {
     static const char WANTED[] = "2.2 0 and a number";
     uint32_t size;
-    if (!take_this(reading, "$MeshFormat", "$MeshFormat") || !take_words(reading, WANTED))
+    if (!take_this(reading, "$MeshFormat") || !take_words(reading, WANTED))
         return 0;
     const struct text *text = reading->lines.text;
     struct range version = first_word(reading), kind = next_word(reading, version), last = next_word(reading, kind);
     if (!lines_word_is(text, version, "2.2") || !lines_word_is(text, kind, "0") || !lines_number(text, last, &size) ||
         !is_empty(next_word(reading, last)))
         return faulty(reading, WANTED);
-    return take_this(reading, "$EndMeshFormat", "$EndMeshFormat");
+    return take_this(reading, "$EndMeshFormat");
 }
 
 /* Whether the line taken last ends the section that this word opens. */
@@ -160,7 +160,7 @@ static int read_nodes(struct reading *reading) {
         if (!read_node(reading))
             return 0;
     reading->mesh->nodes_end = reading->lines.bytes.end;
-    return take_this(reading, "$EndNodes", "$EndNodes");
+    return take_this(reading, "$EndNodes");
 }
 
 /* Reads the node numbers of an element, which follow its tags. */
@@ -211,14 +211,14 @@ static int read_element(struct reading *reading) {
 static int read_elements(struct reading *reading) {
     uint32_t count;
     reading->mesh->elements_start = reading->lines.bytes.end;
-    if (!take_this(reading, "$Elements", "$Elements") ||
+    if (!take_this(reading, "$Elements") ||
         !take_count(reading, &reading->mesh->element_count, &count, "the number of elements"))
         return 0;
     for (uint32_t i = 0; i < count; i++)
         if (!read_element(reading))
             return 0;
     reading->mesh->elements_end = reading->lines.bytes.end;
-    return take_this(reading, "$EndElements", "$EndElements");
+    return take_this(reading, "$EndElements");
 }
 
 /* Holds that no line is left. */

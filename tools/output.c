@@ -25,7 +25,7 @@ static int failed(const char *name, const char *why, FILE *err) {
 /* Whether the output is the regular file that the input is. */
 static int is_input(const char *name, const char *input) {
     struct stat written, read;
-    if ((is_standard(name) ? fstat(STDOUT_FILENO, &written) : stat(name, &written)) != 0)
+    if (is_standard(name) || stat(name, &written) != 0)
         return 0;
     if ((input_is_standard(input) ? fstat(STDIN_FILENO, &read) : stat(input, &read)) != 0)
         return 0;

@@ -24,7 +24,7 @@ struct output {
 };
 
 /* Begins the output of this name; null and `-` stand for standard output. `input` is the name of the command's input, null and `-` for standard
- * input: a regular file that is both is refused. Answers 1, or 0 where it fails and says why. */
+ * input: a named regular file that is both is refused. Answers 1, or 0 where it fails and says why. */
 int output_begin(struct output *output, const char *name, const char *input, FILE *err);
 
 /* Writes it. Answers 1, or 0 where a byte cannot be written; then it says why, and a file is as it was before. */

@@ -21,11 +21,10 @@ void sheet_cell(const uint8_t *sheet, uint32_t dimension, size_t i, uint16_t ver
         vertices[k] = field(at + 2 * k);
 }
 
-/* Below 0, 0 or above 0 as the first cell comes before the second, is it, or comes after it. */
-static int compare(uint32_t dimension, const uint16_t *a, const uint16_t *b) {
+int sheet_compare(uint32_t dimension, const uint16_t *first, const uint16_t *second) {
     for (uint32_t k = 0; k <= dimension; k++)
-        if (a[k] != b[k])
-            return a[k] < b[k] ? -1 : 1;
+        if (first[k] != second[k])
+            return first[k] < second[k] ? -1 : 1;
     return 0;
 }
 
@@ -35,7 +34,7 @@ size_t sheet_find(const uint8_t *sheet, uint32_t dimension, const uint16_t verti
         uint16_t found[SHEET_DIMENSIONS];
         size_t middle = low + (high - low) / 2;
         sheet_cell(sheet, dimension, middle, found);
-        int order = compare(dimension, found, vertices);
+        int order = sheet_compare(dimension, found, vertices);
         if (order == 0)
             return middle;
         if (order < 0)

@@ -20,6 +20,9 @@ void sheet_cell(const uint8_t *sheet, uint32_t dimension, size_t i, uint16_t ver
 /* The place of the cell with these vertices, which rise, among those of its dimension; SIZE_MAX where it is none. */
 size_t sheet_find(const uint8_t *sheet, uint32_t dimension, const uint16_t vertices[SHEET_DIMENSIONS]);
 
+/* Below 0, 0 or above 0 as the first cell comes before the second, is the same, or comes after it. */
+int sheet_compare(uint32_t dimension, const uint16_t *first, const uint16_t *second);
+
 /* Writes a cell as (1,6). */
 void sheet_write_cell(FILE *file, uint32_t dimension, const uint16_t vertices[SHEET_DIMENSIONS]);
 
