@@ -68,11 +68,14 @@ static void write_cell(const uint8_t *sheet, uint32_t dimension, size_t i, FILE 
     fputc(']', file);
 }
 
-/* Writes generator k: its order, 0 where it is free, and its chain as pairs of a coefficient and a cell. */
-static void write_generator(const uint8_t *sheet, const struct homology *homology, size_t k, FILE *file) {
+/* Writes generator k: its order, 0 where it is free, the tag of its group, and its chain as pairs of a coefficient and a cell. */
+static void write_generator(const uint8_t *sheet, const struct homology *homology, const struct groups *groups, size_t k, FILE *file) {
     const int64_t *coefficients = homology_generator(homology, k);
     const char *before = "";
-    fprintf(file, "{\"order\": %" PRId64 ", \"chain\": [", homology_order(homology, k));
+    fprintf(file, "{\"order\": %" PRId64, homology_order(homology, k));
+    if (groups != NULL)
+        fprintf(file, ", \"tag\": %zu", groups->first_tag + k);
+    fputs(", \"chain\": [", file);
     for (size_t i = 0; i < homology->cells; i++) {
         if (coefficients[i] == 0)
             continue;
@@ -85,24 +88,24 @@ static void write_generator(const uint8_t *sheet, const struct homology *homolog
 }
 
 /* Writes the free rank, the orders, the generators and the headroom. */
-static void write_report(const uint8_t *sheet, const struct homology *homology, FILE *file) {
+static void write_report(const uint8_t *sheet, const struct homology *homology, const struct groups *groups, FILE *file) {
     fprintf(file, ", \"free\": %zu, \"orders\": [", homology->rank);
     for (size_t k = 0; k < homology->order_total; k++)
         fprintf(file, "%s%" PRId64, k == 0 ? "" : ", ", homology_order(homology, k));
     fputs("], \"generators\": [", file);
     for (size_t k = 0; k < homology_generators(homology); k++) {
         fputs(k == 0 ? "" : ", ", file);
-        write_generator(sheet, homology, k, file);
+        write_generator(sheet, homology, groups, k, file);
     }
     fputc(']', file);
     if (homology->has_peak)
         fprintf(file, ", \"peak\": %" PRIu64 ", \"bits\": %u", homology->peak, (unsigned)homology->bits);
 }
 
-void json_dimension(const uint8_t *sheet, const struct homology *homology, int first, FILE *file) {
+void json_dimension(const uint8_t *sheet, const struct homology *homology, const struct groups *groups, int first, FILE *file) {
     fprintf(file, "%s\n{\"dimension\": %u, \"refusal\": %u", first ? "" : ",", (unsigned)homology->dimension, (unsigned)homology->answer);
     if (homology->answer == FILDWUK_DONE)
-        write_report(sheet, homology, file);
+        write_report(sheet, homology, groups, file);
     fputc('}', file);
 }
 

@@ -5,7 +5,9 @@
 #include <string.h>
 
 #include "escape.h"
+#include "exports.h"
 #include "fildwuk.h"
+#include "groups.h"
 #include "homology.h"
 #include "json.h"
 #include "plain.h"
@@ -34,82 +36,109 @@ const char REPORT_HELP[] =
     "Exit status: 0 done, 1 the input is refused, 2 a file cannot be read or written, or\n"
     "a word is wrong. After 1 and 2 standard error has the reason.\n";
 
+/* A report to be made. */
+struct job {
+    const struct options *options;
+    const struct source *source;
+    const struct console *console;
+};
+
 /* Says that the input as a whole is refused, in the form asked for. */
-static int refuse(const struct refusal *refusal, const struct console *console) {
-    if (refusal->options->form == FORM_PLAIN)
-        plain_refusal(refusal->number, console->out);
-    if (refusal->options->form == FORM_JSON)
-        json_refusal(refusal, console->out);
-    return refusal_tell(refusal, console->err);
+static int refuse(const struct job *job, uint32_t number) {
+    struct refusal refusal = {.number = number, .options = job->options, .source = job->source};
+    if (job->options->form == FORM_PLAIN)
+        plain_refusal(number, job->console->out);
+    if (job->options->form == FORM_JSON)
+        json_refusal(&refusal, job->console->out);
+    return refusal_tell(&refusal, job->console->err);
 }
 
-/* Writes a dimension in the form asked for. Answers the status. */
-static int write_dimension(const struct options *options, const struct source *source, const struct homology *homology, int first,
-                           const struct console *console) {
-    const uint8_t *sheet = source->sheet.bytes;
-    if (options->form == FORM_PLAIN)
-        plain_dimension(homology, console->out);
-    if (options->form == FORM_JSON)
-        json_dimension(sheet, homology, first, console->out);
-    if (options->form == FORM_WORDS && homology->answer == FILDWUK_DONE)
-        words_dimension(sheet, homology, console->out);
-    if (options->form == FORM_WORDS && homology->answer != FILDWUK_DONE)
-        fprintf(console->out, "Dimension %u: refused with %u.\n", (unsigned)homology->dimension, (unsigned)homology->answer);
+/* Writes a dimension in words. */
+static void write_words(const struct job *job, const struct homology *homology) {
     if (homology->answer == FILDWUK_DONE)
-        return STATUS_DONE;
-    struct refusal refusal = {homology->answer, options, source, 1, homology->dimension};
-    return refusal_tell(&refusal, console->err);
+        words_dimension(job->source->sheet.bytes, homology, job->console->out);
+    else
+        fprintf(job->console->out, "Dimension %u: refused with %u.\n", (unsigned)homology->dimension, (unsigned)homology->answer);
+}
+
+/* Writes a dimension in the form asked for, with the groups that were written of it, null where none were. */
+static void write_dimension(const struct job *job, const struct homology *homology, const struct groups *groups, int first) {
+    const struct console *console = job->console;
+    if (job->options->form == FORM_PLAIN)
+        plain_dimension(homology, console->out);
+    else if (job->options->form == FORM_JSON)
+        json_dimension(job->source->sheet.bytes, homology, groups, first, console->out);
+    else
+        write_words(job, homology);
+    if (groups != NULL && job->options->form != FORM_JSON)
+        groups_tell(job->options->form == FORM_WORDS ? console->out : console->err, homology, &job->options->region, groups);
+}
+
+/* Reports on a dimension: writes the files that are asked for, then the dimension. Answers the status. */
+static int report_dimension(const struct job *job, const struct homology *homology, int first) {
+    struct groups groups;
+    int status = STATUS_DONE, grouped = 0;
+    if (homology->answer == FILDWUK_DONE && homology->dimension == exports_dimension(job->options)) {
+        status = exports_write(job->options, job->source, homology, &groups, job->console);
+        grouped = status == STATUS_DONE && job->options->groups != NULL;
+    }
+    write_dimension(job, homology, grouped ? &groups : NULL, first);
+    if (homology->answer == FILDWUK_DONE)
+        return status;
+    struct refusal refusal = {homology->answer, job->options, job->source, 1, homology->dimension};
+    return refusal_tell(&refusal, job->console->err);
 }
 
 /* Writes what stands before the dimensions. */
-static void write_start(const struct options *options, const struct source *source, const struct console *console) {
-    if (options->form == FORM_JSON)
-        json_begin(source->sheet.bytes, options->limit, console->out);
-    if (options->form == FORM_WORDS) {
-        write_name(console->out, input_name(options->input));
-        fputs(": ", console->out);
-        words_counts(source->sheet.bytes, console->out);
+static void write_start(const struct job *job) {
+    FILE *out = job->console->out;
+    if (job->options->form == FORM_JSON)
+        json_begin(job->source->sheet.bytes, job->options->limit, out);
+    if (job->options->form == FORM_WORDS) {
+        write_name(out, input_name(job->options->input));
+        fputs(": ", out);
+        words_counts(job->source->sheet.bytes, out);
     }
 }
 
 /* Asks about a dimension. Answers 0 where there is no memory, and says so. */
-static int ask(const struct options *options, const struct source *source, uint32_t dimension, struct homology *homology, FILE *err) {
-    if (homology_of(source->sheet.bytes, source->sheet.length, dimension, options->limit, homology))
+static int ask(const struct job *job, uint32_t dimension, struct homology *homology) {
+    const struct text *sheet = &job->source->sheet;
+    if (homology_of(sheet->bytes, sheet->length, dimension, job->options->limit, homology))
         return 1;
-    fprintf(err, "fildwuk: %s\n", strerror(ENOMEM));
+    fprintf(job->console->err, "fildwuk: %s\n", strerror(ENOMEM));
     return 0;
 }
 
-/* Reports on the dimensions from `first` to `last`, the first of which is known. */
-static int report_on(const struct options *options, const struct source *source, struct homology *known, uint32_t last,
-                     const struct console *console) {
-    int status = write_dimension(options, source, known, 1, console);
+/* Reports on a dimension that is known, and on those after it up to the last. Answers the first status that is not done. */
+static int report_from(const struct job *job, const struct homology *known, uint32_t last) {
+    int status = report_dimension(job, known, 1);
     for (uint32_t p = known->dimension + 1; p <= last; p++) {
         struct homology homology;
-        if (!ask(options, source, p, &homology, console->err))
+        if (!ask(job, p, &homology))
             return STATUS_FAILED;
-        int next = write_dimension(options, source, &homology, 0, console);
+        int next = report_dimension(job, &homology, 0);
         status = status == STATUS_DONE ? next : status;
         homology_free(&homology);
     }
     return status;
 }
 
-/* Reports on a sheet. Its first call tells whether the sheet is refused as a whole: with 1 to 8. */
-static int report_sheet(const struct options *options, const struct source *source, const struct console *console) {
+/* Reports on a sheet. The first call tells whether the sheet is refused as a whole: with 1 to 8. */
+static int report_sheet(const struct job *job) {
     struct homology homology;
+    const struct options *options = job->options;
     uint32_t first = options->has_dimension ? options->dimension : 0, last = options->has_dimension ? first : SHEET_DIMENSIONS - 1;
-    if (!ask(options, source, first, &homology, console->err))
-        return STATUS_FAILED;
     int status;
+    if (!ask(job, first, &homology))
+        return STATUS_FAILED;
     if (homology.answer != FILDWUK_DONE && homology.answer <= FILDWUK_DIMENSION_EXCEEDS_TOP) {
-        struct refusal refusal = {.number = homology.answer, .options = options, .source = source};
-        status = refuse(&refusal, console);
+        status = refuse(job, homology.answer);
     } else {
-        write_start(options, source, console);
-        status = report_on(options, source, &homology, last, console);
+        write_start(job);
+        status = report_from(job, &homology, last);
         if (options->form == FORM_JSON)
-            json_end(console->out);
+            json_end(job->console->out);
     }
     homology_free(&homology);
     return status;
@@ -119,8 +148,8 @@ int report_text(const struct options *options, const struct text *text, const st
     struct source source;
     if (!source_find(options, text, &source, console->err))
         return STATUS_FAILED;
-    struct refusal refusal = {.number = source.answer, .options = options, .source = &source};
-    int status = source.answer == FILDWUK_DONE ? report_sheet(options, &source, console) : refuse(&refusal, console);
+    struct job job = {options, &source, console};
+    int status = source.answer == FILDWUK_DONE ? report_sheet(&job) : refuse(&job, source.answer);
     source_free(&source);
     return status;
 }
