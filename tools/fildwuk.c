@@ -7,6 +7,7 @@
 #include "escape.h"
 #include "import.h"
 #include "input.h"
+#include "judge.h"
 #include "output.h"
 #include "report.h"
 #include "version.h"
@@ -15,6 +16,8 @@
 static const struct command COMMANDS[] = {
     {"report", "the components, loops and cavities of a mesh or a sheet", REPORT_HELP,
      OPTION_DIMENSION | OPTION_FORM | OPTION_REGION | OPTION_LIMIT | OPTION_GROUPS | OPTION_VIEW, run_report},
+    {"judge", "the physical groups of a mesh, as loops held to the proved coordinates", JUDGE_HELP,
+     OPTION_DIMENSION | OPTION_FORM | OPTION_REGION | OPTION_TAGS, run_judge},
     {"import", "the sheet of a mesh, for the proved calls", IMPORT_HELP, OPTION_OUTPUT | OPTION_REGION | OPTION_LIMIT, run_import},
 };
 

@@ -3,14 +3,14 @@
 
 #include <inttypes.h>
 
+#include "words.h"
+
 /* The most tags of a region that a name has: Gmsh reads names of some 100 characters. */
 enum { MOST_TAGS = 8 };
 
-static const char *const WORDS[] = {"component", "loop", "cavity", "closed volume"};
-
 void generator_write_kind(FILE *file, const struct homology *homology, size_t k) {
     int64_t order = homology_order(homology, k);
-    const char *word = WORDS[homology->dimension < SHEET_DIMENSIONS ? homology->dimension : 0];
+    const char *word = words_name(homology->dimension, 1);
     if (order == 0)
         fprintf(file, "free %s", word);
     else

@@ -3,11 +3,11 @@
 
 #include <inttypes.h>
 
+#include "physical.h"
+
 /* Numbers of elements have nine digits, tags are those of a C int of Gmsh's. Elementary tags start high, since low ones meet the curves of a geometry
  * where files are merged. */
 enum { MOST_NUMBER = 999999999, FIRST_ENTITY = 1000000 };
-
-static const uint32_t KINDS[SHEET_DIMENSIONS] = {MESH_POINT, MESH_LINE, MESH_TRIANGLE, MESH_TETRAHEDRON};
 
 size_t groups_elements(const struct homology *homology, size_t k) {
     const int64_t *coefficients = homology_generator(homology, k);
@@ -118,7 +118,7 @@ static size_t write_copies(FILE *file, struct content content, size_t k, size_t 
     uint32_t dimension = content.homology->dimension;
     uint64_t copies = generator_element(content.sheet, content.homology, k, i, nodes);
     for (; copies > 0; copies--, number++) {
-        fprintf(file, "%zu %" PRIu32 " 2 %zu %zu", number, KINDS[dimension], content.groups->first_tag + k, content.groups->first_entity + k);
+        fprintf(file, "%zu %" PRIu32 " 2 %zu %zu", number, physical_kind(dimension), content.groups->first_tag + k, content.groups->first_entity + k);
         for (uint32_t j = 0; j <= dimension; j++)
             fprintf(file, " %u", nodes[j]);
         fputs(content.mesh->line_end, file);
@@ -168,13 +168,12 @@ void groups_write(FILE *file, const struct text *text, const struct mesh *mesh, 
 }
 
 void groups_tell(FILE *file, const struct homology *homology, const struct tags *region, const struct groups *groups) {
-    static const char *const NAMES[] = {"point", "line", "triangle", "tetrahedron"}, *const MANY[] = {"points", "lines", "triangles", "tetrahedra"};
     for (size_t k = 0; k < homology_generators(homology); k++) {
         size_t elements = groups_elements(homology, k);
         fprintf(file, "group %zu \"", groups->first_tag + k);
         generator_write_name(file, homology, region, k);
         fputs("\": ", file);
         generator_write_kind(file, homology, k);
-        fprintf(file, ", %zu %s\n", elements, (elements == 1 ? NAMES : MANY)[homology->dimension]);
+        fprintf(file, ", %zu %s\n", elements, physical_element_name(homology->dimension, elements));
     }
 }
