@@ -5,6 +5,7 @@
 #include <stdint.h>
 #include <stdio.h>
 
+#include "input.h"
 #include "options.h"
 
 /* Exit statuses: done; refused by a proved call, or judged wrong; unreadable, unwritable or misused. */
@@ -15,11 +16,12 @@ struct console {
     FILE *out, *err;
 };
 
-/* A command: its name, one line about it, the text of its --help, the options it takes (bits of enum option), and what it does. */
+/* A command: its name, one line about it, the text of its --help, what it reads (as "a mesh"), the options it takes (bits of enum option), and what it
+ * does with the text that it has read; that answers the exit status. */
 struct command {
-    const char *name, *line, *help;
+    const char *name, *line, *help, *what;
     uint32_t takes;
-    int (*run)(const struct options *options, const struct console *console);
+    int (*run)(const struct options *options, const struct text *text, const struct console *console);
 };
 
 #endif

@@ -42,12 +42,3 @@ int import_text(const struct options *options, const struct text *text, const st
     source_free(&source);
     return status;
 }
-
-int run_import(const struct options *options, const struct console *console) {
-    struct text text;
-    if (!input_read(options->input, "a mesh", &text, console->err))
-        return STATUS_FAILED;
-    int status = import_text(options, &text, console);
-    input_free(&text);
-    return status;
-}

@@ -3,11 +3,8 @@
 #define IMPORT_H
 
 #include "command.h"
-#include "input.h"
 
 extern const char IMPORT_HELP[];
-
-int run_import(const struct options *options, const struct console *console);
 
 /* The command on a text. */
 int import_text(const struct options *options, const struct text *text, const struct console *console);

@@ -153,12 +153,3 @@ int report_text(const struct options *options, const struct text *text, const st
     source_free(&source);
     return status;
 }
-
-int run_report(const struct options *options, const struct console *console) {
-    struct text text;
-    if (!input_read(options->input, "a mesh or a sheet", &text, console->err))
-        return STATUS_FAILED;
-    int status = report_text(options, &text, console);
-    input_free(&text);
-    return status;
-}

@@ -3,11 +3,8 @@
 #define REPORT_H
 
 #include "command.h"
-#include "input.h"
 
 extern const char REPORT_HELP[];
-
-int run_report(const struct options *options, const struct console *console);
 
 /* The command on a text. */
 int report_text(const struct options *options, const struct text *text, const struct console *console);
