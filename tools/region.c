@@ -5,9 +5,10 @@
 #include <stdlib.h>
 #include <string.h>
 
+#include "chosen.h"
 #include "escape.h"
 
-enum { COUNT_DIGITS = 10, NAME_SHOWN = 40, TAGS_SHOWN = 20 };
+enum { NAME_SHOWN = 40, TAGS_SHOWN = 20 };
 
 int region_has(const struct tags *region, const struct mesh_element *element) {
     return region->total == 0 || (element->has_physical && tags_have(region, element->physical));
@@ -18,33 +19,22 @@ static int no_memory(FILE *err) {
     return 0;
 }
 
-/* Adds a part of the text. */
-static void add(struct text *chosen, const struct text *text, struct range part) {
-    if (part.start == part.end)
-        return;
-    memcpy(chosen->bytes + chosen->length, text->bytes + part.start, part.end - part.start);
-    chosen->length += part.end - part.start;
+/* Makes the text with the elements of the region alone. Answers 0 where there is no memory. */
+static int choose(const struct text *text, const struct mesh *mesh, const struct tags *region, struct text *chosen) {
+    uint8_t *keep = malloc(mesh->element_total + 1);
+    for (size_t i = 0; keep != NULL && i < mesh->element_total; i++)
+        keep[i] = (uint8_t)region_has(region, &mesh->elements[i]);
+    int done = keep != NULL && chosen_text(text, mesh, keep, chosen);
+    free(keep);
+    return done;
 }
 
-/* The number of elements of a region. */
-static size_t count_chosen(const struct mesh *mesh, const struct tags *region) {
-    size_t count = 0;
-    for (size_t i = 0; i < mesh->element_total; i++)
-        count += (size_t)region_has(region, &mesh->elements[i]);
-    return count;
-}
-
-/* Fills the chosen text, which has room for the whole text and a count. */
-static void choose(const struct text *text, const struct mesh *mesh, const struct tags *region, struct text *chosen) {
-    struct range count = mesh->element_count;
-    size_t first = mesh->element_total > 0 ? mesh->elements[0].bytes.start : mesh->elements_end;
-    add(chosen, text, (struct range){0, count.start});
-    chosen->length += (size_t)snprintf((char *)chosen->bytes + chosen->length, COUNT_DIGITS + 1, "%zu", count_chosen(mesh, region));
-    add(chosen, text, (struct range){count.end, first});
-    for (size_t i = 0; i < mesh->element_total; i++)
-        if (region_has(region, &mesh->elements[i]))
-            add(chosen, text, mesh->elements[i].bytes);
-    add(chosen, text, (struct range){mesh->elements_end, text->length});
+/* Copies a text. Answers 0 where there is no memory. */
+static int copy(const struct text *text, struct text *chosen) {
+    *chosen = (struct text){malloc(text->length + 1), text->length};
+    if (chosen->bytes != NULL && text->length > 0)
+        memcpy(chosen->bytes, text->bytes, text->length);
+    return chosen->bytes != NULL;
 }
 
 /* Whether an element has this tag. */
@@ -108,14 +98,11 @@ int region_choose(const struct text *text, const struct tags *region, struct tex
     struct mesh_fault fault;
     enum mesh_answer answer = mesh_read(text, &mesh, &fault);
     *chosen = (struct text){NULL, 0};
+    if (answer == MESH_MALFORMED)
+        return copy(text, chosen) || no_memory(err);
     if (answer == MESH_NO_MEMORY)
         return no_memory(err);
-    int met = answer == MESH_MALFORMED || all_met(text, &mesh, region, err);
-    chosen->bytes = met ? malloc(text->length + COUNT_DIGITS + 1) : NULL;
-    if (chosen->bytes != NULL && answer == MESH_MALFORMED)
-        add(chosen, text, (struct range){0, text->length});
-    else if (chosen->bytes != NULL)
-        choose(text, &mesh, region, chosen);
+    int met = all_met(text, &mesh, region, err), done = met && choose(text, &mesh, region, chosen);
     mesh_free(&mesh);
-    return chosen->bytes != NULL || (met && no_memory(err));
+    return done || (met && no_memory(err));
 }
