@@ -3,10 +3,7 @@
 
 #include <string.h>
 
-#include "escape.h"
 #include "lines.h"
-
-enum { VERSION_SHOWN = 20 };
 
 static const char SAVE[] = "`gmsh FILE -save -format msh22 -o NEW.msh` writes it as MSH 2.2 ASCII";
 
@@ -44,22 +41,30 @@ static void write_section(const struct text *text, FILE *file) {
         fprintf(file, "It has periodic sides: %s without them", SAVE);
 }
 
-/* Writes the version that the second line names, where it is another than 2.2, or that the file is binary. */
+/* The version of the format that a word names, where it is one of Gmsh's other than 2.2; null else. */
+static const char *other_version(const struct text *text, struct range word) {
+    static const char *const VERSIONS[] = {"2", "2.0", "2.1", "3", "3.0", "4", "4.0", "4.1"};
+    for (size_t i = 0; i < sizeof VERSIONS / sizeof *VERSIONS; i++)
+        if (lines_word_is(text, word, VERSIONS[i]))
+            return VERSIONS[i];
+    return NULL;
+}
+
+/* Writes what the second line tells: another version, or that the file is binary; else which section is not read. */
 static void write_version(const struct text *text, FILE *file) {
     struct lines lines = {.text = text};
     lines_take(&lines);
     if (!lines_word_is(text, lines.content, "$MeshFormat") || lines_take(&lines) != LINE_TAKEN)
         return;
     struct range version = lines_word(text, lines.content, lines.content.start), kind = lines_word(text, lines.content, version.end);
-    if (!lines_word_is(text, version, "2.2") && version.start < version.end) {
-        fputs("It is MSH ", file);
-        write_escaped(file, text->bytes + version.start, version.end - version.start, VERSION_SHOWN);
-        fprintf(file, ": %s", SAVE);
-    } else if (lines_word_is(text, kind, "1")) {
+    const char *other = other_version(text, version);
+    int is_ascii = lines_word_is(text, kind, "0"), is_binary = lines_word_is(text, kind, "1"), is_2_2 = lines_word_is(text, version, "2.2");
+    if (other != NULL && (is_ascii || is_binary))
+        fprintf(file, "It is MSH %s: %s", other, SAVE);
+    else if (is_2_2 && is_binary)
         fprintf(file, "It is a binary file: %s", SAVE);
-    } else if (lines_word_is(text, version, "2.2")) {
+    else if (is_2_2 && is_ascii)
         write_section(text, file);
-    }
 }
 
 void hint_format(const struct text *text, FILE *file) {
