@@ -24,9 +24,11 @@ COMMAND = ROOT / "target/host/fildwuk"
 MESHES = ROOT / "tests/meshes"
 
 
-def capped(floors):
-    """A doubling tower closed at both ends: one cavity with the coefficient 2 to the number of floors."""
-    return meshes.tower(floors) + [(3 * floors, 3 * floors + 1, 3 * floors + 2)]
+def capped(floors, mirrored=False):
+    """A doubling tower closed at both ends: one cavity with the coefficient 2 to the number of floors, of one sign or the other."""
+    facets = meshes.tower(floors) + [(3 * floors, 3 * floors + 1, 3 * floors + 2)]
+    exchanged = {3 * floors: 3 * floors + 1, 3 * floors + 1: 3 * floors}
+    return [tuple(sorted(exchanged.get(v, v) for v in facet)) for facet in facets] if mirrored else facets
 
 
 def text_of(facets, end="\n"):
@@ -50,6 +52,8 @@ def texts():
     found["moore 3"] = (text_of(meshes.moore_space(3)), None)
     found["wound"] = (text_of(meshes.wound([[2, 0, 4], [0, 6, 0]]), "\r\n"), None)
     found["tower of 9 floors"] = (text_of(capped(9)), None)
+    found["mirrored tower of 9 floors"] = (text_of(capped(9, True)), None)
+    found["a name of no element"] = (RING.replace("1\n3 1 ", '2\n1 40 "none"\n3 1 '), None)
     found["sphere 3"] = (text_of(meshes.sphere(3)), None)
     return found
 
@@ -90,6 +94,8 @@ def group_fault(made):
     sheet, report = parse(data, LIBRARY_COUNT_LIMIT), homology.report(data, made.p)
     before, after = Parts(made.text), Parts(made.groups)
     total = sum(abs(x) for generator in report.generators for x in generator)
+    if before.ends() != after.ends():
+        return "other line ends"
     if without_groups(made.groups, len(report.generators), total) != made.text:
         return "the mesh is not there byte for byte"
     old = {tag for _, tag, _ in before.name_lines()} | {line.tags[0] for line in before.element_lines() if line.tags}
@@ -175,7 +181,8 @@ def compare_files(command, folder):
 
 RING = (ROOT / "examples/copper_ring.msh").read_text(encoding="ascii")
 FAULTS = [
-    ("coefficient 2048", text_of(capped(11)), ["--dimension", "2"], 1, "coefficient", ("groups", "view")),
+    ("coefficient -1024", text_of(capped(10)), ["--dimension", "2"], 1, "coefficient", ("groups", "view")),
+    ("coefficient 1024", text_of(capped(10, True)), ["--dimension", "2"], 1, "coefficient", ("groups", "view")),
     ("names that are no list", RING.replace('3 1 "copper ring"', "3 1 copper"), [], 1, "$PhysicalNames", ("groups",)),
     ("physical tag that is no number", RING.replace("1 4 2 1 1 2 1 4 8", "1 4 2 a 1 2 1 4 8"), [], 1, "a tag of line 25 is no number", ("groups",)),
     ("elementary tag that is no number", RING.replace("1 4 2 1 1 2 1 4 8", "1 4 2 1 b 2 1 4 8"), [], 1, "a tag of line 25 is no number", ("groups",)),

@@ -37,10 +37,17 @@ class Parts:
         return words.index(f"${name}"), words.index(f"$End{name}")
 
     def inside(self, section):
-        """The lines after the count of a section."""
+        """The lines after the count of a section; raises ValueError where the count is another."""
         if section is None:
             return []
-        return [line.strip() for line in self.lines[section[0] + 2:section[1]]]
+        found = [line.strip() for line in self.lines[section[0] + 2:section[1]]]
+        if self.lines[section[0] + 1].strip() != str(len(found)):
+            raise ValueError(f"{len(found)} lines after the count {self.lines[section[0] + 1].strip()}")
+        return found
+
+    def ends(self):
+        """The ends of its lines."""
+        return {line[len(line.rstrip("\r\n")):] for line in self.lines}
 
     def element_lines(self):
         """The elements."""
