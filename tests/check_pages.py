@@ -1,13 +1,16 @@
 #!/usr/bin/env python3
-"""Holds the pages, headers and the manual of an installed tree to point only at files of the tree, and runs the examples of the pages as they are printed.
+"""Holds the pages, headers and the manual of an installed tree to point only at files of the tree, and runs the examples of the pages as they are
+printed, those with Gmsh where it is installed. The manual has every command and option that the command's help has.
 
 Usage: check_pages.py PREFIX
 """
 
 import os
 import re
+import shutil
 import subprocess
 import sys
+import tempfile
 from pathlib import Path
 
 # The name of a file with one of the endings that the sources have, and a path in one of their folders.
@@ -26,7 +29,7 @@ def code(page):
 
 
 def is_there(prefix, folder, place):
-    """Whether a file that a text names is in the tree: beside it, from the prefix, among the pages, or an example, a header or a library by its name."""
+    """Whether a file that a text names is in the tree: beside it, from the prefix, a page, an example, or a header or a library by its name."""
     pages_folder = prefix / "share/doc/fildwuk"
     around = [folder, prefix, pages_folder, pages_folder / "examples", prefix / "include", prefix / "lib"]
     return place in OTHERS or any((beside / place).is_file() for beside in around)
@@ -58,12 +61,48 @@ def hollow_triangle(prefix):
 
 
 def python_page(prefix):
-    """What PYTHON.md prints for its program, and what the program prints in the folder of the examples."""
+    """What PYTHON.md prints for its programs, and what they print in the folder of the examples, with the libraries and programs of the tree."""
     page = (prefix / "share/doc/fildwuk/PYTHON.md").read_text()
-    program, due = re.search(r"```python\n(.*?)```\n\nprints\n\n```\n(.*?)```", page, re.S).groups()
-    run = subprocess.run([sys.executable, "-c", program], cwd=prefix / "share/doc/fildwuk/examples", capture_output=True, text=True, check=False,
-                         env={**os.environ, "LD_LIBRARY_PATH": str(prefix / "lib")})
-    return due, run.stdout + run.stderr
+    shown = re.findall(r"```python\n(.*?)```\n\nprints\n\n```\n(.*?)```", page, re.S)
+    assert len(shown) == page.count("```python") == 2
+    world = {**os.environ, "LD_LIBRARY_PATH": str(prefix / "lib"), "PATH": f"{prefix / 'bin'}:{os.environ['PATH']}"}
+    runs = [subprocess.run([sys.executable, "-c", program], cwd=prefix / "share/doc/fildwuk/examples", capture_output=True, text=True, check=False,
+                           env=world) for program, _ in shown]
+    return "".join(due for _, due in shown), "".join(run.stdout + run.stderr for run in runs)
+
+
+def block(page, before):
+    """The indented lines that follow these words on a page."""
+    return re.search(re.escape(before) + r"\n\n((?:    .*\n)+)", page)[1].replace("    ", "", 1).replace("\n    ", "\n")
+
+
+def gmsh_page(prefix):
+    """What GMSH.md shows of Gmsh and of Fildwuk, and what both say when its lines are run in the folder of the examples."""
+    page = (prefix / "share/doc/fildwuk/GMSH.md").read_text()
+    due = block(page, "says, among other lines,") + block(page, "and Fildwuk")
+    with tempfile.TemporaryDirectory() as room:
+        shutil.copy(prefix / "share/doc/fildwuk/examples/projective_plane.msh", room)
+        world = {**os.environ, "PATH": f"{prefix / 'bin'}:{os.environ['PATH']}"}
+        run = subprocess.run(["bash", "-c", block(page, "In the folder of `examples/projective_plane.msh`")], cwd=room, capture_output=True, text=True,
+                             check=False, env=world)
+    lines = [line for line in run.stdout.splitlines(keepends=True) if re.match(r"(Info +: H_\d = |[HGR] )", line)]
+    return due, "".join(lines)
+
+
+def options_of(prefix, *words):
+    """The options that the command tells of itself, or of one of its commands."""
+    run = subprocess.run([prefix / "bin/fildwuk", *words, "--help"], capture_output=True, text=True, check=True)
+    return set(re.findall(r"(?<![\w-])--?[a-z]+", run.stdout))
+
+
+def manual(prefix):
+    """The commands and options that the command tells in its help, and those of them that the manual has."""
+    text = (prefix / "share/man/man1/fildwuk.1").read_text().replace("\\-", "-")
+    shown = subprocess.run([prefix / "bin/fildwuk", "--help"], capture_output=True, text=True, check=True).stdout
+    commands = re.findall(r"^  (\w+) ", shown, re.M)
+    assert len(commands) >= 3
+    told = sorted({*commands, *options_of(prefix), *(option for name in commands for option in options_of(prefix, name))})
+    return "".join(f"{word}\n" for word in told), "".join(f"{word}\n" for word in told if re.search(rf"(?<![\w-]){word}\b", text))
 
 
 def main():
@@ -73,12 +112,15 @@ def main():
         for place in missing(prefix, path):
             wrong += 1
             print(f"{path.relative_to(prefix)} names {place}, which is not installed")
-    for name, example in (("FORMAT.md", hollow_triangle), ("PYTHON.md", python_page)):
+    examples = {"FORMAT.md": hollow_triangle, "PYTHON.md": python_page, "fildwuk.1": manual}
+    if shutil.which("gmsh"):
+        examples["GMSH.md"] = gmsh_page
+    for name, example in examples.items():
         due, found = example(prefix)
         if due != found:
             wrong += 1
-            print(f"{name} prints\n{due}but the program prints\n{found}")
-    print(f"{len(pages(prefix))} texts, {wrong} faults")
+            print(f"{name}, due:\n{due}found:\n{found}")
+    print(f"{len(pages(prefix))} texts, examples of {', '.join(examples)}: {wrong} faults")
     return 1 if wrong else 0
 
 
