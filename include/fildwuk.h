@@ -1,7 +1,8 @@
 /* Fildwuk: verified homology of conductor meshes. The host calls of documents 01 and 02, and helpers to read and write what they take and give.
  * fildwuk_library.h has the same calls for larger sheets. docs/SOLVER.md says what the numbers mean for a solver, docs/FORMAT.md has the formats.
  *
- * Link with libfildwuk.a: `pkg-config --cflags --libs fildwuk`, or find_package(fildwuk) in CMake. It needs nothing but memcpy and memset.
+ * Link with libfildwuk.a: `pkg-config --cflags --libs fildwuk`, or the target fildwuk::fildwuk of find_package(fildwuk) in CMake; or with the shared
+ * library, libfildwuk.so. Both have the calls of both headers, and need nothing but memcpy and memset.
  *
  * Every pointer is lent for the time of the call and not kept. A call reads `text`, `sheet` and `chain` or `chains`, and writes nothing but its
  * output: the report, the coordinates, or the sheet of an import. The output must not overlap what the call reads, and nobody else may write to any
