@@ -21,6 +21,10 @@ from model.sheet import DIMENSIONS, LIBRARY_COUNT_LIMIT, PROGRAM_COUNT_LIMIT, Re
 PROGRAM = Path("target/bin/homology")
 LIMITS = {"library": LIBRARY_COUNT_LIMIT, "host": PROGRAM_COUNT_LIMIT}
 NAME = "a file"
+QUICK = 100
+
+# A sheet with an order beyond the entry limit: dimension 1 is refused with 13.
+TOO_WIDE = from_facets(meshes.tower(20))
 
 
 def sheet_of(data, limit):
@@ -116,14 +120,18 @@ class Case:
         return [] if at == len(lines) else ["lines after the last dimension"]
 
 
+def quick(data):
+    """Whether the model reduces a sheet quickly, or not at all."""
+    return refusal(data, LIBRARY_COUNT_LIMIT) or max(parse(data, LIBRARY_COUNT_LIMIT).count(p) for p in range(DIMENSIONS)) <= QUICK
+
+
 def sheets(rng, count):
-    """Sheets by name: known ones, some with orders beyond the entry limit, damaged ones, random ones."""
-    found = {name: data for name, data in known_sheets().items() if max(parse(data, LIBRARY_COUNT_LIMIT).count(p) for p in range(DIMENSIONS)) <= 130}
-    found.update({f"tower {floors}": from_facets(meshes.tower(floors)) for floors in (1, 19, 20)})
+    """Sheets by name: known ones, damaged ones, random ones."""
+    found = {**known_sheets(), "tower 1": from_facets(meshes.tower(1))}
     found.update(list(fault_sheets().items())[::3])
     found.update(random_sheets(rng, count))
     found.update({"no bytes": b"", "a byte": b"\0", "zeros": bytes(70000)})
-    return found
+    return {name: data for name, data in found.items() if quick(data)}
 
 
 def texts(rng, count):
@@ -140,6 +148,7 @@ def cases(rng, inputs):
         for limit in LIMITS:
             yield Case(name, data, limit)
         yield Case(name, data, rng.choice(list(LIMITS)), rng.randrange(DIMENSIONS))
+    yield Case("tower 20", TOO_WIDE, "library", 1)
 
 
 def count_beside_program(sheets_tried, driver, program):
@@ -165,7 +174,7 @@ def main():
     tried = sheets(rng, options.random)
     made = list(cases(rng, {**tried, **texts(rng, options.random)}))
     ran = in_process((request for case in made for request in case.requests()), options.driver)
-    wrong, told = 0, set()
+    wrong, told = 0, {13} if b"R 13" in ran[-3].output else set()
     for i, case in enumerate(made):
         told.add(case.told()[0])
         faults = case.wrong(*ran[3 * i:3 * i + 3])
@@ -173,7 +182,7 @@ def main():
         for fault in faults:
             print(f"{case.name}, limit {case.limit}, dimensions {list(case.dimensions)}: {fault}")
     wrong += count_beside_program(tried, options.driver, options.program)
-    lost = {0, 1, 2, 3, 4, 5, 6, 7, 14, 15, 16} - told
+    lost = {0, 1, 2, 3, 4, 5, 6, 7, 13, 14, 15, 16} - told
     print(f"{len(made)} cases, {len(tried)} sheets beside the program, {wrong} differ" + (f", never due: {lost}" if lost else ""))
     raise SystemExit(1 if wrong or lost else 0)
 

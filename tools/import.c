@@ -7,7 +7,8 @@
 #include "source.h"
 
 const char IMPORT_HELP[] =
-    "usage: fildwuk import [FILE.msh] [-o FILE.sheet] [--region TAG ..] [--limit host|library]\n"
+    "usage: fildwuk import [FILE.msh] [-o FILE.sheet] [--region TAG ..]\n"
+    "                      [--limit host|library]\n"
     "\n"
     "Reads a mesh in MSH 2.2 ASCII, as `gmsh -format msh22` writes it, and writes the\n"
     "sheet of its cells and all their faces. Without FILE.msh, or where it is -,\n"
@@ -15,10 +16,11 @@ const char IMPORT_HELP[] =
     "\n"
     "  -o FILE.sheet    the file to write; it gets its name when it is complete\n"
     "  --region TAG ..  only the elements with these physical tags\n"
-    "  --limit host     at most 48 cells in a dimension, as the host calls take, not 256\n"
+    "  --limit host     at most 48 cells in a dimension, not 256\n"
     "\n"
-    "Exit status: 0 the sheet is written, 1 the mesh is refused, 2 a file cannot be read\n"
-    "or written, or a word is wrong. After 1 and 2 standard error has the reason.\n";
+    "Exit status: 0 the sheet is written, 1 the mesh is refused, 2 a file cannot be\n"
+    "read or written, or a word is wrong. After 1 and 2 standard error has the\n"
+    "reason.\n";
 
 /* Writes the sheet of a source. */
 static int write_sheet(const struct options *options, const struct source *source, const struct console *console) {

@@ -21,24 +21,25 @@
 enum { DIMENSION = 1, TAGS_SHOWN = 20 };
 
 const char JUDGE_HELP[] =
-    "usage: fildwuk judge FILE.msh [TAG ..] [--dimension P] [--region TAG ..] [--json]\n"
+    "usage: fildwuk judge FILE.msh [TAG ..] [--dimension P] [--region TAG ..]\n"
+    "                     [--json]\n"
     "\n"
-    "Holds what a mesh file tells as loops to the proved coordinates. Each physical group\n"
-    "of lines, or each of the tags named, is taken as a chain: the sum of its lines, each\n"
-    "from its first node to its second. Told of each: whether it is a cycle of the region,\n"
-    "its coordinates, whether it bounds, is twisted of an order, is free, is a number\n"
-    "times another; and of all together: whether they are a basis of the free loops, else\n"
-    "their index, and how they depend on each other.\n"
+    "Holds what a mesh file tells as loops to the proved coordinates. Each physical\n"
+    "group of lines, or each of the tags named, is taken as a chain: the sum of its\n"
+    "lines, each from its first node to its second. Told of each: whether it is a\n"
+    "cycle of the region, its coordinates, whether it bounds, is twisted of an order,\n"
+    "is free, is a number times another; and of all together: whether they are a basis\n"
+    "of the free loops, else their index, and how they depend on each other.\n"
     "\n"
-    "  --region TAG ..  the region is the elements with these physical tags; without it,\n"
-    "                   all elements but those of the groups judged\n"
-    "  --dimension P    judge groups of points (0), lines (1, as without it), triangles\n"
-    "                   (2, as cavities) or tetrahedra (3)\n"
+    "  --region TAG ..  the region is the elements with these physical tags; without\n"
+    "                   it, all elements but those of the groups judged\n"
+    "  --dimension P    judge groups of points (0), lines (1, as without it),\n"
+    "                   triangles (2, as cavities) or tetrahedra (3)\n"
     "  --json           one object for a script\n"
     "\n"
-    "Exit status: 0 where all groups are cycles of the region and together a basis of its\n"
-    "free loops, twisted parts aside; 1 where they are not, or the mesh is refused; 2\n"
-    "where a file cannot be read, or a tag is none of a group.\n";
+    "Exit status: 0 where all groups are cycles of the region and together a basis of\n"
+    "its free loops, twisted parts aside; 1 where they are not, or the mesh is\n"
+    "refused; 2 where a file cannot be read, or a tag is none of a group.\n";
 
 static int failed(const char *why, FILE *err) {
     fprintf(err, "fildwuk: %s\n", why);
@@ -206,14 +207,5 @@ int judge_text(const struct options *options, const struct text *text, const str
         return refuse_text(options, text, console);
     int status = judge_mesh(&docket, console);
     mesh_free(&mesh);
-    return status;
-}
-
-int run_judge(const struct options *options, const struct console *console) {
-    struct text text;
-    if (!input_read(options->input, "a mesh with physical groups", &text, console->err))
-        return STATUS_FAILED;
-    int status = judge_text(options, &text, console);
-    input_free(&text);
     return status;
 }

@@ -7,8 +7,6 @@
 
 extern const char JUDGE_HELP[];
 
-int run_judge(const struct options *options, const struct console *console);
-
 /* The command on a text. */
 int judge_text(const struct options *options, const struct text *text, const struct console *console);
 

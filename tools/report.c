@@ -17,8 +17,9 @@
 #include "words.h"
 
 const char REPORT_HELP[] =
-    "usage: fildwuk [report] [FILE] [--dimension P] [--region TAG ..] [--plain | --json]\n"
-    "               [--limit host|library] [--groups OUT.msh] [--view OUT.pos]\n"
+    "usage: fildwuk [report] [FILE] [--dimension P] [--region TAG ..]\n"
+    "               [--plain | --json] [--limit host|library]\n"
+    "               [--groups OUT.msh] [--view OUT.pos]\n"
     "\n"
     "Says for each dimension how many components, loops, cavities and closed volumes\n"
     "are free, which are twisted and of which order, and each of them as cells with\n"
@@ -29,12 +30,12 @@ const char REPORT_HELP[] =
     "  --region TAG ..  only the elements of the mesh with these physical tags\n"
     "  --plain          the lines that the program homology prints\n"
     "  --json           one JSON object\n"
-    "  --limit host     by the host calls, at most 48 cells in a dimension, not 256\n"
+    "  --limit host     by the host calls: at most 48 cells in a dimension, not 256\n"
     "  --groups FILE    writes the mesh with each generator as a physical group\n"
     "  --view FILE      writes each generator as a view of Gmsh\n"
     "\n"
-    "Exit status: 0 done, 1 the input is refused, 2 a file cannot be read or written, or\n"
-    "a word is wrong. After 1 and 2 standard error has the reason.\n";
+    "Exit status: 0 done, 1 the input is refused, 2 a file cannot be read or written,\n"
+    "or a word is wrong. After 1 and 2 standard error has the reason.\n";
 
 /* A report to be made. */
 struct job {

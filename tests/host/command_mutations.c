@@ -106,11 +106,11 @@ static void change_line(struct text *text) {
 static void cut(struct text *text) { text->length = below(text->length + 1); }
 
 static void mutate(struct text *text) {
-    static void (*const CHANGE[])(struct text *) = {change_bytes, change_bytes, change_number, change_number, change_line, change_line, cut};
+    static void (*const CHANGE[])(struct text *) = {change_bytes, change_number, change_number, change_number, change_line, change_line, cut};
     const struct text *file = &files[below(file_total)];
     memcpy(text->bytes, file->bytes, file->length);
     text->length = file->length;
-    for (size_t left = 1 + below(CHANGES); left > 0; left--)
+    for (size_t left = 1 + below(1 + below(CHANGES)); left > 0; left--)
         CHANGE[below(left > 1 ? 6 : 7)](text);
 }
 
@@ -163,16 +163,26 @@ static void release(struct ran ran) {
     free(ran.err);
 }
 
-/* Runs a command with words that any of its options may be among. */
+/* Words of an option, with the bit that a command must take. */
+struct choice {
+    uint32_t bit;
+    char *words[3];
+};
+
+/* Runs a command with up to two of its options. */
 static void run_any(const struct command *command, const struct text *text) {
-    static char *const WORDS[][3] = {{"--plain"}, {"--json"}, {"--dimension", "1"}, {"--dimension", "2"}, {"--dimension", "9"}, {"--region", "1"},
-                                     {"--region", "7", "8"}, {"--limit", "host"}, {"--groups", "/dev/null"}, {"--view", "/dev/null"}};
+    static const struct choice CHOICES[] = {
+        {OPTION_FORM, {"--plain"}},           {OPTION_FORM, {"--json"}},           {OPTION_DIMENSION, {"--dimension", "1"}},
+        {OPTION_DIMENSION, {"--dimension", "2"}}, {OPTION_DIMENSION, {"--dimension", "9"}}, {OPTION_REGION, {"--region", "1"}},
+        {OPTION_REGION, {"--region", "7", "8"}},  {OPTION_LIMIT, {"--limit", "host"}},      {OPTION_GROUPS, {"--groups", "/dev/null"}},
+        {OPTION_VIEW, {"--view", "/dev/null"}},   {OPTION_TAGS, {"1", "2"}},                {OPTION_OUTPUT, {"-o", "/dev/null"}},
+    };
     char *words[8] = {"a file"};
     int count = 1;
     for (int left = (int)below(3); left > 0; left--) {
-        char *const *chosen = WORDS[below(sizeof WORDS / sizeof *WORDS)];
-        for (int i = 0; i < 3 && chosen[i] != NULL && count < 8; i++)
-            words[count++] = chosen[i];
+        const struct choice *choice = &CHOICES[below(sizeof CHOICES / sizeof *CHOICES)];
+        for (int i = 0; i < 3 && choice->words[i] != NULL && (command->takes & choice->bit) != 0; i++)
+            words[count++] = choice->words[i];
     }
     release(run(command, count, words, text));
 }
