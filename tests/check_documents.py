@@ -2,7 +2,8 @@
 """Holds the documents to the repository.
 
 Every backticked name of docs/DEMANDS.md is a definition, function, record, field, edit (`crate/label`), file, test or crate of it, and a name that stands
-before `(crate/File.antt)` or `(crate ..)` is defined there. Every claim is named on that page, proved under its name and used.
+before `(crate/File.antt)` or `(crate ..)` is defined there. Every claim is named on that page, proved under its name and used. The files and crates that
+the other pages name are there; docs/requests tells of earlier states and is not looked at.
 The figures of tests/reading.py in README.md, and in docs/DECISIONS.md where it has some, are those that it prints now: `**Title** (N lines)` for each
 part, `a core of N lines` and `N lines in all`.
 The counts of edits, examples and claims are those of tests/counts.txt. A number below one that the file had in an earlier commit has a line in
@@ -17,13 +18,16 @@ from tables import Tables
 from tree_names import CRATES, ROOT, Names, file_of, read
 
 DEMANDS = "docs/DEMANDS.md"
-TICKED = re.compile(r"`([^`]+)`")
-LISTED = r"((?:`[^`]+`, )*`[^`]+`)"
+TICKED = re.compile(r"`([^`\n]+)`")
+LISTED = r"((?:`[^`\n]+`, )*`[^`\n]+`)"
 IN_FILE = re.compile(LISTED + r" \(`(\w+/\w+\.antt)`")
 IN_CRATE = re.compile(LISTED + r" \(crate `(\w+)`")
 # What is written in backticks and is no name of the repository: lines of the output and of a mesh text, words of Rattle and C, commands.
 LITERAL = {"R", "H", "G", "R 13", "$", "$End", "$MeshFormat", "$Nodes", "$EndElements", "requires", "ensures", "usize", "u32", "pub",
            "64 - u64::leading_zeros(peak)", "rt ci", "bash examples/run mesh.msh", "bash bench/run"}
+KIT = {"os"}
+PATH = re.compile(r"(?:crates|docs|tests|bench|examples|include|tools|install)/[\w./-]*|\w+/\w+\.antt")
+PLACEHOLDER = re.compile(r"\b[A-Z]{2,}\b(?!\.md)|\bNN-")
 CLAIM = re.compile(r"^abbrev pub (\w+) : Type 0$", re.M)
 # A theorem on every line of a table, and one on every field of a record of examples.
 TABLE = re.compile(r"^\s*(?:pub )?\S+ : (?:T \(every (?:\(.*\)|\S+) (\S+)\)|Right (\S+))$", re.M)
@@ -31,6 +35,19 @@ RECORD = re.compile(r"^(?:pub )?\S*(?:examples|calls) : (\w+)$", re.M)
 PART = re.compile(r"^(\S.*): (\d+) lines$", re.M)
 TOTAL = re.compile(r"^in all: (\d+) lines", re.M)
 FALL = re.compile(r"`(\w+)` from (\d+) to (\d+)")
+
+
+def path_faults(names):
+    """Files, edits and crates that the pages name and the repository does not have. NAME and the like stand for any name."""
+    pages = [ROOT / "README.md", ROOT / "CONTRIBUTING.md"] + sorted((ROOT / "docs").glob("*.md"))
+    for page in pages:
+        text = read(page)
+        paths = {name for name in TICKED.findall(text) if PATH.fullmatch(name) and not PLACEHOLDER.search(name)}
+        for name in sorted(paths):
+            if not names.known(name) and not (ROOT / (name + ".c")).exists():
+                yield f"{page.relative_to(ROOT)}: there is no `{name}`"
+        for crate in sorted(set(re.findall(r"\bcrate `(\w+)`", text)) - names.crates - KIT):
+            yield f"{page.relative_to(ROOT)}: there is no crate `{crate}`"
 
 
 def claims():
@@ -166,7 +183,8 @@ def run_faults():
 def main():
     """Exits with 1 where something differs."""
     history = earlier()
-    faults = list(name_faults(Names())) + list(claim_faults()) + list(edit_faults()) + list(figure_faults()) + list(count_faults(history)) + list(run_faults())
+    names = Names()
+    faults = list(name_faults(names)) + list(path_faults(names)) + list(claim_faults()) + list(edit_faults()) + list(figure_faults()) + list(count_faults(history)) + list(run_faults())
     for fault in faults:
         print(fault)
     print(f"{len(set(TICKED.findall(read(ROOT / DEMANDS))))} names, {counted()}, {len(history)} earlier counts, {len(faults)} faults")
