@@ -21,6 +21,7 @@ DEMANDS = "docs/DEMANDS.md"
 TICKED = re.compile(r"`([^`\n]+)`")
 LISTED = r"((?:`[^`\n]+`, )*`[^`\n]+`)"
 IN_FILE = re.compile(LISTED + r" \(`(\w+/\w+\.antt)`")
+OF_CRATE = re.compile(r"crate `(\w+)`((?:, `(?:src|proofs)/[^`\n]+`)+)")
 IN_CRATE = re.compile(LISTED + r" \(crate `(\w+)`")
 # What is written in backticks and is no name of the repository: lines of the output and of a mesh text, words of Rattle and C, commands.
 LITERAL = {"R", "H", "G", "R 13", "$", "$End", "$MeshFormat", "$Nodes", "$EndElements", "requires", "ensures", "usize", "u32", "pub",
@@ -85,6 +86,10 @@ def name_faults(names):
         for name in TICKED.findall(listed):
             if crate not in names.crates_of(name.split("::")[-1]):
                 yield f"{DEMANDS}: `{name}` is not defined in crate `{crate}`"
+    for crate, files in OF_CRATE.findall(text):
+        for file in TICKED.findall(files):
+            if not (CRATES / crate / file).exists():
+                yield f"{DEMANDS}: crate `{crate}` has no `{file}`"
 
 
 def number(text):

@@ -53,14 +53,12 @@ class Names:
 
 
 def file_of(name):
-    """The file of definitions that `crate/File.antt`, `src/file.rt` or `File.antt` names, or None."""
-    crate, _, file = name.rpartition("/")
-    if name.endswith(".antt") and crate not in ("", "proofs", "specs"):
-        places = [CRATES / crate / folder / file for folder in ("specs", "proofs")]
-    elif name.endswith((".antt", ".rt")):
-        places = sorted(CRATES.glob("*/" + name)) + sorted(CRATES.glob("*/*/" + name))
+    """The file of definitions that `crate/File.antt` names, or the first that `src/file.rt` or `proofs/File.antt` may name, or None."""
+    folder, _, file = name.rpartition("/")
+    if folder in ("src", "specs", "proofs"):
+        places = sorted(CRATES.glob("*/" + name))
     else:
-        places = []
+        places = [CRATES / folder / kind / file for kind in ("specs", "proofs")] if folder and name.endswith(".antt") else []
     return next((place for place in places if place.exists()), None)
 
 
