@@ -9,3 +9,6 @@ mod Meshes
 mod Program
 mod Words
 mod Consequences
+mod Hollow
+mod UseSheets
+mod UseCalls
