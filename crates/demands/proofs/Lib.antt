@@ -12,3 +12,6 @@ mod Consequences
 mod Hollow
 mod UseSheets
 mod UseCalls
+mod UseLists
+mod UseWords
+mod UseHost

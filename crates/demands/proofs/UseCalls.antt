@@ -57,25 +57,25 @@ module _ (calls : Calls) where
           is ∙ ap (left request output work) (sym (ends-two hollow hollow-chains s r x ends) ∙ hollow-reduced)
 
   -- longer slices than needed: the report, and the slots past it as they were
-  reports : call 3 hollow report (nines 16) (nines 30)
+  pub report-written : call 48 hollow report (nines 16) (nines 30)
       ≡ record { answer = done loops; output = pos 1 ∷ pos 0 ∷ pos 1 ∷ minus 1 ∷ pos 1 ∷ nines 11; work = replicate 30 (pos 0) }
   unfolding earlyChecks callChecks cells splices splice countField offsetField cellOf cellsOf sectionsOf some verticesDoNotRise cellsDoNotRise faceMissing without same rises precedes listed start countBelow tabulate
       reportList torsionCount bitsOf halvings columnsOf reported
-  reports = when-done 3 report (nines 16) (nines 30) refl
+  report-written = when-done 48 report (nines 16) (nines 30) refl
 
   -- twice the loop
-  coordinates-written : call 256 hollow (coordinates (pos 2 ∷ minus 2 ∷ pos 2 ∷ [])) (nines 4) (nines 27)
+  pub coordinates-written : call 3 hollow (coordinates (pos 2 ∷ minus 2 ∷ pos 2 ∷ [])) (nines 4) (nines 27)
       ≡ record { answer = done loops; output = pos 2 ∷ nines 3; work = replicate 27 (pos 0) }
   unfolding earlyChecks callChecks chainChecks coefficientExceeds boundaryNotZero cells splices splice countField offsetField cellOf cellsOf sectionsOf some verticesDoNotRise cellsDoNotRise faceMissing without same rises precedes listed start
       countBelow boundary coefficient sign apply sum floor modulo residue tabulate coordinateList coordinateAt torsionCount bitsOf halvings reported
-  coordinates-written = when-done 256 (coordinates (pos 2 ∷ minus 2 ∷ pos 2 ∷ [])) (nines 4) (nines 27) refl
+  coordinates-written = when-done 3 (coordinates (pos 2 ∷ minus 2 ∷ pos 2 ∷ [])) (nines 4) (nines 27) refl
 
   -- the loop and the loop run backwards, a list each, three slots apart
-  lists-written : call 256 hollow (lists 2 (pos 1 ∷ minus 1 ∷ pos 1 ∷ minus 1 ∷ pos 1 ∷ minus 1 ∷ [])) (nines 7) (nines 27)
+  pub lists-written : call 48 hollow (lists 2 (pos 1 ∷ minus 1 ∷ pos 1 ∷ minus 1 ∷ pos 1 ∷ minus 1 ∷ [])) (nines 7) (nines 27)
       ≡ record { answer = done loops; output = pos 1 ∷ pos 9 ∷ pos 9 ∷ minus 1 ∷ nines 3; work = replicate 27 (pos 0) }
   unfolding earlyChecks callChecks chainsChecks cyclesChecks coefficientExceeds boundaryNotZero cells splices splice countField offsetField cellOf cellsOf sectionsOf some verticesDoNotRise cellsDoNotRise faceMissing without same rises precedes listed start
       countBelow boundary coefficient sign apply sum floor modulo residue tabulate coordinateList coordinateAt torsionCount bitsOf halvings reported
-  lists-written = when-done 256 (lists 2 (pos 1 ∷ minus 1 ∷ pos 1 ∷ minus 1 ∷ pos 1 ∷ minus 1 ∷ [])) (nines 7) (nines 27) refl
+  lists-written = when-done 48 (lists 2 (pos 1 ∷ minus 1 ∷ pos 1 ∷ minus 1 ∷ pos 1 ∷ minus 1 ∷ [])) (nines 7) (nines 27) refl
 
   -- ---- refused before the reductions, every slice left alone
 
@@ -91,9 +91,9 @@ module _ (calls : Calls) where
       of (outcome.Outcome.is-done none narrow s r x ends is) = absurd (nonzero (sym told ∙ none))
 
   -- dimension 4
-  refused-8 : call 256 (asked hollowTriangle 4) report (nines 16) (nines 30) ≡ record { answer = refused 8; output = nines 16; work = nines 30 }
+  pub refused-8 : call 48 (asked hollowTriangle 4) report (nines 16) (nines 30) ≡ record { answer = refused 8; output = nines 16; work = nines 30 }
   unfolding earlyChecks callChecks cells countField offsetField cellOf cellsOf sectionsOf some verticesDoNotRise cellsDoNotRise faceMissing without same rises precedes listed start countBelow tabulate
-  refused-8 = when-refused 256 (asked hollowTriangle 4) report (nines 16) (nines 30) 8 hollow-bytes refl (λ e. absurd (omega (arith, e)))
+  refused-8 = when-refused 48 (asked hollowTriangle 4) report (nines 16) (nines 30) 8 hollow-bytes refl (λ e. absurd (omega (arith, e)))
 
   -- one slot short
   refused-9 : call 256 hollow report (nines 13) (nines 30) ≡ record { answer = refused 9; output = nines 13; work = nines 30 }
@@ -101,7 +101,7 @@ module _ (calls : Calls) where
   refused-9 = when-refused 256 hollow report (nines 13) (nines 30) 9 hollow-bytes refl (λ e. absurd (omega (arith, e)))
 
   -- no cycle
-  refused-12 : call 256 hollow (coordinates (pos 1 ∷ pos 0 ∷ pos 0 ∷ [])) (nines 4) (nines 30) ≡ record { answer = refused 12; output = nines 4; work = nines 30 }
+  pub refused-12 : call 256 hollow (coordinates (pos 1 ∷ pos 0 ∷ pos 0 ∷ [])) (nines 4) (nines 30) ≡ record { answer = refused 12; output = nines 4; work = nines 30 }
   unfolding earlyChecks callChecks chainChecks coefficientExceeds boundaryNotZero cells countField offsetField cellOf cellsOf sectionsOf some verticesDoNotRise cellsDoNotRise faceMissing without same rises precedes listed start
       countBelow boundary coefficient sign apply sum tabulate
   refused-12 = when-refused 256 hollow (coordinates (pos 1 ∷ pos 0 ∷ pos 0 ∷ [])) (nines 4) (nines 30) 12 hollow-bytes refl (λ e. absurd (omega (arith, e)))
