@@ -15,3 +15,4 @@ mod UseCalls
 mod UseLists
 mod UseWords
 mod UseHost
+mod UseMeshes
