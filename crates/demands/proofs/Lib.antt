@@ -16,3 +16,4 @@ mod UseLists
 mod UseWords
 mod UseHost
 mod UseMeshes
+mod UseProgram

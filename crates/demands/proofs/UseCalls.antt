@@ -12,6 +12,7 @@ use Rattle.lists.specs.Splice.{splice, splices}
 use Rattle.matrices.specs.Sum.{sum}
 use Rattle.matrices.specs.Vector.{apply}
 use Rattle.trials.specs.Trial.{first, Answer, done, refused, Called, cleared}
+use Rattle.trials.specs.TrialLaws.{refused≢done}
 use Rattle.complexes.specs.Cell.{without, same, rises, precedes, listed}
 use Rattle.complexes.specs.Boundary.{sign, coefficient, countBelow, boundary}
 use Rattle.sheet_format.specs.Layout.{start}
@@ -31,7 +32,7 @@ use Rattle.demands.specs.Calls.{Calls}
 use Rattle.demands.proofs.Hollow.{hollow, hollow-bytes, hollow-chains, hollow-left, hollow-reduced, hollow-narrow, nines, minus}
 
 -- what a call on the hollow triangle leaves where it is done, by what its reductions come to
-abbrev left : Request → List ℤ → List ℤ → Reductions → Called Counts ℤ
+abbrev pub left : Request → List ℤ → List ℤ → Reductions → Called Counts ℤ
 left request output work R = record {
   answer = ofReduced (refused 0) (λ s r x. done (countsOf s r x)) R;
   output = ofReduced [] (λ s r x. splices (listSlots hollow request) (numbersOf hollow request s r x) (listCount request) output) R;
@@ -53,6 +54,21 @@ module _ (calls : Calls) where
           call limit hollow request output work ≡ left request output work (reduced 1 0 hollow-left)
       of (outcome.Outcome.refused-early k nonzero told is) = absurd (nonzero (sym told ∙ passed))
       of (outcome.Outcome.too-wide none wide is) = absurd (hollow-narrow wide)
+      of (outcome.Outcome.is-done none narrow s r x ends is) =
+          is ∙ ap (left request output work) (sym (ends-two hollow hollow-chains s r x ends) ∙ hollow-reduced)
+
+  -- where done is answered, whatever the slices
+  pub when-answered : (limit : ℕ) (request : Request) (output work : List ℤ) (counts : Counts) → call limit hollow request output work .answer ≡ done counts →
+      call limit hollow request output work ≡ left request output work (reduced 1 0 hollow-left)
+  when-answered limit request output work counts answered = of (calls limit hollow request output work hollow-bytes)
+    where
+      answer-of : Called Counts ℤ → Answer Counts
+      answer-of called = called .answer
+
+      of : Outcome limit hollow request output work (call limit hollow request output work) →
+          call limit hollow request output work ≡ left request output work (reduced 1 0 hollow-left)
+      of (outcome.Outcome.refused-early k nonzero told is) = absurd (refused≢done (sym (ap answer-of is) ∙ answered))
+      of (outcome.Outcome.too-wide none wide is) = absurd (refused≢done (sym (ap answer-of is) ∙ answered))
       of (outcome.Outcome.is-done none narrow s r x ends is) =
           is ∙ ap (left request output work) (sym (ends-two hollow hollow-chains s r x ends) ∙ hollow-reduced)
 
