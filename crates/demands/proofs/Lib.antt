@@ -17,3 +17,7 @@ mod UseWords
 mod UseHost
 mod UseMeshes
 mod UseProgram
+mod Plane
+mod UseReports
+mod UseCoordinates
+mod UseWays

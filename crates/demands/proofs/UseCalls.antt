@@ -86,6 +86,13 @@ module _ (calls : Calls) where
       countBelow boundary coefficient sign apply sum floor modulo residue tabulate coordinateList coordinateAt torsionCount bitsOf halvings reported
   coordinates-written = when-done 3 (coordinates (pos 2 ∷ minus 2 ∷ pos 2 ∷ [])) (nines 4) (nines 27) refl
 
+  -- the loop run backwards
+  pub backwards-written : call 48 hollow (coordinates (minus 1 ∷ pos 1 ∷ minus 1 ∷ [])) (nines 4) (nines 27)
+      ≡ record { answer = done loops; output = minus 1 ∷ nines 3; work = replicate 27 (pos 0) }
+  unfolding earlyChecks callChecks chainChecks coefficientExceeds boundaryNotZero cells splices splice countField offsetField cellOf cellsOf sectionsOf some verticesDoNotRise cellsDoNotRise faceMissing without same rises precedes listed start
+      countBelow boundary coefficient sign apply sum floor modulo residue tabulate coordinateList coordinateAt torsionCount bitsOf halvings reported
+  backwards-written = when-done 48 (coordinates (minus 1 ∷ pos 1 ∷ minus 1 ∷ [])) (nines 4) (nines 27) refl
+
   -- the loop and the loop run backwards, a list each, three slots apart
   pub lists-written : call 48 hollow (lists 2 (pos 1 ∷ minus 1 ∷ pos 1 ∷ minus 1 ∷ pos 1 ∷ minus 1 ∷ [])) (nines 7) (nines 27)
       ≡ record { answer = done loops; output = pos 1 ∷ pos 9 ∷ pos 9 ∷ minus 1 ∷ nines 3; work = replicate 27 (pos 0) }
