@@ -21,3 +21,6 @@ mod Plane
 mod UseReports
 mod UseCoordinates
 mod UseWays
+mod UseHeadroom
+mod UseConsequences
+mod UseOrder3
