@@ -12,7 +12,7 @@ use lib.Seq.{getD-set-same, getD-set-other, set-getD, set-set}
 use Rattle.complexes.specs.Cell.{Cell, precedes}
 use Rattle.complexes.specs.Complex.{Sections, section}
 use Rattle.closures.specs.Insert.{insertAll}
-use Rattle.closures.specs.InsertLaws.{insertAll-append, insertAll-grows}
+use Rattle.closures.proofs.InsertLaws.{insertAll-append, insertAll-grows}
 use Rattle.cell_sets.specs.Set.{Holds, adding, Adds, AddsOne}
 
 pub length-adding : (K : Sections) (p : ℕ) (cs : List Cell) → length (adding K p cs) ≡ length K

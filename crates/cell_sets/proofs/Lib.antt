@@ -1,7 +1,6 @@
--- What the proofs of the crate share, and laws for those that call it (Own).
+-- What the proofs of the crate and of those above it share.
 pub mod Words
 pub mod Sets
 pub mod Packed
 pub mod Adding
 pub mod Own
-pub mod Bytes

@@ -15,11 +15,12 @@ use Rattle.lists.specs.SpliceLaws.{length-splice, getD-splice-before, getD-spli
 use Rattle.complexes.specs.Cell.{Cell, precedes}
 use Rattle.complexes.specs.Complex.{Sections, section}
 use Rattle.complexes.specs.Packed.{packed}
-use Rattle.sheet_format.specs.Layout.{top}
+use Rattle.closures.specs.Closure.{elementTop}
 use Rattle.closures.specs.Insert.{insert, insertAll}
-use Rattle.closures.specs.Rising.{cells-order, All, Rising}
-use Rattle.closures.specs.InsertLaws.{insert-rising, insert-all}
-use Rattle.closures.specs.PackedInsertLaws.{HasVertices, precedes-words, insert-words}
+use Rattle.closures.specs.Rising.{All, Rising, HasVertices}
+use Rattle.closures.proofs.RisingLaws.{cells-order}
+use Rattle.closures.proofs.InsertLaws.{insert-rising, insert-all}
+use Rattle.closures.proofs.PackedInsertLaws.{precedes-words, insert-words}
 use Rattle.cells.specs.Word.{Packs}
 use Rattle.cell_sets.specs.Insert.{part, Has, Puts, Lacks}
 use Rattle.cell_sets.specs.Set.{HoldsSection, Holds, Held, adding, Overfull}
@@ -27,8 +28,8 @@ use Rattle.cell_sets.proofs.Words.{length-part, getD-part, splice-own}
 
 -- ---- where the sections stand
 
-pub section-ends : (limit p : ℕ) (cells : List ℕ) → suc top * limit ≤ length cells → p ≤ top → p * limit + limit ≤ length cells
-section-ends limit p cells room h = omega (arith, suc-mul p limit, mul-le-mul-right {m = suc p} {n = suc top} limit (omega arith))
+pub section-ends : (limit p : ℕ) (cells : List ℕ) → suc elementTop * limit ≤ length cells → p ≤ elementTop → p * limit + limit ≤ length cells
+section-ends limit p cells room h = omega (arith, suc-mul p limit, mul-le-mul-right {m = suc p} {n = suc elementTop} limit (omega arith))
 
 -- a place of section q is before those of a later section p, or behind those of an earlier one
 before : (limit p q i : ℕ) → i < limit → q < p → q * limit + i < p * limit
@@ -90,7 +91,7 @@ slice-rising {l = l} s = rw (s .counted, s .words) (words-rising l (s .vertices)
 pub held : {limit : ℕ} {cells counts : List ℕ} {K : Sections} → Holds limit cells counts K → Held limit cells counts
 held {K = K} h = record { complex = K; holds = h }
 
-pub holds-word : {limit : ℕ} {cells counts : List ℕ} {K : Sections} → Holds limit cells counts K → (p i : ℕ) → p ≤ top
+pub holds-word : {limit : ℕ} {cells counts : List ℕ} {K : Sections} → Holds limit cells counts K → (p i : ℕ) → p ≤ elementTop
     → i < length (section K p) → Packs (suc p) (getD (section K p) i []) (getD cells (p * limit + i) 0)
 unfolding packed
 holds-word {limit} {cells} {K = K} h p i small l =
@@ -107,7 +108,7 @@ holds-word {limit} {cells} {K = K} h p i small l =
 
 -- ---- the cell c with the word w inserted into section p
 
-module _ {limit : ℕ} {cells counts : List ℕ} {K : Sections} (holds : Holds limit cells counts K) (p : ℕ) (h : p ≤ top)
+module _ {limit : ℕ} {cells counts : List ℕ} {K : Sections} (holds : Holds limit cells counts K) (p : ℕ) (h : p ≤ elementTop)
     {c : Cell} {w : ℕ} (packs : Packs (suc p) c w) where
   abbrev in-p : HoldsSection limit cells counts p (section K p)
   in-p = holds .sections p h
@@ -156,7 +157,7 @@ module _ {limit : ℕ} {cells counts : List ℕ} {K : Sections} (holds : Holds l
         vertices = insert-all precedes cells-order [] (HasVertices (suc p)) c (section K p) has-vertices (in-p .vertices);
       }
 
-      other : (q : ℕ) → q ≤ top → (q ≡ p → ⊥) → HoldsSection limit cells′ counts′ q (section K q)
+      other : (q : ℕ) → q ≤ elementTop → (q ≡ p → ⊥) → HoldsSection limit cells′ counts′ q (section K q)
       other q l d =
           let s = holds .sections q l in
           record {
@@ -171,7 +172,7 @@ module _ {limit : ℕ} {cells counts : List ℕ} {K : Sections} (holds : Holds l
             vertices = s .vertices;
           }
 
-      at : (q : ℕ) → q ≤ top → Dec (q ≡ p) → HoldsSection limit cells′ counts′ q (section (set K p new) q)
+      at : (q : ℕ) → q ≤ elementTop → Dec (q ≡ p) → HoldsSection limit cells′ counts′ q (section (set K p new) q)
       at q l (yes m) = rw (m, getD-set-same K p new [] (omega (arith, holds .dimensions))) same
       at q l (no d) = rw (getD-set-other K p q new [] d) (other q l d)
 

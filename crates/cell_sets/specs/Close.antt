@@ -5,8 +5,7 @@ use Prim.Native.Nat.{ℕ, suc, _≤_, _<_}
 use Rattle.lists.specs.Tabulate.{tabulate}
 use Rattle.complexes.specs.Cell.{Cell, without}
 use Rattle.complexes.specs.Complex.{Sections, section, count}
-use Rattle.sheet_format.specs.Layout.{top}
-use Rattle.closures.specs.Closure.{facesOf, ownSections, closure}
+use Rattle.closures.specs.Closure.{elementTop, facesOf, ownSections, closure}
 use Rattle.cells.specs.Word.{Packs}
 use Rattle.cell_sets.specs.Set.{Holds, Adds}
 
@@ -29,20 +28,20 @@ ClosesSection limit p cells counts r cells′ counts′ =
 -- the slice holds the cells of some list, with no face that the list does not have
 pub record HeldOwn (limit : ℕ) (cells counts : List ℕ) : Type 0 where
   pub elements : List Cell
-  pub holds : Holds limit cells counts (ownSections top elements)
+  pub holds : Holds limit cells counts (ownSections elementTop elements)
 
 -- a section of K has more than `limit` cells
 pub record Exceeds (limit : ℕ) (K : Sections) : Type 0 where
   pub dimension : ℕ
-  pub listed : dimension ≤ top
+  pub listed : dimension ≤ elementTop
   pub over : limit < count K dimension
 
 -- all faces of the cells cs
 abbrev pub ClosesOwn : ℕ → List Cell → Bool → List ℕ → List ℕ → Type 0
-ClosesOwn limit cs true cells counts = Holds limit cells counts (closure top cs)
-ClosesOwn limit cs false cells counts = Exceeds limit (closure top cs)
+ClosesOwn limit cs true cells counts = Holds limit cells counts (closure elementTop cs)
+ClosesOwn limit cs false cells counts = Exceeds limit (closure elementTop cs)
 
 -- .. for every list of cells held
 abbrev pub ClosesCells : ℕ → List ℕ → List ℕ → Bool → List ℕ → List ℕ → Type 0
 ClosesCells limit cells counts r cells′ counts′ =
-    (cs : List Cell) → Holds limit cells counts (ownSections top cs) → ClosesOwn limit cs r cells′ counts′
+    (cs : List Cell) → Holds limit cells counts (ownSections elementTop cs) → ClosesOwn limit cs r cells′ counts′

@@ -3,4 +3,3 @@ pub mod Insert
 pub mod Set
 pub mod Vertices
 pub mod Close
-pub mod Write

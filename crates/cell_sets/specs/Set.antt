@@ -8,10 +8,9 @@ use Rattle.limits.specs.Limits.{libraryLimit}
 use Rattle.complexes.specs.Cell.{Cell, precedes}
 use Rattle.complexes.specs.Complex.{Sections, section}
 use Rattle.complexes.specs.Packed.{packed}
-use Rattle.sheet_format.specs.Layout.{top}
+use Rattle.closures.specs.Closure.{elementTop}
 use Rattle.closures.specs.Insert.{insert, insertAll}
-use Rattle.closures.specs.Rising.{All, Rising}
-use Rattle.closures.specs.PackedInsertLaws.{HasVertices}
+use Rattle.closures.specs.Rising.{All, Rising, HasVertices}
 use Rattle.cells.specs.Word.{Packs}
 use Rattle.cell_sets.specs.Insert.{part}
 
@@ -26,10 +25,10 @@ pub record HoldsSection (limit : ℕ) (cells counts : List ℕ) (p : ℕ) (l : L
 -- .. the cells of K
 pub record Holds (limit : ℕ) (cells counts : List ℕ) (K : Sections) : Type 0 where
   pub small : limit ≤ libraryLimit
-  pub room : suc top * limit ≤ length cells
-  pub sized : length counts ≡ suc top
-  pub dimensions : length K ≡ suc top
-  pub sections : (p : ℕ) → p ≤ top → HoldsSection limit cells counts p (section K p)
+  pub room : suc elementTop * limit ≤ length cells
+  pub sized : length counts ≡ suc elementTop
+  pub dimensions : length K ≡ suc elementTop
+  pub sections : (p : ℕ) → p ≤ elementTop → HoldsSection limit cells counts p (section K p)
 
 -- .. of some K
 pub record Held (limit : ℕ) (cells counts : List ℕ) : Type 0 where

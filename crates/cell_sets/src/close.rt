@@ -1,12 +1,12 @@
 // The faces of the cells are added, those of the highest dimension first.
 ghost use Prim.Native.Nat.{suc, _<_};
-ghost use Rattle.sheet_format.specs.Layout.{top};
+ghost use Rattle.closures.specs.Closure.{elementTop};
 ghost use Rattle.cell_sets.specs.Set.{Held};
 ghost use Rattle.cell_sets.specs.Close.{IsPacked, HeldOwn, AddsFaces, ClosesSection, ClosesCells};
+use crate::set::ELEMENT_TOP;
 use crate::set::SECTIONS;
 use crate::set::add_cell;
 use cells::word::leave_out;
-use fields::field::TOP;
 
 // Adds the faces of the cell of dimension p + 1 with this word, and tells whether they fit.
 fn add_faces(
@@ -16,7 +16,7 @@ fn add_faces(
     p: usize,
     word: u64,
 ) -> bool
-    requires { ⌜ (p < top) × Held limit (now cells) (now counts) × IsPacked (suc (suc p)) word ⌝ }
+    requires { ⌜ (p < elementTop) × Held limit (now cells) (now counts) × IsPacked (suc (suc p)) word ⌝ }
     ensures { λ r. ⌜ AddsFaces limit p word (now (cells .entry)) (now (counts .entry)) r (now (cells .exit)) (now (counts .exit)) ⌝ }
 {
     let mut j: usize = 0;
@@ -32,7 +32,7 @@ fn add_faces(
 
 // Adds the faces of all cells of dimension p + 1, and tells whether they fit.
 fn close_section(cells: &mut [u64], counts: &mut [usize; SECTIONS], limit: usize, p: usize) -> bool
-    requires { ⌜ (p < top) × Held limit (now cells) (now counts) ⌝ }
+    requires { ⌜ (p < elementTop) × Held limit (now cells) (now counts) ⌝ }
     ensures { λ r. ⌜ ClosesSection limit p (now (cells .entry)) (now (counts .entry)) r (now (cells .exit)) (now (counts .exit)) ⌝ }
 {
     let many = counts[p + 1];
@@ -53,7 +53,7 @@ pub fn close_cells(cells: &mut [u64], counts: &mut [usize; SECTIONS], limit: usi
     requires { ⌜ HeldOwn limit (now cells) (now counts) ⌝ }
     ensures { λ r. ⌜ ClosesCells limit (now (cells .entry)) (now (counts .entry)) r (now (cells .exit)) (now (counts .exit)) ⌝ }
 {
-    let mut p: usize = TOP;
+    let mut p: usize = ELEMENT_TOP;
     while 0 < p {
         p = p - 1;
         if !close_section(cells, counts, limit, p) {

@@ -1,13 +1,15 @@
 // The cells of a complex in a lent slice: section p is the first counts[p] words from place p * limit on.
 ghost use Prim.Native.Nat.{_≤_};
-ghost use Rattle.sheet_format.specs.Layout.{top};
+ghost use Rattle.closures.specs.Closure.{elementTop};
 ghost use Rattle.cell_sets.specs.Set.{Held, AddsCell};
 use crate::insert::Inserted;
 use crate::insert::insert_word;
-use fields::field::TOP;
 
-// A sheet has this many sections.
-pub const SECTIONS: usize = TOP + 1;
+// The highest dimension of an element of a mesh.
+pub const ELEMENT_TOP: usize = 3;
+
+// The cells of a mesh have this many sections.
+pub const SECTIONS: usize = ELEMENT_TOP + 1;
 
 // Adds the cell of dimension p with this word, unless it is there, and tells whether it fits; if not, nothing changes.
 pub fn add_cell(
@@ -17,7 +19,7 @@ pub fn add_cell(
     p: usize,
     word: u64,
 ) -> bool
-    requires { ⌜ (p ≤ top) × Held limit (now cells) (now counts) ⌝ }
+    requires { ⌜ (p ≤ elementTop) × Held limit (now cells) (now counts) ⌝ }
     ensures { λ r. ⌜ AddsCell limit p word (now (cells .entry)) (now (counts .entry)) r (now (cells .exit)) (now (counts .exit)) ⌝ }
 {
     let many = counts[p];

@@ -9,6 +9,10 @@ use Rattle.complexes.specs.Cell.{Cell, without, precedes}
 use Rattle.complexes.specs.Complex.{Sections}
 use Rattle.closures.specs.Insert.{insertAll}
 
+-- the highest dimension of an element of a mesh
+abbrev pub elementTop : ℕ
+elementTop = 3
+
 -- the cell with these vertices, which may stand in any order and more than once
 abbrev pub cellWith : List ℕ → Cell
 cellWith vertices = insertAll ltb [] vertices

@@ -5,9 +5,3 @@ pub mod Closure
 pub mod Form
 pub mod Examples
 pub mod Rising
-pub mod InsertLaws
-pub mod PackedInsertLaws
-pub mod CellWithLaws
-pub mod SublistLaws
-pub mod SectionLaws
-pub mod ClosureLaws

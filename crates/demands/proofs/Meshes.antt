@@ -1,11 +1,11 @@
 -- The claims on the import.
 use native.Mathlib.Omega.{arith}
 use Rattle.limits.specs.Limits.{hostLimit}
-use Rattle.closures.specs.ClosureLaws.{closure-unique}
-use Rattle.mesh_format.specs.Accept.{mesh-unique}
+use Rattle.closures.proofs.ClosureLaws.{closure-unique}
+use Rattle.mesh_format.proofs.Accept.{mesh-unique}
 use Rattle.imports.specs.Import.{complexOf}
-use Rattle.imports.specs.ImportLaws.{import-malformed, import-faulty, mesh-cells, import-too-long, import-done, import-left}
-use Rattle.imports.specs.SheetLaws.{import-sheet, import-number}
+use Rattle.imports.proofs.ImportLaws.{import-malformed, import-faulty, mesh-cells, import-too-long, import-done, import-left}
+use Rattle.imports.proofs.SheetLaws.{import-sheet, import-number}
 use Rattle.demands.specs.Meshes.{ImportMalformed, MeshesUnique, ImportFaulty, MeshCells, MeshCellsUnique, ImportTooLong, ImportDone, ImportLeft, ImportSheet, HostImportSheet}
 
 pub importMalformed : ImportMalformed

@@ -7,19 +7,20 @@ use Prim.Native.Nat.{ℕ, _≤_}
 use lib.ListN.{length, drop}
 use Rattle.limits.specs.Limits.{libraryLimit, hostLimit}
 use Rattle.complexes.specs.Complex.{Sections}
-use Rattle.sheet_format.specs.Layout.{top, layout}
+use Rattle.sheet_format.specs.Layout.{layout}
+use Rattle.closures.specs.Closure.{elementTop}
 use Rattle.closures.specs.Form.{IsClosure}
 use Rattle.mesh_format.specs.Mesh.{Mesh}
 use Rattle.mesh_format.specs.Form.{MeshText}
-use Rattle.imports.specs.Import.{elementsRight, nodeLists, tooLong, importCall, importNumber}
-use Rattle.imports.specs.Import as imports
+use Rattle.trials.specs.Trial.{done, numberTold}
+use Rattle.imports.specs.Import.{elementsRight, nodeLists, tooLong, importCall}
 use Rattle.imports.specs.Sheet.{headerGives, ImportedSheet}
 
 -- 02, Note 3. The contracts of `importer::import::import` and `fildwuk_import` say that these calls answer and leave what `importCall` says, at the
 -- limits of the library and of the host calls. "New numbers: 14, the text is not of that form or a node number exceeds 65535":
 abbrev pub ImportMalformed : Type 0
 ImportMalformed =
-    (limit : ℕ) (text sheet : List ℕ) → (importNumber (importCall limit text sheet .answer) ≡ 14) ↔ ((m : Mesh) → MeshText m text → ⊥)
+    (limit : ℕ) (text sheet : List ℕ) → (numberTold (importCall limit text sheet .answer) ≡ 14) ↔ ((m : Mesh) → MeshText m text → ⊥)
 
 -- .. and a text of that form tells one mesh
 abbrev pub MeshesUnique : Type 0
@@ -29,47 +30,47 @@ MeshesUnique = (m m′ : Mesh) (text : List ℕ) → MeshText m text → MeshTex
 -- whatever the slice
 abbrev pub ImportFaulty : Type 0
 ImportFaulty =
-    (limit : ℕ) (text sheet : List ℕ) (m : Mesh) → MeshText m text → (importNumber (importCall limit text sheet .answer) ≡ 15) ↔ (elementsRight m ≡ false)
+    (limit : ℕ) (text sheet : List ℕ) (m : Mesh) → MeshText m text → (numberTold (importCall limit text sheet .answer) ≡ 15) ↔ (elementsRight m ≡ false)
 
 -- the cells of a mesh: the elements' vertex sets and their nonempty subsets. Where the elements are right there are such sections, and no others
 pub record HasCells (m : Mesh) : Type 0 where
   pub cells : Sections
-  pub are : IsClosure top (nodeLists (m .elements)) cells
+  pub are : IsClosure elementTop (nodeLists (m .elements)) cells
 
 abbrev pub MeshCells : Type 0
 MeshCells = (m : Mesh) → elementsRight m ≡ true → HasCells m
 
 abbrev pub MeshCellsUnique : Type 0
-MeshCellsUnique = (m : Mesh) (K L : Sections) → IsClosure top (nodeLists (m .elements)) K → IsClosure top (nodeLists (m .elements)) L → K ≡ L
+MeshCellsUnique = (m : Mesh) (K L : Sections) → IsClosure elementTop (nodeLists (m .elements)) K → IsClosure elementTop (nodeLists (m .elements)) L → K ≡ L
 
 -- "16, the sheet's slice is too short or a count would exceed its limit": where neither 14 nor 15 applies
 abbrev pub ImportTooLong : Type 0
 ImportTooLong =
-    (limit : ℕ) (text sheet : List ℕ) (m : Mesh) → MeshText m text → elementsRight m ≡ true → (K : Sections) → IsClosure top (nodeLists (m .elements)) K →
-    (importNumber (importCall limit text sheet .answer) ≡ 16) ↔ (tooLong limit (length sheet) K ≡ true)
+    (limit : ℕ) (text sheet : List ℕ) (m : Mesh) → MeshText m text → elementsRight m ≡ true → (K : Sections) → IsClosure elementTop (nodeLists (m .elements)) K →
+    (numberTold (importCall limit text sheet .answer) ≡ 16) ↔ (tooLong limit (length sheet) K ≡ true)
 
 -- demand 3, "A call answers done whenever no numbered refusal applies to it"; "A call that writes a sheet answers done with its length in bytes"; 01,
 -- "untouched past what the call writes"
 abbrev pub ImportDone : Type 0
 ImportDone =
-    (limit : ℕ) (text sheet : List ℕ) (m : Mesh) → MeshText m text → elementsRight m ≡ true → (K : Sections) → IsClosure top (nodeLists (m .elements)) K →
+    (limit : ℕ) (text sheet : List ℕ) (m : Mesh) → MeshText m text → elementsRight m ≡ true → (K : Sections) → IsClosure elementTop (nodeLists (m .elements)) K →
     tooLong limit (length sheet) K ≡ false →
-    importCall limit text sheet ≡ record { answer = imports.done (length (layout K)); output = layout K ++ drop (length (layout K)) sheet }
+    importCall limit text sheet ≡ record { answer = done (length (layout K)); output = layout K ++ drop (length (layout K)) sheet }
 
 -- 01, "Every other slice that a call writes is untouched by a refusal"
 abbrev pub ImportLeft : Type 0
 ImportLeft =
-    (limit : ℕ) (text sheet : List ℕ) → importNumber (importCall limit text sheet .answer) ≢ 0 → importCall limit text sheet .output ≡ sheet
+    (limit : ℕ) (text sheet : List ℕ) → numberTold (importCall limit text sheet .answer) ≢ 0 → importCall limit text sheet .output ≡ sheet
 
 -- "The sheet written is always accepted, and its cells are exactly the elements' vertex sets and their nonempty subsets": so the claims above hold of it
 -- as of any sheet
 abbrev pub ImportSheet : Type 0
 ImportSheet =
-    (limit : ℕ) → limit ≤ libraryLimit → (text sheet : List ℕ) (n : ℕ) → importCall limit text sheet .answer ≡ imports.done n →
+    (limit : ℕ) → limit ≤ libraryLimit → (text sheet : List ℕ) (n : ℕ) → importCall limit text sheet .answer ≡ done n →
     ImportedSheet limit text sheet (importCall limit text sheet .output) n
 
 -- the same for the host call, which answers 0: the header of the sheet gives its length
 abbrev pub HostImportSheet : Type 0
 HostImportSheet =
-    (text sheet : List ℕ) → importNumber (importCall hostLimit text sheet .answer) ≡ 0 →
+    (text sheet : List ℕ) → numberTold (importCall hostLimit text sheet .answer) ≡ 0 →
     ImportedSheet hostLimit text sheet (importCall hostLimit text sheet .output) (headerGives (importCall hostLimit text sheet .output))

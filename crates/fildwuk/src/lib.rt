@@ -7,7 +7,7 @@ ghost use Rattle.reports.specs.Lists.{hostCoordinateLists};
 ghost use Rattle.host_calls.specs.HostCallLaws.{reportRoom, workRoom};
 ghost use Rattle.limits.specs.Limits.{hostLimit};
 ghost use Rattle.imports.specs.Import.{importCall};
-ghost use Rattle.importer.specs.Answer.{ImportTold};
+ghost use Rattle.importer.specs.ImportAnswers.{ImportTold};
 ghost use Rattle.fildwuk.specs.Answer.{HostAnswers};
 
 pub mod coordinate_lists;

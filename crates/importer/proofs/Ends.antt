@@ -5,10 +5,10 @@ use mathlib.Core.Path.{_≡_, refl, ap}
 use Prim.Native.Nat.{ℕ}
 use native.Mathlib.Omega.{arith}
 use Rattle.mesh_format.specs.Parse.{Parsed, malformed, parsed, then}
-use Rattle.mesh_lines.specs.Answer.{tellSkipped}
-use Rattle.mesh_lines.specs.declared.answer.Cursor.{Cursor}
-use Rattle.mesh_lines.specs.declared.answer.Skipped.{Skipped}
-use Rattle.mesh_lines.specs.declared.answer.Skipped.the-variants.{Malformed, To}
+use Rattle.mesh_words.specs.Tells.{tellSkipped}
+use Rattle.mesh_words.specs.declared.answer.Cursor.{Cursor}
+use Rattle.mesh_words.specs.declared.answer.Skipped.{Skipped}
+use Rattle.mesh_words.specs.declared.answer.Skipped.the-variants.{Malformed, To}
 use Rattle.importer.specs.Nodes.{tellEnd}
 
 pub end-malformed : {A : Type 0} {r : Skipped} {p : Parsed A} → r ≡ tellEnd p → r ≡ Malformed → p ≡ malformed

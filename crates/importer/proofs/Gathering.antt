@@ -12,23 +12,22 @@ use lib.ListN.{length}
 use Rattle.lists.specs.Same.{every}
 use Rattle.complexes.specs.Cell as cell
 use Rattle.complexes.specs.Complex.{section}
-use Rattle.sheet_format.specs.Layout.{top}
 use Rattle.closures.specs.Insert.{insert}
-use Rattle.closures.specs.Closure.{cellWith, ownSection, ownSections}
-use Rattle.closures.specs.SectionLaws.{ownSection-grows, ownSection-snoc}
-use Rattle.closures.specs.ClosureLaws.{ownSections-section}
+use Rattle.closures.specs.Closure.{elementTop, cellWith, ownSection, ownSections}
+use Rattle.closures.proofs.SectionLaws.{ownSection-grows, ownSection-snoc}
+use Rattle.closures.proofs.ClosureLaws.{ownSections-section}
 use Rattle.cells.specs.Word.{Packs}
 use Rattle.cell_sets.specs.Set.{Holds, adding, AddsCell}
 use Rattle.cell_sets.specs.Close.{Exceeds}
 use Rattle.cell_sets.proofs.Own.{adding-own}
 use Rattle.mesh_format.specs.Mesh.{Element}
 use Rattle.mesh_format.specs.Parse.{elementLines}
-use Rattle.mesh_format.specs.WalkLaws.{Walk}
+use Rattle.mesh_format.proofs.WalkLaws.{Walk}
 use Rattle.imports.specs.Import.{faulty, noneFaulty, nodeLists}
 use Rattle.refusal.specs.declared.Refusal.{Refusal}
 use Rattle.complexes.specs.Packed.{Numbered}
 use Rattle.mesh_lines.specs.declared.answer.Element as answer
-use Rattle.mesh_lines.specs.Answer.{TellsElement}
+use Rattle.mesh_lines.specs.Tells.{TellsElement}
 use Rattle.mesh_elements.specs.Element.{Checks}
 use Rattle.mesh_elements.specs.declared.element.Checked.the-variants.{Cell, Refused}
 use Rattle.importer.specs.Gather.{ownCells, Gathers, Ready, AddsElement}
@@ -57,9 +56,9 @@ module _ (es : List Element) (e : Element) where
   abbrev c : cell.Cell
   c = cellWith (e .nodes)
 
-  section-more : (q : ℕ) → q ≤ top → section (ownCells (es ++ (e ∷ []))) q ≡ ownSection (cells ++ (c ∷ [])) q
+  section-more : (q : ℕ) → q ≤ elementTop → section (ownCells (es ++ (e ∷ []))) q ≡ ownSection (cells ++ (c ∷ [])) q
   section-more q l =
-      ownSections-section top (map cellWith (nodeLists (es ++ (e ∷ [])))) q l ∙ ap (λ (l : List cell.Cell). ownSection l q) (cells-snoc es e)
+      ownSections-section elementTop (map cellWith (nodeLists (es ++ (e ∷ [])))) q l ∙ ap (λ (l : List cell.Cell). ownSection l q) (cells-snoc es e)
 
   -- the sections grow
   pub exceeds-more : {limit : ℕ} → Exceeds limit (ownCells es) → Exceeds limit (ownCells (es ++ (e ∷ [])))
@@ -70,18 +69,18 @@ module _ (es : List Element) (e : Element) where
         omega (
           arith,
           x .over,
-          ap length (ownSections-section top cells (x .dimension) (x .listed)),
+          ap length (ownSections-section elementTop cells (x .dimension) (x .listed)),
           ownSection-grows (x .dimension) cells (c ∷ []),
           ap length (section-more (x .dimension) (x .listed)),
         );
   }
 
-  module _ (p : ℕ) (low : p ≤ top) (sized : length c ≡ suc p) where
+  module _ (p : ℕ) (low : p ≤ elementTop) (sized : length c ≡ suc p) where
     grown : section (ownCells (es ++ (e ∷ []))) p ≡ insert cell.precedes c (section (ownCells es) p)
-    grown = section-more p low ∙ ownSection-snoc p cells c sized ∙ ap (insert cell.precedes c) (sym (ownSections-section top cells p low))
+    grown = section-more p low ∙ ownSection-snoc p cells c sized ∙ ap (insert cell.precedes c) (sym (ownSections-section elementTop cells p low))
 
     ownCells-snoc : ownCells (es ++ (e ∷ [])) ≡ adding (ownCells es) p (c ∷ [])
-    ownCells-snoc = ap (ownSections top) (cells-snoc es e) ∙ sym (adding-own cells c p low sized)
+    ownCells-snoc = ap (ownSections elementTop) (cells-snoc es e) ∙ sym (adding-own cells c p low sized)
 
 -- ---- what is told then
 

@@ -14,23 +14,23 @@ use borrow.Author.Tests.{eq-eqb, ne-eqb}
 use Rattle.lists.specs.Same.{every}
 use Rattle.complexes.specs.Complex.{vertexBound}
 use Rattle.complexes.specs.Packed.{Numbered}
-use Rattle.closures.specs.Closure.{cellWith, member, repeats}
+use Rattle.closures.specs.Closure.{elementTop, cellWith, member, repeats}
 use Rattle.closures.specs.Rising as rising
 use Rattle.mesh_format.specs.Mesh.{Element, Mesh}
 use Rattle.mesh_format.specs.Parse.{malformed, parsed, then, headOf, nodesOf, elementsOf, meshOf}
-use Rattle.mesh_format.specs.Accept.{mesh-iff}
+use Rattle.mesh_format.proofs.Accept.{mesh-iff}
 use Rattle.imports.specs.Import.{nodesOfKind, faulty, noneFaulty, elementsRight, nodeLists, complexOf, tooLong, answerWith, importCall}
-use Rattle.imports.specs.Elements.{mesh-numbered}
-use Rattle.imports.specs.ImportLaws.{import-is, import-not}
-use Rattle.mesh_elements.specs.Map.{marked}
+use Rattle.imports.proofs.ElementLaws.{mesh-numbered}
+use Rattle.imports.proofs.ImportLaws.{import-is, import-not}
+use Rattle.mesh_elements.specs.Map.{inMap}
 use Rattle.mesh_elements.specs.Listed.{Maps}
 use Rattle.refusal.specs.declared.Refusal.the-variants.{MeshMalformed, ElementFaulty, SheetTooLong}
-use Rattle.sheet_format.specs.Layout.{top, layout}
-use Rattle.closures.specs.ClosureLaws.{ownSections-count}
+use Rattle.sheet_format.specs.Layout.{layout}
+use Rattle.closures.proofs.ClosureLaws.{ownSections-count}
 use Rattle.cell_sets.specs.Set.{Holds}
 use Rattle.cell_sets.specs.Close.{Exceeds}
 use Rattle.importer.specs.Gather.{ownCells}
-use Rattle.importer.specs.Answer.{ImportAnswers, WritesClosure}
+use Rattle.importer.specs.ImportAnswers.{ImportAnswers, WritesClosure}
 use Rattle.importer.specs.declared.answer.Imported.{Imported}
 use Rattle.importer.proofs.Writing.{too-many-faces}
 use Rattle.importer.specs.declared.answer.Imported.the-variants.{Refused}
@@ -66,7 +66,7 @@ module _ (s : List ℕ) where
 pub not-of-the-form : (limit : ℕ) (text sheet : List ℕ) → meshOf text ≡ malformed → ImportAnswers (importCall limit text sheet) (Refused MeshMalformed) sheet
 not-of-the-form limit text sheet e = rw (import-not limit text sheet e) (record { answer = refl; output-is = refl })
 
--- ---- listed or marked
+-- ---- listed, or in the map
 
 every-ext : (f g : ℕ → Bool) (l : List ℕ) → ((j : ℕ) → j < length l → f (getD l j 0) ≡ g (getD l j 0)) → every f l ≡ every g l
 unfolding every
@@ -89,23 +89,23 @@ noneFaulty-ext f g (e ∷ es) n h =
     ap₂ (λ a b. not a && b) (faulty-ext f g e (every-ext f g (e .nodes) (λ j l. h (getD (e .nodes) j 0) (n 0 (omega arith) .at j l))))
     (noneFaulty-ext f g es (λ i l. n (suc i) (omega arith)) h)
 
-pub right-map : (marks : List ℕ) (m : Mesh) (text : List ℕ) → meshOf text ≡ parsed m (length text) → Maps marks (m .nodes)
-    → noneFaulty (marked marks) (m .elements) ≡ elementsRight m
-right-map marks m text e maps =
-    noneFaulty-ext (marked marks) (λ v. member v (m .nodes)) (m .elements) (mesh-numbered m text (mesh-iff m text .1 e)) (λ v l. maps .marks v l)
+pub right-map : (bits : List ℕ) (m : Mesh) (text : List ℕ) → meshOf text ≡ parsed m (length text) → Maps bits (m .nodes)
+    → noneFaulty (inMap bits) (m .elements) ≡ elementsRight m
+right-map bits m text e maps =
+    noneFaulty-ext (inMap bits) (λ v. member v (m .nodes)) (m .elements) (mesh-numbered m text (mesh-iff m text .1 e)) (λ v l. maps .lists v l)
 
 -- ---- a text that tells a mesh
 
-module _ (limit : ℕ) (text sheet marks : List ℕ) (m : Mesh) (e : meshOf text ≡ parsed m (length text)) (maps : Maps marks (m .nodes)) where
-  pub told-faulty : noneFaulty (marked marks) (m .elements) ≡ false → ImportAnswers (importCall limit text sheet) (Refused ElementFaulty) sheet
+module _ (limit : ℕ) (text sheet bits : List ℕ) (m : Mesh) (e : meshOf text ≡ parsed m (length text)) (maps : Maps bits (m .nodes)) where
+  pub told-faulty : noneFaulty (inMap bits) (m .elements) ≡ false → ImportAnswers (importCall limit text sheet) (Refused ElementFaulty) sheet
   unfolding answerWith
   told-faulty f =
-      rw (import-is limit text sheet m (length text) e, sym (right-map marks m text e maps) ∙ f) (record { answer = refl; output-is = refl })
+      rw (import-is limit text sheet m (length text) e, sym (right-map bits m text e maps) ∙ f) (record { answer = refl; output-is = refl })
 
-  module _ (r : noneFaulty (marked marks) (m .elements) ≡ true) where
+  module _ (r : noneFaulty (inMap bits) (m .elements) ≡ true) where
     right-is : importCall limit text sheet
         ≡ answerWith (cond (tooLong limit (length sheet) (complexOf (m .elements))) 16 0) (layout (complexOf (m .elements))) sheet
-    right-is = rw (import-is limit text sheet m (length text) e, sym (right-map marks m text e maps) ∙ r) refl
+    right-is = rw (import-is limit text sheet m (length text) e, sym (right-map bits m text e maps) ∙ r) refl
 
     pub told-many : Exceeds limit (ownCells (m .elements)) → ImportAnswers (importCall limit text sheet) (Refused SheetTooLong) sheet
     told-many x =
@@ -113,7 +113,7 @@ module _ (limit : ℕ) (text sheet marks : List ℕ) (m : Mesh) (e : meshOf text
         (too-many-faces limit (complexOf (m .elements)) sheet (record {
           dimension = x .dimension;
           listed = x .listed;
-          over = omega (arith, x .over, ownSections-count top (map cellWith (nodeLists (m .elements))) (x .dimension));
+          over = omega (arith, x .over, ownSections-count elementTop (map cellWith (nodeLists (m .elements))) (x .dimension));
         }))
 
     pub told-written : {answer : Imported} {after cells counts : List ℕ} → Holds limit cells counts (ownCells (m .elements))

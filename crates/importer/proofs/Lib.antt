@@ -1,6 +1,6 @@
 -- What the proofs of the import share.
 mod Ends
-mod Marking
+mod Listing
 mod Gathering
 mod Writing
 mod Importing

@@ -8,20 +8,22 @@ use lib.Dec.{ltb}
 use lib.ListN.{length, drop}
 use borrow.Author.Tests.{lt-ltb, le-ltb}
 use Rattle.complexes.specs.Complex.{Sections, count}
-use Rattle.sheet_format.specs.Layout.{top, layout}
+use Rattle.sheet_format.specs.Layout.{layout}
 use Rattle.sheet_format.specs.CheckLaws.{some-at, some-false}
+use Rattle.closures.specs.Closure.{elementTop}
 use Rattle.cell_sets.specs.Set.{Holds}
 use Rattle.cell_sets.specs.Close.{Exceeds}
-use Rattle.imports.specs.Import.{tooLong, done, answerWith}
+use Rattle.trials.specs.Trial.{done}
+use Rattle.imports.specs.Import.{tooLong, answerWith}
 use Rattle.refusal.specs.declared.Refusal.the-variants.{SheetTooLong}
-use Rattle.importer.specs.Answer.{ImportAnswers}
+use Rattle.importer.specs.ImportAnswers.{ImportAnswers}
 use Rattle.importer.specs.declared.answer.Imported.the-variants.{Done, Refused}
 
 module _ (limit : ℕ) (K : Sections) (sheet : List ℕ) where
   pub exceeds-too-long : Exceeds limit K → tooLong limit (length sheet) K ≡ true
   unfolding tooLong
   exceeds-too-long x =
-      rw (some-at (suc top) (λ p. ltb limit (count K p)) (x .dimension) (omega (arith, x .listed)) (lt-ltb limit (count K (x .dimension)) (x .over)))
+      rw (some-at (suc elementTop) (λ p. ltb limit (count K p)) (x .dimension) (omega (arith, x .listed)) (lt-ltb limit (count K (x .dimension)) (x .over)))
       (or-true (ltb (length sheet) (length (layout K))))
 
   refused-sixteen : tooLong limit (length sheet) K ≡ true
@@ -44,7 +46,7 @@ module _ (limit : ℕ) (K : Sections) (sheet : List ℕ) where
     fits =
         rw (
           le-ltb (length sheet) (length (layout K)) l,
-          some-false (suc top) (λ p. ltb limit (count K p)) .1
+          some-false (suc elementTop) (λ p. ltb limit (count K p)) .1
               (λ p m. le-ltb limit (count K p) (h .sections p (omega arith) .within)),
         ) refl
 

@@ -5,20 +5,19 @@ use mathlib.Core.List.{List, [], _∷_, _++_, map}
 use Prim.Native.Nat.{ℕ}
 use Rattle.complexes.specs.Complex.{Sections}
 use Rattle.complexes.specs.Packed.{Numbered}
-use Rattle.sheet_format.specs.Layout.{top}
-use Rattle.closures.specs.Closure.{cellWith, ownSections}
+use Rattle.closures.specs.Closure.{elementTop, cellWith, ownSections}
 use Rattle.cell_sets.specs.Set.{Holds, Held}
 use Rattle.cell_sets.specs.Close.{Exceeds}
 use Rattle.mesh_format.specs.Mesh as mesh
 use Rattle.imports.specs.Import.{noneFaulty, nodeLists}
 use Rattle.mesh_lines.specs.declared.answer.Element.{Element}
-use Rattle.mesh_lines.specs.Answer.{TellsElement}
+use Rattle.mesh_lines.specs.Tells.{TellsElement}
 use Rattle.importer.specs.declared.gather.Outcome.{Outcome}
 use Rattle.importer.specs.declared.gather.Outcome.the-variants.{Gathered, Faulty, TooMany}
 
 -- the cells of the elements, by dimension, without their faces
 abbrev pub ownCells : List mesh.Element → Sections
-ownCells es = ownSections top (map cellWith (nodeLists es))
+ownCells es = ownSections elementTop (map cellWith (nodeLists es))
 
 -- what the outcome tells of the elements so far, and what the slices then hold
 abbrev pub Gathers : ℕ → (ℕ → Bool) → List mesh.Element → Outcome → List ℕ → List ℕ → Type 0

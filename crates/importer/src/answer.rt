@@ -1,7 +1,7 @@
 // What the import call answers.
 ghost use mathlib.Core.Path.{_≡_};
-ghost use Rattle.imports.specs.Import.{importNumber};
-ghost use Rattle.importer.specs.Answer.{answered};
+ghost use Rattle.trials.specs.Trial.{numberTold};
+ghost use Rattle.importer.specs.ImportAnswers.{answered};
 use refusal::Refusal;
 
 // Done, with the sheet's length in bytes, or refused.
@@ -13,7 +13,7 @@ pub enum Imported {
 impl Imported {
     // 0 for done, or the number of the refusal.
     pub fn number(self) -> u32
-        ensures { λ r. ⌜ r ≡ importNumber (answered self) ⌝ }
+        ensures { λ r. ⌜ r ≡ numberTold (answered self) ⌝ }
     {
         match self {
             Imported::Done(_) => 0,

@@ -4,21 +4,21 @@ ghost use mathlib.Core.List.{[]};
 ghost use lib.ListN.{length};
 ghost use Rattle.cell_sets.specs.Set.{Holds};
 ghost use Rattle.mesh_format.specs.Parse.{elementLines, elementsOf};
-ghost use Rattle.mesh_elements.specs.Map.{mapLength, marked};
+ghost use Rattle.mesh_elements.specs.Map.{mapLength, inMap};
 ghost use Rattle.importer.specs.Gather.{ownCells};
 ghost use Rattle.importer.specs.Elements.{TellsElements};
 use crate::gather::Outcome;
 use crate::gather::add_element;
 use cell_sets::set::SECTIONS;
-use mesh_lines::answer::Cursor;
 use mesh_lines::answer::ElementLine;
-use mesh_lines::answer::Number;
-use mesh_lines::answer::Skipped;
 use mesh_reader::keywords::ELEMENTS;
 use mesh_reader::keywords::END_ELEMENTS;
 use mesh_reader::read::read_count;
 use mesh_reader::read::read_element;
 use mesh_reader::title::the_title;
+use mesh_words::answer::Cursor;
+use mesh_words::answer::Number;
+use mesh_words::answer::Skipped;
 
 // The outcome of gathering their cells, and where they end.
 pub enum Elements {
@@ -38,7 +38,7 @@ fn gather_elements(
 ) -> Elements
     requires { ⌜ (length (now map) ≡ mapLength) × Holds limit (now cells) (now counts) (ownCells []) ⌝ }
     ensures { λ r. ⌜
-        TellsElements limit (marked (now (map .entry))) (elementLines n (now (text .entry)) (c .at)) r (now (cells .exit)) (now (counts .exit))
+        TellsElements limit (inMap (now (map .entry))) (elementLines n (now (text .entry)) (c .at)) r (now (cells .exit)) (now (counts .exit))
         ⌝ }
 {
     let mut here = c;
@@ -66,7 +66,7 @@ pub fn read_elements(
 ) -> Elements
     requires { ⌜ (length (now map) ≡ mapLength) × Holds limit (now cells) (now counts) (ownCells []) ⌝ }
     ensures { λ r. ⌜
-        TellsElements limit (marked (now (map .entry))) (elementsOf (now (text .entry)) (c .at)) r (now (cells .exit)) (now (counts .exit))
+        TellsElements limit (inMap (now (map .entry))) (elementsOf (now (text .entry)) (c .at)) r (now (cells .exit)) (now (counts .exit))
         ⌝ }
 {
     let Skipped::To(a) = the_title(text, c, &ELEMENTS) else {

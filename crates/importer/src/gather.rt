@@ -1,7 +1,7 @@
 // The cells of the elements, gathered by dimension.
 ghost use mathlib.Core.Path.{_≡_};
 ghost use lib.ListN.{length};
-ghost use Rattle.mesh_elements.specs.Map.{mapLength, marked};
+ghost use Rattle.mesh_elements.specs.Map.{mapLength, inMap};
 ghost use Rattle.importer.specs.Gather.{Ready, AddsElement};
 use cell_sets::set::SECTIONS;
 use cell_sets::set::add_cell;
@@ -27,7 +27,7 @@ pub fn add_element(
 ) -> Outcome
     requires { ⌜ (length (now map) ≡ mapLength) × Ready limit (now cells) (now counts) before ⌝ }
     ensures { λ r. ⌜
-        AddsElement limit (marked (now (map .entry))) element before (now (cells .entry)) (now (counts .entry)) r (now (cells .exit)) (now (counts .exit))
+        AddsElement limit (inMap (now (map .entry))) element before (now (cells .entry)) (now (counts .entry)) r (now (cells .exit)) (now (counts .exit))
         ⌝ }
 {
     let checked = check_element(map, element);

@@ -8,7 +8,7 @@ ghost use Rattle.cell_sets.specs.Close.{HeldOwn};
 ghost use Rattle.imports.specs.Import.{importCall};
 ghost use Rattle.mesh_elements.specs.Listed.{Maps};
 ghost use Rattle.importer.specs.Gather.{ownCells};
-ghost use Rattle.importer.specs.Answer.{WritesClosure, ImportAnswers};
+ghost use Rattle.importer.specs.ImportAnswers.{WritesClosure, ImportAnswers};
 use crate::answer::Imported;
 use crate::elements::Elements;
 use crate::elements::read_elements;
@@ -16,13 +16,13 @@ use crate::gather::Outcome;
 use crate::nodes::read_nodes;
 use cell_sets::close::close_cells;
 use cell_sets::set::SECTIONS;
-use cell_sets::write::sheet_length;
-use cell_sets::write::write_sheet;
 use mesh_elements::map::MAP_LENGTH;
-use mesh_lines::answer::Skipped;
 use mesh_reader::head::read_head;
+use mesh_words::answer::Skipped;
 use refusal::Refusal;
 use sheet::reader::Sheet;
+use sheet_writer::write::sheet_length;
+use sheet_writer::write::write_sheet;
 
 // The words that the work array has room for.
 const CELLS: usize = SECTIONS * Sheet::LIBRARY_LIMIT;
@@ -48,7 +48,7 @@ fn write_closure(
     Imported::Done(length)
 }
 
-// The import at a count limit, with a map that marks no node and work arrays that hold no cell.
+// The import at a count limit, with a map that lists no node and work arrays that hold no cell.
 fn import_through(
     limit: usize,
     text: &[u8],

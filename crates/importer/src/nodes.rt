@@ -3,20 +3,20 @@ ghost use mathlib.Core.Path.{_≡_};
 ghost use lib.ListN.{length};
 ghost use Rattle.mesh_format.specs.Parse.{nodeLines, nodesOf};
 ghost use Rattle.mesh_elements.specs.Map.{mapLength};
-ghost use Rattle.importer.specs.Nodes.{MarksNodes};
-use mesh_elements::map::mark;
-use mesh_lines::answer::Cursor;
-use mesh_lines::answer::Number;
-use mesh_lines::answer::Skipped;
+ghost use Rattle.importer.specs.Nodes.{ListsNodes};
+use mesh_elements::map::list;
 use mesh_reader::keywords::END_NODES;
 use mesh_reader::read::read_count;
 use mesh_reader::read::read_node;
 use mesh_reader::title::the_title;
+use mesh_words::answer::Cursor;
+use mesh_words::answer::Number;
+use mesh_words::answer::Skipped;
 
-// Reads n lines of nodes, and marks each node.
-fn mark_nodes(text: &[u8], c: Cursor, n: usize, map: &mut [u8]) -> Skipped
+// Reads n lines of nodes, and lists each node.
+fn list_nodes(text: &[u8], c: Cursor, n: usize, map: &mut [u8]) -> Skipped
     requires { ⌜ length (now map) ≡ mapLength ⌝ }
-    ensures { λ r. ⌜ MarksNodes (nodeLines n (now (text .entry)) (c .at)) (now (map .entry)) (now (map .exit)) r ⌝ }
+    ensures { λ r. ⌜ ListsNodes (nodeLines n (now (text .entry)) (c .at)) (now (map .entry)) (now (map .exit)) r ⌝ }
 {
     let mut here = c;
     let mut i: usize = 0;
@@ -24,22 +24,22 @@ fn mark_nodes(text: &[u8], c: Cursor, n: usize, map: &mut [u8]) -> Skipped
         let Number::Read(node, next) = read_node(text, here) else {
             return Skipped::Malformed;
         };
-        mark(map, node);
+        list(map, node);
         here = next;
         i = i + 1;
     }
     Skipped::To(here)
 }
 
-// Reads the count, the lines of the nodes and `$EndNodes`, and marks each node.
+// Reads the count, the lines of the nodes and `$EndNodes`, and lists each node.
 pub fn read_nodes(text: &[u8], c: Cursor, map: &mut [u8]) -> Skipped
     requires { ⌜ length (now map) ≡ mapLength ⌝ }
-    ensures { λ r. ⌜ MarksNodes (nodesOf (now (text .entry)) (c .at)) (now (map .entry)) (now (map .exit)) r ⌝ }
+    ensures { λ r. ⌜ ListsNodes (nodesOf (now (text .entry)) (c .at)) (now (map .entry)) (now (map .exit)) r ⌝ }
 {
     let Number::Read(n, first) = read_count(text, c) else {
         return Skipped::Malformed;
     };
-    let Skipped::To(end) = mark_nodes(text, first, n, map) else {
+    let Skipped::To(end) = list_nodes(text, first, n, map) else {
         return Skipped::Malformed;
     };
     the_title(text, end, &END_NODES)

@@ -20,8 +20,9 @@ use Rattle.mesh_format.specs.Words.{valueFrom}
 use Rattle.mesh_format.specs.Form.{joined, MeshText}
 use Rattle.mesh_format.specs.Examples.{openFormat, format, endFormat, openNodes, endNodes, openElements, endElements}
 use Rattle.mesh_format.specs.Parse.{then, run, someBytes, word, gap, lineEnd, digitsAt, number, node, theWord, words, wordLine, titleLine, formatLine, countLine, nodeLine, nodesWithin, nodeNumbers, elementLine, nodeLines, elementLines, closingWithin, closingLine, sectionsWithin, sections, headOf, nodesOf, elementsOf, meshOf}
-use Rattle.mesh_format.specs.Accept.{mesh-iff}
-use Rattle.imports.specs.Import.{nodesOfKind, faulty, noneFaulty, elementsRight, meshIn, isMalformed, tooLong, meshChecks, Answer, done, refused, ImportCalled, answerWith, importCall, importNumber}
+use Rattle.mesh_format.proofs.Accept.{mesh-iff}
+use Rattle.trials.specs.Trial.{Answer, done, refused, numberTold}
+use Rattle.imports.specs.Import.{nodesOfKind, faulty, noneFaulty, elementsRight, meshIn, isMalformed, tooLong, meshChecks, ImportCalled, answerWith, importCall}
 
 -- ---- texts
 
@@ -128,7 +129,7 @@ table =
     ∷ told none 48 15 16
     ∷ []
 
-unfoldable pub sameAnswer : Answer → Answer → Bool
+unfoldable pub sameAnswer : Answer ℕ → Answer ℕ → Bool
 sameAnswer (done m) (done n) = eqb m n
 sameAnswer (done m) (refused n) = false
 sameAnswer (refused m) (done n) = false
@@ -180,11 +181,11 @@ unfolding joined shown line textOf every sameList some tabulate without precedes
     layout headerBytes start sectionsBytes sectionBytes cellBytes
 hollow-done = refl
 
-pub hollow-host-done : importNumber (importCall 48 hollow (lent 40) .answer) ≡ 0
+pub hollow-host-done : numberTold (importCall 48 hollow (lent 40) .answer) ≡ 0
 unfolding joined shown line textOf every sameList some tabulate without precedes
     then run someBytes word gap lineEnd digitsAt number node theWord words wordLine titleLine formatLine countLine nodeLine nodesWithin nodeNumbers elementLine
     nodeLines elementLines closingWithin closingLine sectionsWithin sections headOf nodesOf elementsOf meshOf valueFrom
     insert insertAll member repeats ofDimension facesOf closedSection closure
-    nodesOfKind faulty noneFaulty meshIn isMalformed tooLong meshChecks answerWith importCall importNumber
+    nodesOfKind faulty noneFaulty meshIn isMalformed tooLong meshChecks answerWith importCall
     layout headerBytes start sectionsBytes sectionBytes cellBytes
 hollow-host-done = refl

@@ -6,10 +6,10 @@ use lib.Dec.{eqb, ltb}
 use lib.ListN.{length, drop}
 use Rattle.lists.specs.Same.{every}
 use Rattle.complexes.specs.Complex.{Sections, count}
-use Rattle.sheet_format.specs.Layout.{top, layout}
-use Rattle.trials.specs.Trial.{first}
+use Rattle.sheet_format.specs.Layout.{layout}
+use Rattle.trials.specs.Trial.{first, Answer, done, refused}
 use Rattle.sheet_format.specs.Check.{some}
-use Rattle.closures.specs.Closure.{cellWith, closure, member, repeats}
+use Rattle.closures.specs.Closure.{elementTop, cellWith, closure, member, repeats}
 use Rattle.mesh_format.specs.Mesh.{Element, Mesh}
 use Rattle.mesh_format.specs.Parse.{Parsed, malformed, parsed, meshOf}
 
@@ -40,7 +40,7 @@ nodeLists es = map (λ e. e .nodes) es
 
 -- the cells of the elements and their nonempty subsets, by dimension
 abbrev pub complexOf : List Element → Sections
-complexOf es = closure top (map cellWith (nodeLists es))
+complexOf es = closure elementTop (map cellWith (nodeLists es))
 
 -- ---- the checks
 
@@ -55,7 +55,7 @@ isMalformed (parsed m at) = false
 
 -- the sheet of the cells K is longer than the room for it, or a count exceeds its limit
 unfoldable pub tooLong : ℕ → ℕ → Sections → Bool
-tooLong limit room K = ltb room (length (layout K)) || some (suc top) (λ p. ltb limit (count K p))
+tooLong limit room K = ltb room (length (layout K)) || some (suc elementTop) (λ p. ltb limit (count K p))
 
 -- 14 to 16, for a text that tells the mesh m, at the count limit, with room for so many bytes
 unfoldable pub meshChecks : ℕ → ℕ → Parsed Mesh → List (ℕ × Bool)
@@ -66,14 +66,9 @@ meshChecks limit room m =
 
 -- ---- what the call answers and leaves
 
--- done, with the sheet's length in bytes, or refused with a number
-pub data Answer : Type 0 where
-  done : ℕ → Answer
-  refused : ℕ → Answer
-
--- the answer, and the slice lent for the sheet as the call leaves it
+-- the answer, done with the sheet's length in bytes or refused, and the slice lent for the sheet as the call leaves it
 pub record ImportCalled : Type 0 where
-  pub answer : Answer
+  pub answer : Answer ℕ
   pub output : List ℕ
 
 -- refused with the number, unless it is 0: the slice is left alone. Else the bytes are written from its start on, and it is untouched past them.
@@ -85,8 +80,3 @@ answerWith (suc n) bytes sheet = record { answer = refused (suc n); output = she
 unfoldable pub importCall : ℕ → List ℕ → List ℕ → ImportCalled
 importCall limit text sheet =
     answerWith (first (meshChecks limit (length sheet) (meshOf text))) (layout (complexOf (meshIn (meshOf text) .elements))) sheet
-
--- 0 for done, or the number of the refusal
-unfoldable pub importNumber : Answer → ℕ
-importNumber (done n) = 0
-importNumber (refused n) = n

@@ -5,7 +5,7 @@ ghost use Rattle.reports.specs.Lists.{coordinateListsCall};
 ghost use Rattle.limits.specs.Limits.{libraryLimit};
 ghost use Rattle.calls.specs.Answer.{answered};
 ghost use Rattle.imports.specs.Import.{importCall};
-ghost use Rattle.importer.specs.Answer.{ImportTold};
+ghost use Rattle.importer.specs.ImportAnswers.{ImportTold};
 ghost use Rattle.library_host.specs.Answer.{numberTold, LibraryAnswers, HeadroomAnswers};
 use calls::answer::Answer;
 

@@ -11,7 +11,7 @@ use lib.Seq.{take-all}
 use borrow.Author.Tests.{ne-eqb}
 use Rattle.complexes.specs.Packed.{wordVertices, packed, Numbered}
 use Rattle.closures.specs.Closure.{cellWith}
-use Rattle.closures.specs.CellWithLaws.{repeats-length, cellWith-whole}
+use Rattle.closures.proofs.CellWithLaws.{repeats-length, cellWith-whole}
 use Rattle.cells.specs.Word.{Packs}
 use Rattle.cell_sets.specs.Vertices.{Sorts}
 use Rattle.mesh_format.specs.Mesh as mesh
@@ -19,10 +19,10 @@ use Rattle.imports.specs.Import.{nodesOfKind}
 use Rattle.refusal.specs.declared.Refusal.{Refusal}
 use Rattle.refusal.specs.declared.Refusal.the-variants.{ElementFaulty}
 use Rattle.mesh_lines.specs.declared.answer.Element.{Element}
-use Rattle.mesh_lines.specs.Answer.{TellsElement}
-use Rattle.mesh_elements.specs.Map.{marked}
+use Rattle.mesh_lines.specs.Tells.{TellsElement}
+use Rattle.mesh_elements.specs.Map.{inMap}
 use Rattle.mesh_elements.specs.Kind.{IsSimplex, IsKind}
-use Rattle.mesh_elements.specs.Listed.{AllMarked}
+use Rattle.mesh_elements.specs.Listed.{AllListed}
 use Rattle.mesh_elements.specs.Element.{Checks}
 use Rattle.mesh_elements.specs.declared.kind.Simplex.{Simplex}
 use Rattle.mesh_elements.specs.declared.kind.Kind.the-variants as kind
@@ -62,35 +62,35 @@ module _ (map : List ℕ) (x : Element) (s : Simplex) (h : IsSimplex (x .kind) s
     kind-many : nodesOfKind (e .kind) ≡ s .vertices
     kind-many = ap nodesOfKind (sym (t .kind-is)) ∙ h .many
 
-  pub refused-unlisted : AllMarked map (x .word) (s .vertices) false → Checks (marked map) x (Refused ElementFaulty)
+  pub refused-unlisted : AllListed map (x .word) (s .vertices) false → Checks (inMap map) x (Refused ElementFaulty)
   refused-unlisted m = record {
     dimension-is = tt;
     checks = λ e t n.
         let w : Packs (s .vertices) (e .nodes) (x .word) = words e t n in
-        (fault-unlisted (marked map) e (sym (m (e .nodes) (w .sized) n (sym (w .is)))), refl);
+        (fault-unlisted (inMap map) e (sym (m (e .nodes) (w .sized) n (sym (w .is)))), refl);
   }
 
   module _ (r many : ℕ) (sorts : Sorts (s .vertices) (x .word) r many) where
-    pub refused-twice : many ≢ s .vertices → Checks (marked map) x (Refused ElementFaulty)
+    pub refused-twice : many ≢ s .vertices → Checks (inMap map) x (Refused ElementFaulty)
     refused-twice d = record {
       dimension-is = tt;
       checks = λ e t n.
           let w : Packs (s .vertices) (e .nodes) (x .word) = words e t n in
           let c : Packs many (cellWith (e .nodes)) r = sorts (e .nodes) w in (
-            fault-twice (marked map) e
+            fault-twice (inMap map) e
                 (repeats-length (e .nodes)
                 ∙ ap not (ne-eqb (length (cellWith (e .nodes))) (length (e .nodes)) (λ q. d (sym (c .sized) ∙ q ∙ w .sized)))),
             refl,
           );
     }
 
-    pub right : AllMarked map (x .word) (s .vertices) true → many ≡ s .vertices → Checks (marked map) x (Cell (s .dimension) r)
+    pub right : AllListed map (x .word) (s .vertices) true → many ≡ s .vertices → Checks (inMap map) x (Cell (s .dimension) r)
     right m q = record {
       dimension-is = h .dimension-is;
       checks = λ e t n.
           let w : Packs (s .vertices) (e .nodes) (x .word) = words e t n in
           let c : Packs many (cellWith (e .nodes)) r = sorts (e .nodes) w in (
-            no-fault (marked map) e (λ z. omega (arith, kind-many e t n, z, h .vertices-are)) (w .sized ∙ sym (kind-many e t n))
+            no-fault (inMap map) e (λ z. omega (arith, kind-many e t n, z, h .vertices-are)) (w .sized ∙ sym (kind-many e t n))
                 (sym (m (e .nodes) (w .sized) n (sym (w .is))))
                 (cellWith-whole (e .nodes) .1 (c .sized ∙ q ∙ sym (w .sized))),
             record { sized = c .sized ∙ q ∙ h .vertices-are; numbered = c .numbered; is = c .is },

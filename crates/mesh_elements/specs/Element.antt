@@ -3,14 +3,13 @@ use mathlib.Core.Path.{_≡_}
 use mathlib.Core.Bool.{Bool, true, false}
 use Prim.Native.Nat.{ℕ, suc, _≤_}
 use Rattle.complexes.specs.Packed.{Numbered}
-use Rattle.sheet_format.specs.Layout.{top}
-use Rattle.closures.specs.Closure.{cellWith}
+use Rattle.closures.specs.Closure.{elementTop, cellWith}
 use Rattle.cells.specs.Word.{Packs}
 use Rattle.mesh_format.specs.Mesh as mesh
 use Rattle.imports.specs.Import.{faulty}
 use Rattle.refusal.specs.Number.{numberOf}
 use Rattle.mesh_lines.specs.declared.answer.Element.{Element}
-use Rattle.mesh_lines.specs.Answer.{TellsElement}
+use Rattle.mesh_lines.specs.Tells.{TellsElement}
 use Rattle.mesh_elements.specs.declared.element.Checked.{Checked}
 use Rattle.mesh_elements.specs.declared.element.Checked.the-variants.{Cell, Refused}
 
@@ -19,9 +18,9 @@ abbrev pub ChecksElement : (ℕ → Bool) → mesh.Element → Checked → Type 
 ChecksElement isListed e (Cell p w) = (faulty isListed e ≡ false) × Packs (suc p) (cellWith (e .nodes)) w
 ChecksElement isListed e (Refused x) = (faulty isListed e ≡ true) × (numberOf x ≡ 15)
 
--- a dimension is one of the sheet's
+-- a dimension is one of an element's
 abbrev pub InTop : Checked → Type 0
-InTop (Cell p w) = p ≤ top
+InTop (Cell p w) = p ≤ elementTop
 InTop (Refused x) = Unit {0}
 
 -- .. told from the line of the element

@@ -1,7 +1,7 @@
 -- What the kind of an element tells.
 use mathlib.Core.Path.{_≡_}
 use Prim.Native.Nat.{ℕ, suc, _≤_}
-use Rattle.sheet_format.specs.Layout.{top}
+use Rattle.closures.specs.Closure.{elementTop}
 use Rattle.imports.specs.Import.{nodesOfKind}
 use Rattle.refusal.specs.Number.{numberOf}
 use Rattle.mesh_elements.specs.declared.kind.Simplex.{Simplex}
@@ -12,7 +12,7 @@ use Rattle.mesh_elements.specs.declared.kind.Kind.the-variants.{Known, R
 pub record IsSimplex (k : ℕ) (s : Simplex) : Type 0 where
   pub many : nodesOfKind k ≡ s .vertices
   pub vertices-are : s .vertices ≡ suc (s .dimension)
-  pub dimension-is : s .dimension ≤ top
+  pub dimension-is : s .dimension ≤ elementTop
 
 -- the simplex of the kind k, or refusal 15 for every other number
 abbrev pub IsKind : ℕ → Kind → Type 0

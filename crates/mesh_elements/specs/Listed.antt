@@ -8,13 +8,13 @@ use Rattle.lists.specs.Same.{every}
 use Rattle.complexes.specs.Complex.{vertexBound}
 use Rattle.complexes.specs.Packed.{packed, Numbered}
 use Rattle.closures.specs.Closure.{member}
-use Rattle.mesh_elements.specs.Map.{mapLength, marked}
+use Rattle.mesh_elements.specs.Map.{mapLength, inMap}
 
--- r tells whether all nodes of a list of n are marked, from the word w of the list
-abbrev pub AllMarked : List ℕ → ℕ → ℕ → Bool → Type 0
-AllMarked map w n r = (nodes : List ℕ) → length nodes ≡ n → Numbered nodes → packed nodes ≡ w → r ≡ every (marked map) nodes
+-- r tells whether all nodes of a list of n are listed, from the word w of the list
+abbrev pub AllListed : List ℕ → ℕ → ℕ → Bool → Type 0
+AllListed map w n r = (nodes : List ℕ) → length nodes ≡ n → Numbered nodes → packed nodes ≡ w → r ≡ every (inMap map) nodes
 
--- the map marks exactly the nodes that are listed
+-- the map has exactly the nodes that are listed
 pub record Maps (map listed : List ℕ) : Type 0 where
   pub sized : length map ≡ mapLength
-  pub marks : (v : ℕ) → v < vertexBound → marked map v ≡ member v listed
+  pub lists : (v : ℕ) → v < vertexBound → inMap map v ≡ member v listed

@@ -20,12 +20,12 @@ pub record SetsBit (k x y : ℕ) : Type 0 where
   pub here : bitOf y k ≡ true
   pub elsewhere : (j : ℕ) → j < 8 → j ≢ k → bitOf y j ≡ bitOf x j
 
--- the node v is marked
-abbrev pub marked : List ℕ → ℕ → Bool
-marked map v = bitOf (getD map (v / 8) 0) (v % 8)
+-- the node v is in the map
+abbrev pub inMap : List ℕ → ℕ → Bool
+inMap map v = bitOf (getD map (v / 8) 0) (v % 8)
 
--- the map `after` is the map `before` with the node v marked too
-pub record Marks (v : ℕ) (before after : List ℕ) : Type 0 where
+-- the map `after` is the map `before` with the node v too
+pub record Lists (v : ℕ) (before after : List ℕ) : Type 0 where
   pub sized : length after ≡ length before
-  pub here : marked after v ≡ true
-  pub elsewhere : (u : ℕ) → u ≢ v → marked after u ≡ marked before u
+  pub here : inMap after v ≡ true
+  pub elsewhere : (u : ℕ) → u ≢ v → inMap after u ≡ inMap before u

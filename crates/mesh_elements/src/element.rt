@@ -1,11 +1,11 @@
 // Whether an element is right: document 02, refusal 15.
 ghost use mathlib.Core.Path.{_≡_};
 ghost use lib.ListN.{length};
-ghost use Rattle.mesh_elements.specs.Map.{mapLength, marked};
+ghost use Rattle.mesh_elements.specs.Map.{mapLength, inMap};
 ghost use Rattle.mesh_elements.specs.Element.{Checks};
 use crate::kind::Kind;
 use crate::kind::kind_of;
-use crate::listed::all_marked;
+use crate::listed::all_listed;
 use cell_sets::vertices::sort_vertices;
 use mesh_lines::answer::Element;
 use refusal::Refusal;
@@ -16,10 +16,10 @@ pub enum Checked {
     Refused(Refusal),
 }
 
-// Whether the element is right, its nodes being listed where the map marks them.
+// Whether the element is right, its nodes being listed where the map has them.
 pub fn check_element(map: &[u8], element: Element) -> Checked
     requires { ⌜ length (now map) ≡ mapLength ⌝ }
-    ensures { λ r. ⌜ Checks (marked (now (map .entry))) element r ⌝ }
+    ensures { λ r. ⌜ Checks (inMap (now (map .entry))) element r ⌝ }
 {
     let kind = kind_of(element.kind);
     let simplex = match kind {
@@ -30,7 +30,7 @@ pub fn check_element(map: &[u8], element: Element) -> Checked
     if element.many != n {
         return Checked::Refused(Refusal::ElementFaulty);
     }
-    if !all_marked(map, element.word, n) {
+    if !all_listed(map, element.word, n) {
         return Checked::Refused(Refusal::ElementFaulty);
     }
     let sorted = sort_vertices(element.word, n);

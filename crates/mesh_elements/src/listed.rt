@@ -4,19 +4,19 @@ ghost use Prim.Native.Nat.{_≤_};
 ghost use lib.ListN.{length};
 ghost use Rattle.complexes.specs.Packed.{wordVertices};
 ghost use Rattle.mesh_elements.specs.Map.{mapLength};
-ghost use Rattle.mesh_elements.specs.Listed.{AllMarked};
-use crate::map::is_marked;
-use mesh_lines::number::NODE_BOUND;
+ghost use Rattle.mesh_elements.specs.Listed.{AllListed};
+use crate::map::is_listed;
+use mesh_words::number::NODE_BOUND;
 
-// Whether all n nodes of the word are marked.
-pub fn all_marked(map: &[u8], word: u64, n: usize) -> bool
+// Whether all n nodes of the word are listed.
+pub fn all_listed(map: &[u8], word: u64, n: usize) -> bool
     requires { ⌜ (n ≤ wordVertices) × (length (now map) ≡ mapLength) ⌝ }
-    ensures { λ r. ⌜ AllMarked (now (map .entry)) word n r ⌝ }
+    ensures { λ r. ⌜ AllListed (now (map .entry)) word n r ⌝ }
 {
     let mut rest = word;
     let mut i: usize = 0;
     while i < n {
-        if !is_marked(map, (rest % NODE_BOUND as u64) as usize) {
+        if !is_listed(map, (rest % NODE_BOUND as u64) as usize) {
             return false;
         }
         rest = rest / NODE_BOUND as u64;

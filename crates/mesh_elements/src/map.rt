@@ -3,8 +3,8 @@ ghost use mathlib.Core.Path.{_≡_};
 ghost use Prim.Native.Nat.{_^_, _<_};
 ghost use lib.ListN.{length};
 ghost use Rattle.complexes.specs.Complex.{vertexBound};
-ghost use Rattle.mesh_elements.specs.Map.{mapLength, bitOf, marked, SetsBit, Marks};
-use mesh_lines::number::NODE_BOUND;
+ghost use Rattle.mesh_elements.specs.Map.{mapLength, bitOf, inMap, SetsBit, Lists};
+use mesh_words::number::NODE_BOUND;
 
 // The bytes of the map.
 pub const MAP_LENGTH: usize = NODE_BOUND / 8;
@@ -37,18 +37,18 @@ fn with_bit(byte: u8, k: usize) -> u8
     }
 }
 
-// Whether the node is marked.
-pub fn is_marked(map: &[u8], node: usize) -> bool
+// Whether the node is listed.
+pub fn is_listed(map: &[u8], node: usize) -> bool
     requires { ⌜ (node < vertexBound) × (length (now map) ≡ mapLength) ⌝ }
-    ensures { λ r. ⌜ r ≡ marked (now (map .entry)) node ⌝ }
+    ensures { λ r. ⌜ r ≡ inMap (now (map .entry)) node ⌝ }
 {
     has_bit(map[node / 8], node % 8)
 }
 
-// Marks the node.
-pub fn mark(map: &mut [u8], node: usize)
+// Lists the node.
+pub fn list(map: &mut [u8], node: usize)
     requires { ⌜ (node < vertexBound) × (length (now map) ≡ mapLength) ⌝ }
-    ensures { λ r. ⌜ Marks node (now (map .entry)) (now (map .exit)) ⌝ }
+    ensures { λ r. ⌜ Lists node (now (map .entry)) (now (map .exit)) ⌝ }
 {
     let i = node / 8;
     map[i] = with_bit(map[i], node % 8);

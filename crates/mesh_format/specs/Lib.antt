@@ -3,17 +3,4 @@ pub mod Mesh
 pub mod Words
 pub mod Form
 pub mod Parse
-pub mod ReadLaws
-pub mod Spans
-pub mod RunLaws
-pub mod WordLaws
-pub mod StepLaws
-pub mod LineLaws
-pub mod ElementLaws
-pub mod LinesLaws
-pub mod ClosingLaws
-pub mod SectionLaws
-pub mod PartLaws
-pub mod Accept
-pub mod WalkLaws
 pub mod Examples

@@ -1,6 +1,3 @@
--- What the proofs of the crate and of those above it share: runs of bytes, steps of reading, and what answers tell of readings.
-pub mod Runs
-pub mod Steps
+-- What the proofs of the crate and of those above it share: what answers tell of readings.
 pub mod Told
-mod Digits
 mod NodeNumbers

@@ -18,13 +18,13 @@ use Rattle.complexes.specs.Complex.{vertexBound}
 use Rattle.complexes.specs.Packed.{wordVertices, packed}
 use Rattle.complexes.specs.PackedLaws.{packed-append}
 use Rattle.mesh_format.specs.Parse.{Parsed, malformed, parsed, then, gap, number, node, lineEnd, nodeNumbers}
-use Rattle.mesh_format.specs.ReadLaws.{Within, parsed-inj, then-case, cond-split, then-within, later-within}
-use Rattle.mesh_format.specs.StepLaws.{gap-within, node-within, nodeNumbers-step}
-use Rattle.mesh_lines.specs.Class.{standsAt}
-use Rattle.mesh_lines.specs.Steps.{spaced}
-use Rattle.mesh_lines.specs.declared.run.Class.the-variants.{Space}
-use Rattle.mesh_lines.proofs.Runs.{stands-true, stands-byte}
-use Rattle.mesh_lines.proofs.Steps.{fails, goes, spaced-then}
+use Rattle.mesh_format.proofs.ReadLaws.{Within, parsed-inj, then-case, cond-split, then-within, later-within}
+use Rattle.mesh_format.proofs.StepLaws.{gap-within, node-within, nodeNumbers-step}
+use Rattle.mesh_words.specs.Class.{standsAt}
+use Rattle.mesh_words.specs.Steps.{spaced}
+use Rattle.mesh_words.specs.declared.run.Class.the-variants.{Space}
+use Rattle.mesh_words.proofs.Runs.{stands-true, stands-byte}
+use Rattle.mesh_words.proofs.Steps.{fails, goes, spaced-then}
 
 -- ---- a node number after spaces
 

@@ -1,7 +1,6 @@
--- What an answer says of the reading that it tells, and the other way.
---     skipped-malformed, skipped-to, number-malformed, number-read,
---     title-malformed, title-read, element-malformed, element-read          the reading, from the answer
---     skipped-fails, skipped-goes, number-fails, number-goes, title-fails, element-fails     the answer, from the reading
+-- What an answer says of the reading of a line that it tells, and the other way.
+--     title-malformed, title-read, element-malformed, element-read     the reading, from the answer
+--     title-fails, element-fails                                       the answer, from the reading
 use mathlib.Core.Path.{_≡_, refl, sym, ap, _∙_}
 use mathlib.Core.List.{List}
 use Prim.Native.Nat.{ℕ, _+_, _-_}
@@ -10,44 +9,19 @@ use lib.ListN.{length, take}
 use Rattle.complexes.specs.Packed.{wordVertices, packed}
 use Rattle.mesh_format.specs.Mesh as mesh
 use Rattle.mesh_format.specs.Parse.{Parsed, malformed, parsed, part, word, lineEnd, wordLine}
-use Rattle.mesh_format.specs.ReadLaws.{parsed-inj, then-case}
-use Rattle.mesh_lines.specs.Answer.{tellSkipped, tellNumber, tellTitle, tellElement, TellsElement}
-use Rattle.mesh_lines.specs.Class.{someOf}
-use Rattle.mesh_lines.specs.Steps.{skip}
-use Rattle.mesh_lines.specs.declared.answer.Cursor.{Cursor}
+use Rattle.mesh_format.proofs.ReadLaws.{parsed-inj, then-case}
+use Rattle.mesh_words.specs.Class.{someOf}
+use Rattle.mesh_words.specs.Steps.{skip}
+use Rattle.mesh_words.specs.declared.answer.Cursor.{Cursor}
+use Rattle.mesh_words.proofs.Steps.{goes, word-reads}
+use Rattle.mesh_lines.specs.Tells.{tellTitle, tellElement, TellsElement}
 use Rattle.mesh_lines.specs.declared.answer.Element.{Element}
-use Rattle.mesh_lines.specs.declared.answer.Skipped.{Skipped}
-use Rattle.mesh_lines.specs.declared.answer.Skipped.the-variants as skipped
-use Rattle.mesh_lines.specs.declared.answer.Number.{Number}
-use Rattle.mesh_lines.specs.declared.answer.Number.the-variants as number
 use Rattle.mesh_lines.specs.declared.answer.Title.{Title}
 use Rattle.mesh_lines.specs.declared.answer.Title.the-variants as title
 use Rattle.mesh_lines.specs.declared.answer.ElementLine.{ElementLine}
 use Rattle.mesh_lines.specs.declared.answer.ElementLine.the-variants as element
-use Rattle.mesh_lines.proofs.Steps.{goes, word-reads}
 
 -- ---- the reading, from the answer
-
-pub skipped-malformed : {r : Skipped} {p : Parsed Unit} → r ≡ tellSkipped p → r ≡ skipped.Malformed → p ≡ malformed
-unfolding tellSkipped
-skipped-malformed {p = malformed} h e = refl
-skipped-malformed {p = parsed x at} h e = absurd (let z : _≡_ {A = ℕ} 0 1 = cc in omega arith)
-
-pub skipped-to : {r : Skipped} {p : Parsed Unit} {c : Cursor} → r ≡ tellSkipped p → r ≡ skipped.To c → p ≡ parsed tt (c .at)
-unfolding tellSkipped
-skipped-to {p = malformed} h e = absurd (let z : _≡_ {A = ℕ} 0 1 = cc in omega arith)
-skipped-to {p = parsed tt at} {c = c} h e = let q : record { at = at } ≡ c = cc in ap (λ (k : Cursor). parsed tt (k .at)) q
-
-pub number-malformed : {r : Number} {p : Parsed ℕ} → r ≡ tellNumber p → r ≡ number.Malformed → p ≡ malformed
-unfolding tellNumber
-number-malformed {p = malformed} h e = refl
-number-malformed {p = parsed x at} h e = absurd (let z : _≡_ {A = ℕ} 0 1 = cc in omega arith)
-
-pub number-read : {r : Number} {p : Parsed ℕ} {v : ℕ} {c : Cursor} → r ≡ tellNumber p → r ≡ number.Read v c → p ≡ parsed v (c .at)
-unfolding tellNumber
-number-read {p = malformed} h e = absurd (let z : _≡_ {A = ℕ} 0 1 = cc in omega arith)
-number-read {p = parsed x at} {v = v} {c = c} h e =
-    let z : x ≡ v = cc in let q : record { at = at } ≡ c = cc in rw z (ap (λ (k : Cursor). parsed v (k .at)) q)
 
 pub title-malformed : (from : ℕ) {r : Title} {p : Parsed (List ℕ)} → r ≡ tellTitle from p → r ≡ title.Malformed → p ≡ malformed
 unfolding tellTitle
@@ -113,22 +87,6 @@ element-read {p = parsed x at} {e = e} {c = c} h f =
     }
 
 -- ---- the answer, from the reading
-
-pub skipped-fails : {p : Parsed Unit} → p ≡ malformed → skipped.Malformed ≡ tellSkipped p
-unfolding tellSkipped
-skipped-fails e = rw e
-
-pub skipped-goes : {p : Parsed Unit} {c : Cursor} → p ≡ parsed tt (c .at) → skipped.To c ≡ tellSkipped p
-unfolding tellSkipped
-skipped-goes e = rw e
-
-pub number-fails : {p : Parsed ℕ} → p ≡ malformed → number.Malformed ≡ tellNumber p
-unfolding tellNumber
-number-fails e = rw e
-
-pub number-goes : {p : Parsed ℕ} {v : ℕ} {c : Cursor} → p ≡ parsed v (c .at) → number.Read v c ≡ tellNumber p
-unfolding tellNumber
-number-goes e = rw e
 
 pub title-fails : (from : ℕ) {p : Parsed (List ℕ)} → p ≡ malformed → title.Malformed ≡ tellTitle from p
 unfolding tellTitle

@@ -1,19 +1,5 @@
-// What reading tells: what was read with the position behind it, or that the text is not of the form.
-
-// A position in a text.
-pub struct Cursor {
-    pub at: usize,
-}
-
-pub enum Skipped {
-    Malformed,
-    To(Cursor),
-}
-
-pub enum Number {
-    Malformed,
-    Read(usize, Cursor),
-}
+// What reading a line tells: what was read with the position behind it, or that the text is not of the form.
+use mesh_words::answer::Cursor;
 
 // The end of a word that starts where reading began, and the position behind its line.
 pub enum Title {

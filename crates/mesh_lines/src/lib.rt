@@ -2,6 +2,3 @@
 pub mod answer;
 pub mod line;
 pub mod nodes;
-pub mod number;
-pub mod run;
-pub mod word;

@@ -1,21 +1,22 @@
 // The lines of a mesh text.
 ghost use mathlib.Core.Path.{_≡_};
 ghost use Rattle.mesh_format.specs.Parse.{lineEnd, wordLine, formatLine, countLine, nodeLine, elementLine};
-ghost use Rattle.mesh_lines.specs.Answer.{tellSkipped, tellNumber, tellTitle, tellElement};
-use crate::answer::Cursor;
+ghost use Rattle.mesh_words.specs.Tells.{tellSkipped, tellNumber};
+ghost use Rattle.mesh_lines.specs.Tells.{tellTitle, tellElement};
 use crate::answer::ElementLine;
-use crate::answer::Number;
-use crate::answer::Skipped;
 use crate::answer::Title;
 use crate::nodes::nodes_at;
-use crate::number::node_number_at;
-use crate::number::number_after;
-use crate::number::number_at;
-use crate::run::Class;
-use crate::run::stands;
-use crate::word::some_of;
-use crate::word::the_word;
-use crate::word::words_at;
+use mesh_words::answer::Cursor;
+use mesh_words::answer::Number;
+use mesh_words::answer::Skipped;
+use mesh_words::number::node_number_at;
+use mesh_words::number::number_after;
+use mesh_words::number::number_at;
+use mesh_words::run::Class;
+use mesh_words::run::stands;
+use mesh_words::word::some_of;
+use mesh_words::word::the_word;
+use mesh_words::word::words_at;
 
 // A line feed, with or without a carriage return.
 pub fn end_at(text: &[u8], c: Cursor) -> Skipped

@@ -1,17 +1,17 @@
 // The node numbers of an element line.
 ghost use mathlib.Core.Path.{_≡_};
-ghost use Rattle.mesh_lines.specs.Answer.{tellElement};
-ghost use Rattle.mesh_lines.specs.Steps.{elementNodes};
-use crate::answer::Cursor;
+ghost use Rattle.mesh_lines.specs.Tells.{tellElement};
+ghost use Rattle.mesh_lines.specs.Nodes.{elementNodes};
 use crate::answer::Element;
 use crate::answer::ElementLine;
-use crate::answer::Number;
-use crate::answer::Skipped;
 use crate::line::end_at;
-use crate::number::NODE_BOUND;
-use crate::number::node_number_after;
-use crate::run::Class;
-use crate::run::stands;
+use mesh_words::answer::Cursor;
+use mesh_words::answer::Number;
+use mesh_words::answer::Skipped;
+use mesh_words::number::NODE_BOUND;
+use mesh_words::number::node_number_after;
+use mesh_words::run::Class;
+use mesh_words::run::stands;
 
 // The word of a cell has room for this many nodes, each a digit to the base BASE.
 const WORD_VERTICES: usize = 4;

@@ -13,9 +13,9 @@ use lib.ListN.{length, getD, drop, length-append}
 use borrow.Author.Tests.{lt-ltb, le-ltb}
 use Rattle.mesh_format.specs.Words.{carriageReturn, isLineFeed, ending}
 use Rattle.mesh_format.specs.Parse.{malformed, parsed, run, part, sameWord, isLineOf, closingLine}
-use Rattle.mesh_format.specs.StepLaws.{closingLine-step}
-use Rattle.mesh_lines.specs.Class.{standsAt}
-use Rattle.mesh_lines.specs.declared.run.Class.the-variants.{CarriageReturn}
+use Rattle.mesh_format.proofs.StepLaws.{closingLine-step}
+use Rattle.mesh_words.specs.Class.{standsAt}
+use Rattle.mesh_words.specs.declared.run.Class.the-variants.{CarriageReturn}
 use Rattle.mesh_reader.proofs.Parts.{same-append, same-sized, same-last, part-append, part-last, part-length}
 
 -- $End

@@ -22,7 +22,7 @@ use denote.Signature.{plain, namedLft}
 use denote.Triple.Clauses.{Ended, Clauses, closing}
 use denote.Triple.Spec.{tripleOf}
 use denote.Triple.Statement.{Contract}
-use Rattle.mesh_lines.proofs.answer.Cursor as Cursor
+use Rattle.mesh_words.proofs.answer.Cursor as Cursor
 use Rattle.mesh_reader.proofs.reader.Reader as Reader
 
 -- the answer's type, to the logic and to MIR, and the answer

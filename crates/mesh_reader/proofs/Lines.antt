@@ -3,14 +3,15 @@ use mathlib.Core.List.{List}
 use Prim.Native.Nat.{ℕ}
 use denote.Enum.Laws as EL
 use Rattle.mesh_format.specs.Parse.{formatLine, wordLine, countLine, nodeLine, elementLine}
-use Rattle.mesh_lines.specs.Answer.{tellSkipped, tellTitle, tellNumber, tellElement}
-use Rattle.mesh_lines.proofs.answer.Skipped as Skipped′
-use Rattle.mesh_lines.proofs.answer.Skipped.Laws as Skipped″
+use Rattle.mesh_words.specs.Tells.{tellSkipped, tellNumber}
+use Rattle.mesh_lines.specs.Tells.{tellTitle, tellElement}
+use Rattle.mesh_words.proofs.answer.Skipped as Skipped′
+use Rattle.mesh_words.proofs.answer.Skipped.Laws as Skipped″
 use Rattle.mesh_lines.proofs.answer.Title as Title′
 use Rattle.mesh_lines.proofs.answer.Title.Laws as Title″
-use Rattle.mesh_lines.specs.declared.answer.Number.{Number}
-use Rattle.mesh_lines.proofs.answer.Number as Number′
-use Rattle.mesh_lines.proofs.answer.Number.Laws as Number″
+use Rattle.mesh_words.specs.declared.answer.Number.{Number}
+use Rattle.mesh_words.proofs.answer.Number as Number′
+use Rattle.mesh_words.proofs.answer.Number.Laws as Number″
 use Rattle.mesh_lines.proofs.answer.ElementLine as ElementLine′
 use Rattle.mesh_lines.proofs.answer.ElementLine.Laws as ElementLine″
 use Rattle.mesh_reader.proofs.Line.{Line}

@@ -16,9 +16,9 @@ use denote.Ref.{RefT}
 use denote.Slice.{sliceVal, ShrSlice, shr-slice-copy}
 use denote.Steps.{nothing}
 use denote.Struct.Laws as LL
-use Rattle.mesh_lines.specs.declared.answer.Cursor.{Cursor}
-use Rattle.mesh_lines.proofs.answer.Cursor as P
-use Rattle.mesh_lines.proofs.answer.Cursor.Laws as P′
+use Rattle.mesh_words.specs.declared.answer.Cursor.{Cursor}
+use Rattle.mesh_words.proofs.answer.Cursor as P
+use Rattle.mesh_words.proofs.answer.Cursor.Laws as P′
 
 -- a share of the lifetime's token
 abbrev pub token : {M : Type 1} {𝓤 : URA M} → Lft → Share → Item 𝓤

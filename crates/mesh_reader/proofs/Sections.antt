@@ -14,15 +14,17 @@ use lib.Seq.{take-all}
 use borrow.Author.Tests.{ltb-true}
 use Rattle.mesh_format.specs.Words.{meshFormatName, nodesName, elementsName, opening, ending}
 use Rattle.mesh_format.specs.Parse.{malformed, parsed, then, part, sameWord, wordLine, closingLine, opensSection, sections}
-use Rattle.mesh_format.specs.ReadLaws.{Within}
-use Rattle.mesh_format.specs.StepLaws.{wordLine-within, closingLine-within, sections-step}
-use Rattle.mesh_lines.specs.Answer.{tellSkipped, tellTitle}
-use Rattle.mesh_lines.specs.declared.answer.Cursor.{Cursor}
-use Rattle.mesh_lines.specs.declared.answer.Skipped.{Skipped}
-use Rattle.mesh_lines.specs.declared.answer.Skipped.the-variants as skipped
+use Rattle.mesh_format.proofs.ReadLaws.{Within}
+use Rattle.mesh_format.proofs.StepLaws.{wordLine-within, closingLine-within, sections-step}
+use Rattle.mesh_words.specs.Tells.{tellSkipped}
+use Rattle.mesh_lines.specs.Tells.{tellTitle}
+use Rattle.mesh_words.specs.declared.answer.Cursor.{Cursor}
+use Rattle.mesh_words.specs.declared.answer.Skipped.{Skipped}
+use Rattle.mesh_words.specs.declared.answer.Skipped.the-variants as skipped
 use Rattle.mesh_lines.specs.declared.answer.Title.{Title}
 use Rattle.mesh_lines.specs.declared.answer.Title.the-variants as title
-use Rattle.mesh_lines.proofs.Told.{skipped-malformed, skipped-to, title-read}
+use Rattle.mesh_words.proofs.Told.{skipped-malformed, skipped-to}
+use Rattle.mesh_lines.proofs.Told.{title-read}
 
 -- ---- the line and its word
 

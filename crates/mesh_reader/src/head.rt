@@ -1,7 +1,7 @@
 // What stands before the nodes.
 ghost use mathlib.Core.Path.{_≡_};
 ghost use Rattle.mesh_format.specs.Parse.{sections, headOf};
-ghost use Rattle.mesh_lines.specs.Answer.{tellSkipped};
+ghost use Rattle.mesh_words.specs.Tells.{tellSkipped};
 use crate::keywords::END_MESH_FORMAT;
 use crate::keywords::MESH_FORMAT;
 use crate::opening::opens_nodes;
@@ -10,9 +10,9 @@ use crate::read::read_format;
 use crate::read::read_title;
 use crate::section::pass_section;
 use crate::title::the_title;
-use mesh_lines::answer::Cursor;
-use mesh_lines::answer::Skipped;
 use mesh_lines::answer::Title;
+use mesh_words::answer::Cursor;
+use mesh_words::answer::Skipped;
 
 // The sections to be passed over, and behind them the line `$Nodes`.
 fn pass_sections(text: &[u8], c: Cursor) -> Skipped

@@ -5,7 +5,7 @@ ghost use Rattle.mesh_format.specs.Parse.{sameWord, opensSection};
 use crate::keywords::ELEMENTS;
 use crate::keywords::MESH_FORMAT;
 use crate::keywords::NODES;
-use mesh_lines::word::is_word;
+use mesh_words::word::is_word;
 
 // Whether the two words are the same.
 fn same(w: &[u8], v: &[u8]) -> bool

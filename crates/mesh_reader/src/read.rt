@@ -1,18 +1,19 @@
 // The line at a position of a mesh text: each function opens a reader there.
 ghost use mathlib.Core.Path.{_≡_};
 ghost use Rattle.mesh_format.specs.Parse.{formatLine, wordLine, countLine, nodeLine, elementLine};
-ghost use Rattle.mesh_lines.specs.Answer.{tellSkipped, tellTitle, tellNumber, tellElement};
+ghost use Rattle.mesh_words.specs.Tells.{tellSkipped, tellNumber};
+ghost use Rattle.mesh_lines.specs.Tells.{tellTitle, tellElement};
 use crate::reader::next_count;
 use crate::reader::next_element;
 use crate::reader::next_format;
 use crate::reader::next_node;
 use crate::reader::next_title;
 use crate::reader::open;
-use mesh_lines::answer::Cursor;
 use mesh_lines::answer::ElementLine;
-use mesh_lines::answer::Number;
-use mesh_lines::answer::Skipped;
 use mesh_lines::answer::Title;
+use mesh_words::answer::Cursor;
+use mesh_words::answer::Number;
+use mesh_words::answer::Skipped;
 
 // `2.2 0` and a number.
 pub fn read_format(text: &[u8], c: Cursor) -> Skipped

@@ -1,17 +1,18 @@
 // A mesh text and the position in it, kept together, and the line that is read there.
 ghost use mathlib.Core.Path.{_≡_};
 ghost use Rattle.mesh_format.specs.Parse.{formatLine, wordLine, countLine, nodeLine, elementLine};
-ghost use Rattle.mesh_lines.specs.Answer.{tellSkipped, tellTitle, tellNumber, tellElement};
-use mesh_lines::answer::Cursor;
+ghost use Rattle.mesh_words.specs.Tells.{tellSkipped, tellNumber};
+ghost use Rattle.mesh_lines.specs.Tells.{tellTitle, tellElement};
 use mesh_lines::answer::ElementLine;
-use mesh_lines::answer::Number;
-use mesh_lines::answer::Skipped;
 use mesh_lines::answer::Title;
 use mesh_lines::line::count_at;
 use mesh_lines::line::element_at;
 use mesh_lines::line::format_at;
 use mesh_lines::line::node_at;
 use mesh_lines::line::title_at;
+use mesh_words::answer::Cursor;
+use mesh_words::answer::Number;
+use mesh_words::answer::Skipped;
 
 pub struct Reader<'a> {
     pub text: &'a [u8],

@@ -4,14 +4,14 @@ ghost use Prim.Native.Nat.{_-_, _≤_};
 ghost use lib.ListN.{length};
 ghost use Rattle.mesh_format.specs.Words.{ending};
 ghost use Rattle.mesh_format.specs.Parse.{part, sameWord, isLineOf, closingLine};
-ghost use Rattle.mesh_lines.specs.Answer.{tellSkipped};
+ghost use Rattle.mesh_words.specs.Tells.{tellSkipped};
 use crate::keywords::END;
-use mesh_lines::answer::Cursor;
-use mesh_lines::answer::Skipped;
-use mesh_lines::run::Class;
-use mesh_lines::run::run_end;
-use mesh_lines::run::stands;
-use mesh_lines::word::is_word;
+use mesh_words::answer::Cursor;
+use mesh_words::answer::Skipped;
+use mesh_words::run::Class;
+use mesh_words::run::run_end;
+use mesh_words::run::stands;
+use mesh_words::word::is_word;
 
 // Whether the bytes from one position up to another are `$End` and the name.
 fn is_ending(text: &[u8], from: usize, to: usize, name: &[u8]) -> bool

@@ -14,7 +14,7 @@ use Rattle.lists.specs.Tabulate.{tabulate}
 use Rattle.lists.specs.TabulateLaws.{length-tabulate, getD-tabulate}
 use Rattle.complexes.specs.Cell.{Cell, without, precedes}
 use Rattle.complexes.specs.Complex.{Sections, section}
-use Rattle.sheet_format.specs.Layout.{top}
+use Rattle.closures.specs.Closure.{elementTop}
 use Rattle.closures.specs.Insert.{insertAll}
 use Rattle.cells.specs.Word.{Packs, LeavesOut}
 use Rattle.cell_sets.specs.Set.{Holds, adding, Adds, AddsCell}
@@ -42,7 +42,7 @@ none limit p word cells counts = record { within = omega arith; long = refl; hol
 
 module _ {limit p word : ℕ} {cells₀ counts₀ cells counts : List ℕ} {j : ℕ} (inv : Invariant limit p word cells₀ counts₀ cells counts j) where
   -- face j too
-  turn : p < top → j < p + 2 → {face : ℕ} → LeavesOut (p + 1 - j) word face → (r : Bool) (cells′ counts′ : List ℕ)
+  turn : p < elementTop → j < p + 2 → {face : ℕ} → LeavesOut (p + 1 - j) word face → (r : Bool) (cells′ counts′ : List ℕ)
       → AddsCell limit p face cells counts r cells′ counts′ → AddsFirst limit p word cells₀ counts₀ (suc j) r cells′ counts′
   turn small l {face} leaves r cells′ counts′ adds K c h k =
       subst (λ (xs : List Cell). Adds limit K p xs r cells′ counts′) (sym next)

@@ -13,10 +13,9 @@ use denote.Ref.{now}
 use Rattle.lists.specs.TabulateLaws.{length-tabulate}
 use Rattle.complexes.specs.Cell.{Cell, precedes}
 use Rattle.complexes.specs.Complex.{Sections, section}
-use Rattle.sheet_format.specs.Layout.{top}
 use Rattle.closures.specs.Insert.{insertAll}
-use Rattle.closures.specs.Closure.{ownSection, facesOf, ownSections, closure}
-use Rattle.closures.specs.ClosureLaws.{closure-dimensions, ownSections-section, closure-top, closure-step}
+use Rattle.closures.specs.Closure.{elementTop, ownSection, facesOf, ownSections, closure}
+use Rattle.closures.proofs.ClosureLaws.{closure-dimensions, ownSections-section, closure-top, closure-step}
 use Rattle.cell_sets.specs.Set.{Holds, adding, Adds}
 use Rattle.cell_sets.specs.Close.{Exceeds}
 use Rattle.cell_sets.proofs.Sets.{held}
@@ -30,23 +29,23 @@ faces k K = facesOf (suc (suc k)) (section K (suc k))
 
 -- K is on the way from the cells cs to their closure
 record Halfway (cs : List Cell) (p : ℕ) (K : Sections) : Type 0 where
-  dimensions : length K ≡ suc top
-  closed : (q : ℕ) → q ≤ top → p ≤ q → section K q ≡ section (closure top cs) q
+  dimensions : length K ≡ suc elementTop
+  closed : (q : ℕ) → q ≤ elementTop → p ≤ q → section K q ≡ section (closure elementTop cs) q
   own : (q : ℕ) → q < p → section K q ≡ ownSection cs q
 
-at-first : (cs : List Cell) → Halfway cs top (ownSections top cs)
+at-first : (cs : List Cell) → Halfway cs elementTop (ownSections elementTop cs)
 unfolding ownSections
 at-first cs = record {
-  dimensions = length-tabulate (suc top) (ownSection cs);
+  dimensions = length-tabulate (suc elementTop) (ownSection cs);
   closed = λ q h l.
-      let last : q ≡ top = omega arith in
-      rw last (ownSections-section top cs top (omega arith) ∙ sym (closure-top top cs));
-  own = λ q l. ownSections-section top cs q (omega arith);
+      let last : q ≡ elementTop = omega arith in
+      rw last (ownSections-section elementTop cs elementTop (omega arith) ∙ sym (closure-top elementTop cs));
+  own = λ q l. ownSections-section elementTop cs q (omega arith);
 }
 
-at-last : {cs : List Cell} {K : Sections} → Halfway cs 0 K → K ≡ closure top cs
+at-last : {cs : List Cell} {K : Sections} → Halfway cs 0 K → K ≡ closure elementTop cs
 at-last {cs} {K} h =
-    ext-getD [] K (closure top cs) (h .dimensions ∙ sym (closure-dimensions top cs))
+    ext-getD [] K (closure elementTop cs) (h .dimensions ∙ sym (closure-dimensions elementTop cs))
     (λ q l. h .closed q (omega (arith, h .dimensions)) (omega arith))
 
 -- the slice holds it
@@ -55,17 +54,17 @@ record Closing (limit : ℕ) (cs : List Cell) (p : ℕ) (cells counts : List ℕ
   holds : Holds limit cells counts complex
   halfway : Halfway cs p complex
 
-module _ {limit : ℕ} {cs : List Cell} {p : ℕ} {cells counts : List ℕ} (h : Closing limit cs p cells counts) (small : p ≤ top)
+module _ {limit : ℕ} {cs : List Cell} {p : ℕ} {cells counts : List ℕ} (h : Closing limit cs p cells counts) (small : p ≤ elementTop)
     (k : ℕ) (next : p ≡ suc k) where
   abbrev K : Sections
   K = h .complex
 
   -- section k with the faces added to it
-  new : insertAll precedes (section K k) (faces k K) ≡ section (closure top cs) k
+  new : insertAll precedes (section K k) (faces k K) ≡ section (closure elementTop cs) k
   new =
       ap₂ (λ (l m : List Cell). insertAll precedes l (facesOf (suc (suc k)) m)) (h .halfway .own k (omega arith))
       (h .halfway .closed (suc k) (omega arith) (omega arith))
-      ∙ sym (closure-step top cs k (omega arith))
+      ∙ sym (closure-step elementTop cs k (omega arith))
 
   one-more : {cells′ counts′ : List ℕ} → Holds limit cells′ counts′ (adding K k (faces k K)) → Closing limit cs k cells′ counts′
   one-more a = record {
@@ -78,23 +77,23 @@ module _ {limit : ℕ} {cs : List Cell} {p : ℕ} {cells counts : List ℕ} (h :
     };
   }
     where
-      closed : (q : ℕ) → q ≤ top → k ≤ q → Dec (q ≡ k) → section (adding K k (faces k K)) q ≡ section (closure top cs) q
+      closed : (q : ℕ) → q ≤ elementTop → k ≤ q → Dec (q ≡ k) → section (adding K k (faces k K)) q ≡ section (closure elementTop cs) q
       closed q a b (yes e) = rw e (section-adding-same K k (faces k K) (omega (arith, h .halfway .dimensions)) ∙ new)
       closed q a b (no d) = section-adding-other K k q (faces k K) d ∙ h .halfway .closed q a (omega arith)
 
-  over : limit < length (insertAll precedes (section K k) (faces k K)) → Exceeds limit (closure top cs)
+  over : limit < length (insertAll precedes (section K k) (faces k K)) → Exceeds limit (closure elementTop cs)
   over a = record { dimension = k; listed = omega arith; over = omega (arith, a, ap length new) }
 
 abbrev Inv-loop : tie.InvT-loop
 Inv-loop cells₀ counts₀ limit p₀ cells counts p =
-    (p ≤ top) × (length cells ≡ length cells₀)
-    × ((cs : List Cell) → Holds limit cells₀ counts₀ (ownSections top cs) → Closing limit cs p cells counts)
+    (p ≤ elementTop) × (length cells ≡ length cells₀)
+    × ((cs : List Cell) → Holds limit cells₀ counts₀ (ownSections elementTop cs) → Closing limit cs p cells counts)
 
 abbrev μ-loop : tie.MeasureT-loop
 μ-loop cells₀ counts₀ limit p₀ cells counts p = p
 
 loop-holds : tie.Need-loop-holds Inv-loop μ-loop
-loop-holds c = (omega arith, refl, λ cs h. record { complex = ownSections top cs; holds = h; halfway = at-first cs })
+loop-holds c = (omega arith, refl, λ cs h. record { complex = ownSections elementTop cs; holds = h; halfway = at-first cs })
 
 close-section-requires : tie.Need-close-section-requires Inv-loop μ-loop
 close-section-requires c κs =
@@ -116,7 +115,7 @@ module _ (c : tie.After-close-section Inv-loop μ-loop) where
   kept : length (c .close-section .last .0) ≡ length (now (start .args .cells))
   kept = c .close-section .kept .0 ∙ l .loop .inv .1
 
-  module _ (cs : List Cell) (h : Holds (start .args .limit) (now (start .args .cells)) (now (start .args .counts)) (ownSections top cs)) where
+  module _ (cs : List Cell) (h : Holds (start .args .limit) (now (start .args .cells)) (now (start .args .counts)) (ownSections elementTop cs)) where
     abbrev closing : Closing (start .args .limit) cs (l .loop .p) (l .loop .cells) (l .loop .counts)
     closing = l .loop .inv .2 cs h
 

@@ -13,10 +13,9 @@ use denote.Ref.{now}
 use Rattle.lists.specs.Tabulate.{tabulate}
 use Rattle.complexes.specs.Cell.{Cell, without, precedes}
 use Rattle.complexes.specs.Complex.{Sections, section}
-use Rattle.sheet_format.specs.Layout.{top}
 use Rattle.closures.specs.Insert.{insertAll}
-use Rattle.closures.specs.Closure.{facesOf}
-use Rattle.closures.specs.SectionLaws.{facesOf-append, facesOf-snoc}
+use Rattle.closures.specs.Closure.{elementTop, facesOf}
+use Rattle.closures.proofs.SectionLaws.{facesOf-append, facesOf-snoc}
 use Rattle.cells.specs.Word.{Packs}
 use Rattle.cell_sets.specs.Set.{Holds, adding, Adds}
 use Rattle.cell_sets.specs.Close.{AddsFaces}
@@ -42,14 +41,14 @@ none limit p cells counts = record { long = refl; holds = λ K h. rw (adding-nil
 
 module _ {limit p : ℕ} {cells₀ counts₀ cells counts : List ℕ} {i : ℕ} (inv : Invariant limit p cells₀ counts₀ cells counts i) where
   -- the word of cell i
-  word-of : p < top → (K : Sections) → Holds limit cells₀ counts₀ K → i < length (upper p K)
+  word-of : p < elementTop → (K : Sections) → Holds limit cells₀ counts₀ K → i < length (upper p K)
       → Packs (suc (suc p)) (getD (upper p K) i []) (getD cells ((p + 1) * limit + i) 0)
   word-of small K h l =
       let same = section-adding-other K p (suc p) (faces p (take i (upper p K))) (λ e. omega arith) in
       rw (add-one p) (rw same at (holds-word (inv .holds K h) (suc p) i small (rw same l)))
 
   -- the faces of cell i too
-  turn : p < top → (r : Bool) (cells′ counts′ : List ℕ) → AddsFaces limit p (getD cells ((p + 1) * limit + i) 0) cells counts r cells′ counts′
+  turn : p < elementTop → (r : Bool) (cells′ counts′ : List ℕ) → AddsFaces limit p (getD cells ((p + 1) * limit + i) 0) cells counts r cells′ counts′
       → (K : Sections) → Holds limit cells₀ counts₀ K → i < length (upper p K) → Adds limit K p (faces p (take (suc i) (upper p K))) r cells′ counts′
   turn small r cells′ counts′ adds K h l =
       subst (λ (xs : List Cell). Adds limit K p xs r cells′ counts′) (sym next)

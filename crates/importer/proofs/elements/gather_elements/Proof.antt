@@ -7,19 +7,19 @@ use native.Mathlib.Omega.{arith}
 use lib.ListN.{length}
 use denote.Ref.{now}
 use Rattle.lists.specs.Same.{every}
-use Rattle.mesh_format.specs.ReadLaws.{elementLines-repeats}
-use Rattle.mesh_format.specs.WalkLaws.{walk-start, walk-stop, walk-more, walk-end}
+use Rattle.mesh_format.proofs.ReadLaws.{elementLines-repeats}
+use Rattle.mesh_format.proofs.WalkLaws.{walk-start, walk-stop, walk-more, walk-end}
 use Rattle.imports.specs.Import.{noneFaulty}
-use Rattle.imports.specs.Elements.{element-numbered}
+use Rattle.imports.proofs.ElementLaws.{element-numbered}
 use Rattle.mesh_lines.proofs.Told.{element-malformed, element-read}
-use Rattle.mesh_elements.specs.Map.{marked}
+use Rattle.mesh_elements.specs.Map.{inMap}
 use Rattle.importer.proofs.Gathering.{ready, Gathering}
 use Rattle.importer.proofs.elements.gather_elements.Statement.{statement}
 use Rattle.importer.proofs.elements.gather_elements.Tie as tie
 
 abbrev Inv-loop : tie.InvT-loop
 Inv-loop text n map limit cells₀ counts₀ here₀ outcome₀ i₀ cells counts here outcome i =
-    Gathering limit (marked map) text n (here₀ .at) i (here .at) outcome (length cells₀) cells counts
+    Gathering limit (inMap map) text n (here₀ .at) i (here .at) outcome (length cells₀) cells counts
 
 abbrev μ-loop : tie.MeasureT-loop
 μ-loop text n map limit cells₀ counts₀ here₀ outcome₀ i₀ cells counts here outcome i = n - i
@@ -42,7 +42,7 @@ add-element-requires : tie.Need-add-element-requires Inv-loop μ-loop
 add-element-requires c κs =
     let read = c .before .before .before in let r = read .before .before in let loop = r .before .before in let start = loop .before .before .before .before in (
       start .pre .0,
-      ready (start .args .limit) (marked (now (start .args .map))) (loop .loop .inv .read) (loop .loop .outcome) (loop .loop .cells) (loop .loop .counts)
+      ready (start .args .limit) (inMap (now (start .args .map))) (loop .loop .inv .read) (loop .loop .outcome) (loop .loop .cells) (loop .loop .counts)
           (loop .loop .inv .gathers),
     )
 

@@ -8,8 +8,8 @@ use denote.Ref.{now}
 use Rattle.mesh_format.specs.Mesh.{Element}
 use Rattle.mesh_format.specs.Words.{elementsName, opening, ending}
 use Rattle.mesh_format.specs.Parse.{malformed, parsed, then, titleLine, countLine, elementLines, elementsOf}
-use Rattle.mesh_lines.proofs.Told.{skipped-malformed, skipped-to, number-malformed, number-read}
-use Rattle.mesh_elements.specs.Map.{marked}
+use Rattle.mesh_words.proofs.Told.{skipped-malformed, skipped-to, number-malformed, number-read}
+use Rattle.mesh_elements.specs.Map.{inMap}
 use Rattle.importer.specs.Elements.{TellsElements}
 use Rattle.importer.specs.declared.elements.Elements.{Elements}
 use Rattle.importer.specs.declared.elements.Elements.the-variants.{Malformed, Read}
@@ -68,13 +68,13 @@ module _ (c : tie.After-gather-elements) where
   count = c .before .before .before .before
 
   told : (r : Elements) → c .gather-elements .result ≡ r
-      → TellsElements (start (title count) .args .limit) (marked (now (start (title count) .args .map)))
+      → TellsElements (start (title count) .args .limit) (inMap (now (start (title count) .args .map)))
       (elementLines (count .n .given .0 .0) (text (title count)) (count .n .given .0 .1 .0 .at)) r (c .gather-elements .last .1 .1 .1 .1 .1 .0)
       (c .gather-elements .last .1 .1 .1 .1 .1 .1 .0)
   told r e =
       subst
       (λ (o : Elements).
-      TellsElements (start (title count) .args .limit) (marked (now (start (title count) .args .map)))
+      TellsElements (start (title count) .args .limit) (inMap (now (start (title count) .args .map)))
       (elementLines (count .n .given .0 .0) (text (title count)) (count .n .given .0 .1 .0 .at)) o (c .gather-elements .last .1 .1 .1 .1 .1 .0)
       (c .gather-elements .last .1 .1 .1 .1 .1 .1 .0))
       e (c .gather-elements .ensures)

@@ -6,7 +6,7 @@ use mathlib.Core.List.{List}
 use Prim.Native.Nat.{ℕ}
 use native.Mathlib.Omega.{arith}
 use denote.Ref.{now}
-use Rattle.mesh_elements.specs.Map.{marked}
+use Rattle.mesh_elements.specs.Map.{inMap}
 use Rattle.mesh_elements.specs.Element.{Checks}
 use Rattle.mesh_elements.specs.declared.element.Checked.the-variants.{Cell}
 use Rattle.importer.specs.Gather.{Ready, AddsElement}
@@ -19,13 +19,13 @@ use Rattle.importer.proofs.gather.add_element.Tie as tie
 returns : tie.Need-returns
 returns c =
     let k = c .before .before in let a = k .before .before .before .args in
-    adds-faulty (a .limit) (marked (now (a .map))) (a .element) (now (a .cells)) (now (a .counts)) (now (a .cells)) (now (a .counts))
-    (c .enum-told .given .0 .0) (a .before) (subst (Checks (marked (now (a .map))) (a .element)) (c .enum-told .given .1) (k .check-element .ensures))
+    adds-faulty (a .limit) (inMap (now (a .map))) (a .element) (now (a .cells)) (now (a .counts)) (now (a .cells)) (now (a .counts))
+    (c .enum-told .given .0 .0) (a .before) (subst (Checks (inMap (now (a .map))) (a .element)) (c .enum-told .given .1) (k .check-element .ensures))
 
 add-cell-requires : tie.Need-add-cell-requires
 add-cell-requires c κs =
     let told = c .before .before in let cell = told .before .before .before in let k = cell .before .before in let start = k .before .before .before in (
-      subst (Checks (marked (now (start .args .map))) (start .args .element)) (cell .checked .given .1) (k .check-element .ensures) .dimension-is,
+      subst (Checks (inMap (now (start .args .map))) (start .args .element)) (cell .checked .given .1) (k .check-element .ensures) .dimension-is,
       subst (Ready (start .args .limit) (now (start .args .cells)) (now (start .args .counts))) (told .enum-told2 .given .1) (start .pre .1),
     )
 
@@ -38,7 +38,7 @@ module _ (c : tie.After-checked) where
   start = called .before .before .before
 
   abbrev isListed : ℕ → Bool
-  isListed = marked (now (start .args .map))
+  isListed = inMap (now (start .args .map))
 
   checked : Checks isListed (start .args .element) (Cell (c .checked .given .0 .0) (c .checked .given .0 .1 .0))
   checked = subst (Checks isListed (start .args .element)) (c .checked .given .1) (called .check-element .ensures)

@@ -10,8 +10,8 @@ use Rattle.closures.specs.Closure.{cellWith}
 use Rattle.imports.specs.Import.{nodeLists}
 use Rattle.mesh_format.specs.Mesh.{Mesh}
 use Rattle.mesh_format.specs.Parse.{parsed, headOf, nodesOf, elementsOf, meshOf}
-use Rattle.mesh_lines.proofs.Told.{skipped-malformed, skipped-to}
-use Rattle.mesh_elements.specs.Map.{marked}
+use Rattle.mesh_words.proofs.Told.{skipped-malformed, skipped-to}
+use Rattle.mesh_elements.specs.Map.{inMap}
 use Rattle.mesh_elements.specs.Listed.{Maps}
 use Rattle.importer.specs.Gather.{Gathers}
 use Rattle.importer.specs.Elements.{GathersRead, TellsElements}
@@ -44,14 +44,14 @@ module _ (c : tie.After-nodes) where
   head = listing .before .before .before
 
   -- the map with the nodes
-  abbrev marks : List ℕ
-  marks = listing .read-nodes .last .1 .1 .0
+  abbrev bits : List ℕ
+  bits = listing .read-nodes .last .1 .1 .0
 
   nodes-read : ReadTo (nodesOf (text head) (head .head .given .0 .0 .at)) (c .nodes .given .0 .0 .at)
   nodes-read = end-to (listing .read-nodes .ensures .told) (c .nodes .given .1)
 
-  maps : Maps marks (nodes-read .read)
-  maps = listing .read-nodes .ensures .marks (nodes-read .read) (c .nodes .given .0 .0 .at) (nodes-read .is) [] (start head .pre .0)
+  maps : Maps bits (nodes-read .read)
+  maps = listing .read-nodes .ensures .lists (nodes-read .read) (c .nodes .given .0 .0 .at) (nodes-read .is) [] (start head .pre .0)
 
 -- what is told of the elements
 module _ (c : tie.After-read-elements) where
@@ -68,10 +68,10 @@ module _ (c : tie.After-read-elements) where
   limit = start (head nodes) .args .limit
 
   told : (r : Elements) → c .read-elements .result ≡ r
-      → TellsElements limit (marked (marks nodes)) (elementsOf (text (head nodes)) (nodes .nodes .given .0 .0 .at)) r cells counts
+      → TellsElements limit (inMap (bits nodes)) (elementsOf (text (head nodes)) (nodes .nodes .given .0 .0 .at)) r cells counts
   told r e =
       subst
-      (λ (o : Elements). TellsElements limit (marked (marks nodes)) (elementsOf (text (head nodes)) (nodes .nodes .given .0 .0 .at)) o cells counts)
+      (λ (o : Elements). TellsElements limit (inMap (bits nodes)) (elementsOf (text (head nodes)) (nodes .nodes .given .0 .0 .at)) o cells counts)
       e (c .read-elements .ensures)
 
 -- the elements are read
@@ -79,7 +79,7 @@ module _ (c : tie.After-outcome) where
   abbrev gathering : tie.After-read-elements
   gathering = c .before .before .before .before
 
-  elements-read : GathersRead (limit gathering) (marked (marks (nodes gathering)))
+  elements-read : GathersRead (limit gathering) (inMap (bits (nodes gathering)))
       (elementsOf (text (head (nodes gathering))) (nodes gathering .nodes .given .0 .0 .at)) (c .outcome .given .0 .0) (c .outcome .given .0 .1 .0 .at)
       (cells gathering) (counts gathering)
   elements-read = told gathering (Read (c .outcome .given .0 .0) (c .outcome .given .0 .1 .0)) (c .outcome .given .1)
@@ -102,9 +102,9 @@ module _ (c : tie.Else1) where
   unfolding mesh
   tells = whole (text (head n)) (head-read (head n)) (nodes-read n .is) (elements-read outcome .is) (c .if1 .left)
 
-  gathered : (o : Outcome) → outcome .outcome .given .0 .0 ≡ o → Gathers (limit g) (marked (marks n)) (elements-read outcome .read) o (cells g) (counts g)
+  gathered : (o : Outcome) → outcome .outcome .given .0 .0 ≡ o → Gathers (limit g) (inMap (bits n)) (elements-read outcome .read) o (cells g) (counts g)
   gathered o e =
-      subst (λ (x : Outcome). Gathers (limit g) (marked (marks n)) (elements-read outcome .read) x (cells g) (counts g)) e (elements-read outcome .gathers)
+      subst (λ (x : Outcome). Gathers (limit g) (inMap (bits n)) (elements-read outcome .read) x (cells g) (counts g)) e (elements-read outcome .gathers)
 
 read-head-requires : tie.Need-read-head-requires
 read-head-requires c κs = search needs
@@ -150,20 +150,20 @@ returns-5 : tie.Need-returns-5
 unfolding mesh
 returns-5 c =
     let k = c .before .before in let a = start (head (n k)) .args in
-    told-faulty (a .limit) (now (a .text)) (now (a .out)) (marks (n k)) (mesh k) (tells k) (maps (n k)) (gathered k Faulty (c .enum-told4 .given .1))
+    told-faulty (a .limit) (now (a .text)) (now (a .out)) (bits (n k)) (mesh k) (tells k) (maps (n k)) (gathered k Faulty (c .enum-told4 .given .1))
 
 returns-6 : tie.Need-returns-6
 unfolding mesh
 returns-6 c =
     let k = c .before .before in let a = start (head (n k)) .args in let over = gathered k TooMany (c .enum-told5 .given .1) in
-    told-many (a .limit) (now (a .text)) (now (a .out)) (marks (n k)) (mesh k) (tells k) (maps (n k)) (over .0) (over .1)
+    told-many (a .limit) (now (a .text)) (now (a .out)) (bits (n k)) (mesh k) (tells k) (maps (n k)) (over .0) (over .1)
 
 returns-7 : tie.Need-returns-7
 unfolding mesh
 returns-7 c =
     let written = c .before .before .before .before in let arm = written .before .before .before .before in let k = arm .before .before in let a = start (head (n k)) .args in
     let held = gathered k Gathered (arm .enum-told6 .given .1) in
-    told-written (a .limit) (now (a .text)) (now (a .out)) (marks (n k)) (mesh k) (tells k) (maps (n k)) (held .0) (held .1) (written .write-closure .ensures)
+    told-written (a .limit) (now (a .text)) (now (a .out)) (bits (n k)) (mesh k) (tells k) (maps (n k)) (held .0) (held .1) (written .write-closure .ensures)
 
 pub import-through-spec : {M : Type 1} → statement M
 import-through-spec =

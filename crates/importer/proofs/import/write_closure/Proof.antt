@@ -8,11 +8,10 @@ use native.Mathlib.Omega.{arith}
 use borrow.Author.Tests.{not-true, not-false}
 use denote.Ref.{now}
 use Rattle.complexes.specs.Cell.{Cell}
-use Rattle.sheet_format.specs.Layout.{top}
-use Rattle.closures.specs.Closure.{ownSections, closure}
+use Rattle.closures.specs.Closure.{elementTop, ownSections, closure}
 use Rattle.cell_sets.specs.Set.{Holds}
 use Rattle.cell_sets.specs.Close.{ClosesOwn}
-use Rattle.cell_sets.specs.Write.{Small}
+use Rattle.sheet_writer.specs.Write.{Small}
 use Rattle.importer.proofs.Writing.{too-many-faces, slice-too-short, sheet-written}
 use Rattle.importer.proofs.import.write_closure.Statement.{statement}
 use Rattle.importer.proofs.import.write_closure.Tie as tie
@@ -31,14 +30,14 @@ module _ (c : tie.Else1) where
   abbrev counts : List ℕ
   counts = closed .close-cells .last .1 .0
 
-  holds : (cs : List Cell) → Holds (start .args .limit) (now (start .args .cells)) (now (start .args .counts)) (ownSections top cs)
-      → Holds (start .args .limit) cells counts (closure top cs)
+  holds : (cs : List Cell) → Holds (start .args .limit) (now (start .args .cells)) (now (start .args .counts)) (ownSections elementTop cs)
+      → Holds (start .args .limit) cells counts (closure elementTop cs)
   holds cs h =
       subst (λ (b : Bool). ClosesOwn (start .args .limit) cs b cells counts) (not-false (closed .close-cells .result) (c .if1 .left))
       (closed .close-cells .ensures cs h)
 
   -- those of the contract
-  held : Holds (start .args .limit) cells counts (closure top (start .pre .elements))
+  held : Holds (start .args .limit) cells counts (closure elementTop (start .pre .elements))
   held = holds (start .pre .elements) (start .pre .holds)
 
   small : Small counts
@@ -53,7 +52,7 @@ close-cells-requires c κs = c .before .before .before .before .pre
 returns : tie.Need-returns
 returns c cs h =
     let closed = c .before .before .before in let a = closed .before .before .before .before .before .args in
-    too-many-faces (a .limit) (closure top cs) (now (a .out))
+    too-many-faces (a .limit) (closure elementTop cs) (now (a .out))
     (subst (λ (b : Bool). ClosesOwn (a .limit) cs b (closed .close-cells .last .0) (closed .close-cells .last .1 .0))
     (not-true (closed .close-cells .result) (c .if1 .taken)) (closed .close-cells .ensures cs h))
 
@@ -63,20 +62,20 @@ sheet-length-requires c κs = small (c .before)
 returns-2 : tie.Need-returns-2
 returns-2 c cs h =
     let measured = c .before in let f = measured .before .before in let a = start f .args in
-    slice-too-short (a .limit) (closure top cs) (now (a .out))
-    (omega (arith, c .if2 .taken, measured .sheet-length .ensures (a .limit) (cells f) (closure top cs) (holds f cs h)))
+    slice-too-short (a .limit) (closure elementTop cs) (now (a .out))
+    (omega (arith, c .if2 .taken, measured .sheet-length .ensures (a .limit) (cells f) (closure elementTop cs) (holds f cs h)))
 
 write-sheet-requires : tie.Need-write-sheet-requires
 write-sheet-requires c κs =
     let fits = c .before .before .before in let measured = fits .before in let f = measured .before .before in
     record {
-      complex = closure top (start f .pre .elements);
+      complex = closure elementTop (start f .pre .elements);
       holds = held f;
       fits =
           omega (
             arith,
             fits .if2 .left,
-            measured .sheet-length .ensures (start f .args .limit) (cells f) (closure top (start f .pre .elements)) (held f),
+            measured .sheet-length .ensures (start f .args .limit) (cells f) (closure elementTop (start f .pre .elements)) (held f),
           );
     }
 
@@ -84,9 +83,9 @@ returns-3 : tie.Need-returns-3
 returns-3 c cs h =
     let fits = c .before .before .before .before .before .before in let measured = fits .before in let f = measured .before .before in
     let a = start f .args in
-    let size = measured .sheet-length .ensures (a .limit) (cells f) (closure top cs) (holds f cs h) in
-    sheet-written (a .limit) (closure top cs) (now (a .out)) (holds f cs h) (omega (arith, fits .if2 .left, size)) size
-    (c .before .before .write-sheet .ensures (closure top cs) (holds f cs h))
+    let size = measured .sheet-length .ensures (a .limit) (cells f) (closure elementTop cs) (holds f cs h) in
+    sheet-written (a .limit) (closure elementTop cs) (now (a .out)) (holds f cs h) (omega (arith, fits .if2 .left, size)) size
+    (c .before .before .write-sheet .ensures (closure elementTop cs) (holds f cs h))
 
 pub write-closure-spec : {M : Type 1} → statement M
 write-closure-spec =

@@ -2,8 +2,8 @@
 use borrow.Author.Needs.{needs}
 use mathlib.Core.Path.{refl}
 use Rattle.mesh_format.specs.Parse.{countLine}
-use Rattle.mesh_lines.proofs.Steps.{fails, goes}
-use Rattle.mesh_lines.proofs.Told.{skipped-malformed, skipped-to, number-malformed, number-read, number-fails, number-goes}
+use Rattle.mesh_words.proofs.Steps.{fails, goes}
+use Rattle.mesh_words.proofs.Told.{skipped-malformed, skipped-to, number-malformed, number-read, number-fails, number-goes}
 use Rattle.mesh_lines.proofs.line.count_at.Statement.{statement}
 use Rattle.mesh_lines.proofs.line.count_at.Tie as tie
 

@@ -2,10 +2,11 @@
 use borrow.Author.Needs.{needs}
 use mathlib.Core.Path.{refl, sym, ap, _∙_}
 use Rattle.mesh_format.specs.Parse.{number, elementLine}
-use Rattle.mesh_lines.specs.Answer.{tellElement}
-use Rattle.mesh_lines.specs.Steps.{elementNodes}
-use Rattle.mesh_lines.proofs.Steps.{fails, goes, spaced-then}
-use Rattle.mesh_lines.proofs.Told.{skipped-malformed, skipped-to, number-malformed, number-read, element-fails}
+use Rattle.mesh_lines.specs.Tells.{tellElement}
+use Rattle.mesh_lines.specs.Nodes.{elementNodes}
+use Rattle.mesh_words.proofs.Steps.{fails, goes, spaced-then}
+use Rattle.mesh_words.proofs.Told.{skipped-malformed, skipped-to, number-malformed, number-read}
+use Rattle.mesh_lines.proofs.Told.{element-fails}
 use Rattle.mesh_lines.proofs.line.element_at.Statement.{statement}
 use Rattle.mesh_lines.proofs.line.element_at.Tie as tie
 

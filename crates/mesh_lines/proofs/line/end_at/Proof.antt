@@ -9,10 +9,10 @@ use native.Mathlib.Numerals.{add-one}
 use native.Mathlib.Omega.{arith}
 use denote.Ref.{now}
 use Rattle.mesh_format.specs.Parse.{malformed, parsed, lineEnd}
-use Rattle.mesh_lines.specs.Class.{standsAt}
-use Rattle.mesh_lines.specs.declared.run.Class.the-variants.{LineFeed, CarriageReturn}
-use Rattle.mesh_lines.proofs.Runs.{stands-true, stands-byte}
-use Rattle.mesh_lines.proofs.Told.{skipped-fails, skipped-goes}
+use Rattle.mesh_words.specs.Class.{standsAt}
+use Rattle.mesh_words.specs.declared.run.Class.the-variants.{LineFeed, CarriageReturn}
+use Rattle.mesh_words.proofs.Runs.{stands-true, stands-byte}
+use Rattle.mesh_words.proofs.Told.{skipped-fails, skipped-goes}
 use Rattle.mesh_lines.proofs.line.end_at.Statement.{statement}
 use Rattle.mesh_lines.proofs.line.end_at.Tie as tie
 

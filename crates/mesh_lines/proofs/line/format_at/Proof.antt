@@ -2,9 +2,9 @@
 use borrow.Author.Needs.{needs}
 use mathlib.Core.Path.{refl, sym, ap, _∙_}
 use Rattle.mesh_format.specs.Parse.{number, formatLine}
-use Rattle.mesh_lines.specs.Answer.{tellSkipped}
-use Rattle.mesh_lines.proofs.Steps.{fails, goes, gap-none, gap-reads, spaced-then}
-use Rattle.mesh_lines.proofs.Told.{skipped-malformed, skipped-to, number-malformed, number-read, skipped-fails}
+use Rattle.mesh_words.specs.Tells.{tellSkipped}
+use Rattle.mesh_words.proofs.Steps.{fails, goes, gap-none, gap-reads, spaced-then}
+use Rattle.mesh_words.proofs.Told.{skipped-malformed, skipped-to, number-malformed, number-read, skipped-fails}
 use Rattle.mesh_lines.proofs.line.format_at.Statement.{statement}
 use Rattle.mesh_lines.proofs.line.format_at.Tie as tie
 

@@ -3,10 +3,11 @@ use borrow.Author.Needs.{needs}
 use mathlib.Core.Path.{refl, sym, ap, _∙_}
 use Prim.Native.Nat.{ℕ}
 use Rattle.mesh_format.specs.Parse.{wordLine}
-use Rattle.mesh_lines.specs.Answer.{tellTitle}
+use Rattle.mesh_lines.specs.Tells.{tellTitle}
 use Rattle.mesh_lines.specs.declared.answer.Title.the-variants as title
-use Rattle.mesh_lines.proofs.Steps.{fails, goes, word-none, word-reads}
-use Rattle.mesh_lines.proofs.Told.{skipped-malformed, skipped-to, title-fails}
+use Rattle.mesh_words.proofs.Steps.{fails, goes, word-none, word-reads}
+use Rattle.mesh_words.proofs.Told.{skipped-malformed, skipped-to}
+use Rattle.mesh_lines.proofs.Told.{title-fails}
 use Rattle.mesh_lines.proofs.line.title_at.Statement.{statement}
 use Rattle.mesh_lines.proofs.line.title_at.Tie as tie
 

@@ -8,13 +8,14 @@ use Prim.Native.Nat.{ℕ, _-_}
 use native.Mathlib.Omega.{arith}
 use lib.ListN.{length}
 use denote.Ref.{now}
-use Rattle.mesh_lines.specs.Answer.{tellElement}
-use Rattle.mesh_lines.specs.Steps.{elementNodes}
+use Rattle.mesh_lines.specs.Tells.{tellElement}
+use Rattle.mesh_lines.specs.Nodes.{elementNodes}
 use Rattle.mesh_lines.specs.declared.answer.ElementLine.the-variants as element
 use Rattle.mesh_lines.proofs.NodeNumbers.{Turn, node-small, node-ends, inside}
 use Rattle.mesh_lines.proofs.NodeNumbers.{Nodes, no-nodes, no-end, all-read, no-node, word-small, in-word, past-word}
-use Rattle.mesh_lines.proofs.Steps.{fails, goes}
-use Rattle.mesh_lines.proofs.Told.{skipped-malformed, skipped-to, number-malformed, number-read, element-fails}
+use Rattle.mesh_words.proofs.Steps.{fails, goes}
+use Rattle.mesh_words.proofs.Told.{skipped-malformed, skipped-to, number-malformed, number-read}
+use Rattle.mesh_lines.proofs.Told.{element-fails}
 use Rattle.mesh_lines.proofs.nodes.nodes_at.Statement.{statement}
 use Rattle.mesh_lines.proofs.nodes.nodes_at.Tie as tie
 

@@ -10,8 +10,9 @@ use native.Mathlib.Omega.{arith}
 use lib.ListN.{length}
 use denote.Ref.{now}
 use Rattle.mesh_format.specs.Parse.{part, sections}
-use Rattle.mesh_format.specs.ReadLaws.{Within}
-use Rattle.mesh_lines.proofs.Told.{title-malformed, skipped-fails, skipped-goes}
+use Rattle.mesh_format.proofs.ReadLaws.{Within}
+use Rattle.mesh_words.proofs.Told.{skipped-fails, skipped-goes}
+use Rattle.mesh_lines.proofs.Told.{title-malformed}
 use Rattle.mesh_reader.proofs.Sections.{Titled, titled, opens-long}
 use Rattle.mesh_reader.proofs.Sections.{sections-none, sections-nodes, sections-other, sections-stuck, sections-passed}
 use Rattle.mesh_reader.proofs.head.pass_sections.Statement.{statement}

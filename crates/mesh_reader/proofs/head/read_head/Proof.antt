@@ -2,9 +2,9 @@
 use borrow.Author.Needs.{needs}
 use mathlib.Core.Path.{refl, sym, ap, _∙_}
 use Rattle.mesh_format.specs.Parse.{headOf}
-use Rattle.mesh_lines.specs.Answer.{tellSkipped}
-use Rattle.mesh_lines.proofs.Steps.{fails, goes}
-use Rattle.mesh_lines.proofs.Told.{skipped-malformed, skipped-to, skipped-fails}
+use Rattle.mesh_words.specs.Tells.{tellSkipped}
+use Rattle.mesh_words.proofs.Steps.{fails, goes}
+use Rattle.mesh_words.proofs.Told.{skipped-malformed, skipped-to, skipped-fails}
 use Rattle.mesh_reader.proofs.head.read_head.Statement.{statement}
 use Rattle.mesh_reader.proofs.head.read_head.Tie as tie
 

@@ -31,9 +31,9 @@ use denote.Triple.Spec.{Meets, tripleOf}
 use denote.Triple.Table.{entered}
 use denote.Triple.Walked.{says, Stays, stay-none, stay-none-slice, walkOf, goes-none, goes-none-slice, Walks, ends-at, walked, walk-meets}
 use denote.Exit.{yes}
-use Rattle.mesh_lines.specs.declared.answer.Cursor.{Cursor}
-use Rattle.mesh_lines.proofs.answer.Cursor as P
-use Rattle.mesh_lines.proofs.answer.Cursor.Laws as P′
+use Rattle.mesh_words.specs.declared.answer.Cursor.{Cursor}
+use Rattle.mesh_words.proofs.answer.Cursor as P
+use Rattle.mesh_words.proofs.answer.Cursor.Laws as P′
 use Rattle.mesh_reader.specs.declared.reader.Reader.{Reader}
 use Rattle.mesh_reader.proofs.Passed.{token, text-val, passed, Owned, twice}
 use Rattle.mesh_reader.proofs.reader.Reader as T

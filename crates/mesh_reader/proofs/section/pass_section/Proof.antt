@@ -6,7 +6,7 @@ use Prim.Native.Nat.{_-_}
 use native.Mathlib.Omega.{arith}
 use lib.ListN.{length}
 use Rattle.mesh_format.specs.Words.{ending}
-use Rattle.mesh_lines.proofs.Told.{skipped-fails, skipped-goes}
+use Rattle.mesh_words.proofs.Told.{skipped-fails, skipped-goes}
 use Rattle.mesh_reader.proofs.Closing.{Sought, closing-none, closing-found, closing-next}
 use Rattle.mesh_reader.proofs.section.pass_section.Statement.{statement}
 use Rattle.mesh_reader.proofs.section.pass_section.Tie as tie

@@ -1,8 +1,9 @@
 -- `title::the_title` meets its contract: a line of one word is read, and the word compared.
 use borrow.Author.Needs.{needs}
 use Rattle.mesh_format.specs.Parse.{titleLine}
-use Rattle.mesh_lines.proofs.Steps.{fails, goes}
-use Rattle.mesh_lines.proofs.Told.{title-malformed, title-read, skipped-fails, skipped-goes}
+use Rattle.mesh_words.proofs.Steps.{fails, goes}
+use Rattle.mesh_words.proofs.Told.{skipped-fails, skipped-goes}
+use Rattle.mesh_lines.proofs.Told.{title-malformed, title-read}
 use Rattle.mesh_reader.proofs.title.the_title.Statement.{statement}
 use Rattle.mesh_reader.proofs.title.the_title.Tie as tie
 

@@ -1,15 +1,13 @@
 -- `number` meets its contract, by the definition at each answer.
 use borrow.Author.Needs.{needs}
-use Rattle.imports.specs.Import.{importNumber}
+use Rattle.trials.specs.Trial.{numberTold}
 use Rattle.importer.proofs.answer.Imported.number.Statement.{statement}
 use Rattle.importer.proofs.answer.Imported.number.Tie as tie
 
 returns : tie.Need-returns
-unfolding importNumber
 returns c = search needs
 
 returns-2 : tie.Need-returns-2
-unfolding importNumber
 returns-2 c = search needs
 
 pub number-spec : {M : Type 1} → statement M

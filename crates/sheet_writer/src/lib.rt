@@ -1,0 +1,2 @@
+// The sheet of a set of cells.
+pub mod write;
