@@ -1,13 +1,13 @@
 -- The hollow triangle in dimension 1, on which most uses of the claims are taken: its bytes, its cells, and what its reductions come to.
 use mathlib.Core.Path.{_≡_, refl, sym, _∙_, ap}
-use mathlib.Core.Bool.{Bool, true, false, false≢true}
+use mathlib.Core.Bool.{false≢true}
 use mathlib.Core.List.{List, [], _∷_}
 use Prim.Native.Nat.{ℕ, zero, suc, _<_}
 use native.Mathlib.Omega.{arith}
 use lib.Dec.{T, ltb, ltb→lt}
 use lib.ListN.{getD, replicate}
 use lib.IntN.{ℤ, pos, negℤ}
-use Rattle.integers.specs.Division.{floor, modulo, residue, divides}
+use Rattle.integers.specs.Division.{floor, divides}
 use Rattle.lists.specs.Tabulate.{tabulate}
 use Rattle.lists.specs.Same.{every, both}
 use Rattle.matrices.specs.Sum.{sum}
@@ -27,8 +27,8 @@ use Rattle.reduction_steps.specs.Lines.{onList, lineLess, onLines, onEntries}
 use Rattle.reduction_steps.specs.State.{State, largest, rowOperation, columnOperation, within, checked, andThen, onRow, onColumn}
 use Rattle.reduction_steps.specs.Pivot.{better, alongRow, downRows, release1}
 use Rattle.reduction_steps.specs.Step.{columnKeeps, rowKeeps, rowIndivisible, firstIndivisible, positive, bring, quotient, rowPass, columnPass, next, step, run, reduce}
-use Rattle.reports.specs.Reductions.{Reductions, tooWide, reduced, firstStart, product, secondStart, afterSecond, second, afterFirst, reductions}
-use Rattle.requests.specs.Question.{Question, asked, cells, cellCount, rule, two}
+use Rattle.reports.specs.Reductions.{reduced, firstStart, product, secondStart, afterSecond, second, afterFirst, reductions}
+use Rattle.requests.specs.Question.{Question, asked, cells, rule, two}
 use Rattle.requests.specs.Call.{wentWide}
 use Rattle.answers.specs.Outcome.{TooWide}
 use Rattle.answers.specs.Behind.{two-wide}

@@ -1,7 +1,7 @@
 -- Uses of the claim on the calls: each of its three outcomes, on the hollow triangle. No sheet whose reductions compute here goes too wide, so that the
 -- outcome of refusal 13 is taken of any question that does.
 use mathlib.Core.Path.{_≡_, refl, sym, _∙_, ap}
-use mathlib.Core.List.{List, [], _∷_, _++_}
+use mathlib.Core.List.{List, [], _∷_}
 use Prim.Native.Nat.{ℕ}
 use native.Mathlib.Omega.{arith}
 use lib.ListN.{length, replicate}
@@ -19,10 +19,9 @@ use Rattle.sheet_format.specs.Layout.{start}
 use Rattle.sheet_format.specs.Check.{countField, offsetField, cellOf, cellsOf, sectionsOf, some, verticesDoNotRise, cellsDoNotRise, faceMissing}
 use Rattle.sheet_format.specs.Sheet.{Bytes}
 use Rattle.sheet_format.specs.Starred.{hollowTriangle}
-use Rattle.reduction_steps.specs.State.{State}
 use Rattle.reports.specs.Reductions.{Reductions, reduced}
 use Rattle.reports.specs.Report.{Counts, countsOf, reported, columnsOf, torsionCount, halvings, bitsOf, reportList, coordinateAt, coordinateList}
-use Rattle.requests.specs.Question.{Question, asked, cells, two}
+use Rattle.requests.specs.Question.{Question, asked, cells}
 use Rattle.requests.specs.Chains.{coefficientExceeds, boundaryNotZero, chainChecks, cyclesChecks, chainsChecks}
 use Rattle.requests.specs.Call.{Request, report, coordinates, lists, listCount, listSlots, numbersOf, callChecks, earlyChecks, ofReduced, call}
 use Rattle.answers.specs.Outcome as outcome

@@ -1,6 +1,6 @@
 -- Uses of the consequences where the order is 2, on the projective plane.
-use mathlib.Core.Path.{_≡_, refl, sym, _∙_, ap, subst}
-use mathlib.Core.Logic.{_≢_, _⊎_}
+use mathlib.Core.Path.{_≡_, sym, _∙_, ap, subst}
+use mathlib.Core.Logic.{_⊎_}
 use mathlib.Core.List.{List, _++_}
 use Prim.Native.Nat.{ℕ, zero, suc, _+_, _<_}
 use native.Mathlib.Omega.{arith}
@@ -20,7 +20,7 @@ use Rattle.projective_plane.specs.Plane.{report, twice, backwards}
 use Rattle.projective_plane.specs.Examples.{loops, nines, plane-calls}
 use Rattle.demands.specs.Answers.{ReportOf, CoordinatesOf, Counted}
 use Rattle.demands.specs.Consequences.{SameCounts, CoordinatesOfSmallOrders, CoordinatesOnly, GeneratorMultiples, GeneratorsBackwards}
-use Rattle.demands.proofs.Plane.{plane-bytes, numbers, read, number-at, plane-report, plane-order, twice-coordinates, backwards-coordinates}
+use Rattle.demands.proofs.Plane.{plane-bytes, numbers, read, plane-report, plane-order, twice-coordinates, backwards-coordinates}
 
 -- coefficient i of w times the reported generator, of the report in these numbers
 abbrev multiple : ℤ → List ℤ → ℕ → ℤ

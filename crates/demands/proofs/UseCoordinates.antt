@@ -1,9 +1,8 @@
 -- Uses of the claims on coordinates, on the projective plane: which loops differ by a boundary, and which coordinates there are.
 use mathlib.Core.Path.{_≡_, sym, _∙_, ap, subst}
-use mathlib.Core.Logic.{_≢_}
 use Prim.Native.Nat.{ℕ, zero, suc, _+_, _<_}
 use native.Mathlib.Omega.{arith}
-use lib.IntN.{ℤ, pos, negsuc, negℤ, natAbs, _-ℤ_, _*ℤ_}
+use lib.IntN.{ℤ, pos, negℤ, natAbs, _-ℤ_, _*ℤ_}
 use lib.Signed.{_≤ℤ_, _<ℤ_}
 use Rattle.homology_groups.specs.Chain.{Chain, combination}
 use Rattle.requests.specs.Question.{cells, cellCount}

@@ -1,5 +1,5 @@
 -- Uses of the claims on headroom: the counts of the projective plane, whose peak is 2, and of the hollow triangle with and without cells.
-use mathlib.Core.Path.{_≡_, refl, sym, _∙_, ap}
+use mathlib.Core.Path.{_≡_, refl}
 use mathlib.Core.Logic.{_⊎_}
 use Prim.Native.Nat.{ℕ, _-_, _^_, _≤_, _<_}
 use native.Mathlib.Omega.{arith}

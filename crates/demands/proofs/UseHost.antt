@@ -1,8 +1,7 @@
 -- Uses of the claim on the host calls, on the hollow triangle: the number, the bytes and what is left, with the library's call known by the claim on calls.
-use mathlib.Core.Path.{_≡_, refl, sym, _∙_, ap, subst}
-use mathlib.Core.Logic.{_≢_}
+use mathlib.Core.Path.{_≡_, refl, sym, _∙_, ap}
 use mathlib.Core.List.{List, [], _∷_}
-use Prim.Native.Nat.{ℕ, _<_}
+use Prim.Native.Nat.{ℕ}
 use native.Mathlib.Omega.{arith}
 use lib.ListN.{length, getD, replicate}
 use lib.IntN.{ℤ, pos}
@@ -13,8 +12,8 @@ use Rattle.sheet_format.specs.Layout.{start}
 use Rattle.sheet_format.specs.Check.{countField, cellOf, cellsOf, sectionsOf}
 use Rattle.sheet_format.specs.Starred.{hollowTriangle}
 use Rattle.reports.specs.Report.{Counts}
-use Rattle.requests.specs.Question.{Question, asked, cells}
-use Rattle.requests.specs.Call.{Request, report, lists, coordinates, call}
+use Rattle.requests.specs.Question.{asked, cells}
+use Rattle.requests.specs.Call.{report, lists, call}
 use Rattle.host_calls.specs.Bytes.{numberAt}
 use Rattle.host_calls.specs.Host.{hostCall}
 use Rattle.answers.specs.Right.{slot}

@@ -16,9 +16,9 @@ use Rattle.complexes.specs.Complex.{count}
 use Rattle.sheet_format.specs.Layout.{start}
 use Rattle.sheet_format.specs.Check.{countField, offsetField, cellOf, cellsOf, sectionsOf, some, verticesDoNotRise, cellsDoNotRise, faceMissing}
 use Rattle.reports.specs.Report.{Counts}
-use Rattle.requests.specs.Question.{Question, cells, cellCount}
-use Rattle.requests.specs.Chains.{chainAt, coefficientExceeds, boundaryNotZero, chainChecks, cyclesChecks, chainsChecks, FirstFault}
-use Rattle.requests.specs.Call.{coordinates, lists, workSlots, callChecks, earlyChecks, call}
+use Rattle.requests.specs.Question.{cells}
+use Rattle.requests.specs.Chains.{chainAt, coefficientExceeds, boundaryNotZero, chainChecks, FirstFault}
+use Rattle.requests.specs.Call.{coordinates, lists, callChecks, call}
 use Rattle.answers.specs.Homology.{IsCycle}
 use Rattle.answers.specs.Right.{slot}
 use Rattle.answers.specs.Outcome.{NoCycle}

@@ -1,33 +1,33 @@
 -- Uses of the claims on the import: the mesh text of the hollow triangle, its sheet in a slice of 40 bytes, and texts and slices that are refused.
-use mathlib.Core.Path.{_≡_, refl, sym, _∙_, ap, subst}
-use mathlib.Core.Bool.{Bool, true, false, false≢true}
+use mathlib.Core.Path.{_≡_, refl, sym, _∙_, subst}
+use mathlib.Core.Bool.{false≢true}
 use mathlib.Core.List.{List, [], _∷_, _++_}
 use Prim.Native.Nat.{ℕ, _≤_}
 use native.Mathlib.Omega.{arith}
 use lib.ListN.{length, take, drop}
 use Rattle.limits.specs.Limits.{libraryLimit, hostLimit}
+use Rattle.trials.specs.Trial.{done, numberTold}
 use Rattle.lists.specs.Tabulate.{tabulate}
 use Rattle.lists.specs.Same.{every, sameList}
 use Rattle.complexes.specs.Cell.{without, precedes}
 use Rattle.complexes.specs.Complex.{Sections}
-use Rattle.sheet_format.specs.Layout.{top, cellBytes, sectionBytes, sectionsBytes, start, headerBytes, layout}
+use Rattle.sheet_format.specs.Layout.{cellBytes, sectionBytes, sectionsBytes, start, headerBytes, layout}
 use Rattle.sheet_format.specs.Check.{some, sectionsOf, refusal}
 use Rattle.sheet_format.specs.Sheet.{Bytes}
 use Rattle.sheet_format.specs.Starred.{hollowTriangle}
 use Rattle.closures.specs.Insert.{insert, insertAll}
-use Rattle.closures.specs.Closure.{member, repeats, ofDimension, facesOf, closedSection, closure}
+use Rattle.closures.specs.Closure.{elementTop, member, repeats, ofDimension, facesOf, closedSection, closure}
 use Rattle.closures.specs.Form.{IsClosure}
 use Rattle.mesh_format.specs.Mesh.{Mesh}
 use Rattle.mesh_format.specs.Words.{valueFrom}
 use Rattle.mesh_format.specs.Form.{joined, MeshText}
 use Rattle.mesh_format.specs.Parse.{then, run, someBytes, word, gap, lineEnd, digitsAt, number, node, theWord, words, wordLine, titleLine, formatLine, countLine, nodeLine, nodesWithin, nodeNumbers, elementLine, nodeLines, elementLines, closingWithin, closingLine, sectionsWithin, sections, headOf, nodesOf, elementsOf, meshOf}
-use Rattle.mesh_format.specs.Accept.{mesh-iff}
-use Rattle.imports.specs.Import.{nodesOfKind, faulty, noneFaulty, elementsRight, nodeLists, complexOf, meshIn, isMalformed, tooLong, meshChecks, ImportCalled, answerWith, importCall, importNumber}
-use Rattle.imports.specs.Import as imports
-use Rattle.imports.specs.ImportLaws.{mesh-cells}
+use Rattle.mesh_format.proofs.Accept.{mesh-iff}
+use Rattle.imports.specs.Import.{nodesOfKind, faulty, noneFaulty, nodeLists, complexOf, meshIn, isMalformed, tooLong, meshChecks, answerWith, importCall}
+use Rattle.imports.proofs.ImportLaws.{mesh-cells}
 use Rattle.imports.specs.Sheet.{headerGives, ImportedSheet}
 use Rattle.imports.specs.Examples.{shown, line, textOf, hollow, twice, lent, hollowMesh, hollow-text, hollow-right, hollow-done, hollow-host-done}
-use Rattle.demands.specs.Meshes.{ImportMalformed, MeshesUnique, ImportFaulty, HasCells, MeshCells, MeshCellsUnique, ImportTooLong, ImportDone, ImportLeft, ImportSheet, HostImportSheet}
+use Rattle.demands.specs.Meshes.{ImportMalformed, MeshesUnique, ImportFaulty, MeshCells, MeshCellsUnique, ImportTooLong, ImportDone, ImportLeft, ImportSheet, HostImportSheet}
 use Rattle.demands.proofs.Hollow.{hollowCells}
 
 -- ---- 14
@@ -35,15 +35,15 @@ use Rattle.demands.proofs.Hollow.{hollowCells}
 module _ (importMalformed : ImportMalformed) where
   -- no text at all tells no mesh
   no-mesh : (m : Mesh) → MeshText m [] → ⊥
-  unfolding then run someBytes word gap lineEnd theWord words wordLine titleLine sectionsWithin sections headOf meshOf isMalformed meshIn meshChecks answerWith importCall importNumber
+  unfolding then run someBytes word gap lineEnd theWord words wordLine titleLine sectionsWithin sections headOf meshOf isMalformed meshIn meshChecks answerWith importCall
   no-mesh = importMalformed 48 [] [] .0 refl
 
   -- whatever the slice: there is a mesh, so not 14
-  not-14 : (limit : ℕ) (sheet : List ℕ) → importNumber (importCall limit hollow sheet .answer) ≡ 14 → ⊥
+  not-14 : (limit : ℕ) (sheet : List ℕ) → numberTold (importCall limit hollow sheet .answer) ≡ 14 → ⊥
   not-14 limit sheet told = importMalformed limit hollow sheet .0 told hollowMesh hollow-text
 
   -- where no mesh is told, 14
-  told-14 : (limit : ℕ) (sheet : List ℕ) → importNumber (importCall limit [] sheet .answer) ≡ 14
+  told-14 : (limit : ℕ) (sheet : List ℕ) → numberTold (importCall limit [] sheet .answer) ≡ 14
   told-14 limit sheet = importMalformed limit [] sheet .1 no-mesh
 
 one-mesh : MeshesUnique → (m : Mesh) → MeshText m hollow → m ≡ hollowMesh
@@ -62,11 +62,11 @@ unfolding joined shown line textOf sameList
 line-text = mesh-iff lineMesh twice .1 refl
 
 module _ (importFaulty : ImportFaulty) where
-  told-15 : (limit : ℕ) (sheet : List ℕ) → importNumber (importCall limit twice sheet .answer) ≡ 15
+  told-15 : (limit : ℕ) (sheet : List ℕ) → numberTold (importCall limit twice sheet .answer) ≡ 15
   unfolding every member repeats nodesOfKind faulty noneFaulty
   told-15 limit sheet = importFaulty limit twice sheet lineMesh line-text .1 refl
 
-  not-15 : (limit : ℕ) (sheet : List ℕ) → importNumber (importCall limit hollow sheet .answer) ≡ 15 → ⊥
+  not-15 : (limit : ℕ) (sheet : List ℕ) → numberTold (importCall limit hollow sheet .answer) ≡ 15 → ⊥
   not-15 limit sheet told = false≢true (sym (importFaulty limit hollow sheet hollowMesh hollow-text .0 told) ∙ hollow-right)
 
 -- ---- the cells
@@ -75,7 +75,7 @@ module _ (importFaulty : ImportFaulty) where
 abbrev written : Sections
 written = complexOf (hollowMesh .elements)
 
-written-closure : IsClosure top (nodeLists (hollowMesh .elements)) written
+written-closure : IsClosure elementTop (nodeLists (hollowMesh .elements)) written
 written-closure = mesh-cells hollowMesh hollow-right
 
 written-cells : written ≡ hollowCells
@@ -91,17 +91,17 @@ has-cells meshCells meshCellsUnique =
 
 module _ (importTooLong : ImportTooLong) where
   -- one byte short
-  short : importNumber (importCall 48 hollow (lent 33) .answer) ≡ 16
+  short : numberTold (importCall 48 hollow (lent 33) .answer) ≡ 16
   unfolding tooLong some insert insertAll ofDimension facesOf closedSection closure tabulate without precedes layout headerBytes start sectionsBytes sectionBytes cellBytes
   short = importTooLong 48 hollow (lent 33) hollowMesh hollow-text hollow-right written written-closure .1 refl
 
   -- a count above its limit
-  many : importNumber (importCall 2 hollow (lent 40) .answer) ≡ 16
+  many : numberTold (importCall 2 hollow (lent 40) .answer) ≡ 16
   unfolding tooLong some insert insertAll ofDimension facesOf closedSection closure tabulate without precedes layout headerBytes start sectionsBytes sectionBytes cellBytes
   many = importTooLong 2 hollow (lent 40) hollowMesh hollow-text hollow-right written written-closure .1 refl
 
   -- at the length and at the limit
-  not-16 : importNumber (importCall 3 hollow (lent 34) .answer) ≡ 16 → ⊥
+  not-16 : numberTold (importCall 3 hollow (lent 34) .answer) ≡ 16 → ⊥
   unfolding tooLong some insert insertAll ofDimension facesOf closedSection closure tabulate without precedes layout headerBytes start sectionsBytes sectionBytes cellBytes
   not-16 told = false≢true (importTooLong 3 hollow (lent 34) hollowMesh hollow-text hollow-right written written-closure .0 told)
 
@@ -109,7 +109,7 @@ module _ (importTooLong : ImportTooLong) where
     kept : importCall 48 hollow (lent 33) .output ≡ lent 33
     kept = importLeft 48 hollow (lent 33) (λ none. let sixteen : _≡_ {A = ℕ} 16 0 = sym short ∙ none in absurd (omega (arith, sixteen)))
 
-imported : ImportDone → importCall 3 hollow (lent 40) ≡ record { answer = imports.done 34; output = hollowTriangle ++ lent 6 }
+imported : ImportDone → importCall 3 hollow (lent 40) ≡ record { answer = done 34; output = hollowTriangle ++ lent 6 }
 unfolding tooLong some insert insertAll ofDimension facesOf closedSection closure tabulate without precedes layout headerBytes start sectionsBytes sectionBytes cellBytes
 imported importDone = importDone 3 hollow (lent 40) hollowMesh hollow-text hollow-right written written-closure refl
 
@@ -121,7 +121,7 @@ module _ (after : List ℕ) (limit : ℕ) (n : ℕ) (sheet : ImportedSheet limit
 
   same-cells : sectionsOf (take n after) ≡ hollowCells
   same-cells =
-      unique hollowMesh (sectionsOf (take n after)) written (subst (λ (m : Mesh). IsClosure top (nodeLists (m .elements)) (sectionsOf (take n after))) same-mesh (sheet .cells)) written-closure
+      unique hollowMesh (sectionsOf (take n after)) written (subst (λ (m : Mesh). IsClosure elementTop (nodeLists (m .elements)) (sectionsOf (take n after))) same-mesh (sheet .cells)) written-closure
       ∙ written-cells
 
   inside : n ≤ length after

@@ -19,7 +19,7 @@ use Rattle.requests.specs.Call as request
 use Rattle.answers.specs.Right.{slot, orderIn, generatorIn}
 use Rattle.moore_space.specs.Space.{sheet, report, backwards}
 use Rattle.moore_space.specs.Examples.{loops, nines, counts, space-calls}
-use Rattle.demands.specs.Answers.{CoordinatesOf, ReportOf, Counted, CoordinatesNearestZero}
+use Rattle.demands.specs.Answers.{CoordinatesOf, ReportOf, Counted}
 use Rattle.demands.specs.Answers as claims
 use Rattle.demands.specs.Consequences.{CoordinatesOfSmallOrders, GeneratorsBackwards}
 use Rattle.demands.proofs.Hollow.{numbers-below}

@@ -1,33 +1,31 @@
 -- Uses of the claims on the program: the text of the hollow triangle, of a sheet cut short, and of an input longer than any sheet.
-use mathlib.Core.Path.{_≡_, refl, sym, _∙_, ap, subst}
-use mathlib.Core.List.{List, [], _∷_, _++_}
-use Prim.Native.Nat.{ℕ, suc, _+_, _≤_, _<_}
+use mathlib.Core.Path.{_≡_, refl, sym, _∙_, ap}
+use mathlib.Core.List.{List, [], _∷_}
+use Prim.Native.Nat.{ℕ, _+_, _≤_}
 use native.Mathlib.Omega.{arith}
-use lib.ListN.{length, take, drop}
-use lib.IntN.{ℤ, pos}
+use lib.ListN.{take}
+use lib.IntN.{ℤ}
 use Rattle.limits.specs.Limits.{hostLimit}
 use Rattle.lists.specs.Tabulate.{tabulate}
 use Rattle.lists.specs.Splice.{splice, splices}
 use Rattle.trials.specs.Trial.{Answer, done, refused, Called}
 use Rattle.trials.specs.TrialLaws.{refused≢done}
-use Rattle.complexes.specs.Boundary.{countBelow}
-use Rattle.sheet_format.specs.Layout.{start, longest, top}
-use Rattle.sheet_format.specs.Check.{countField, offsetField, cellOf, cellsOf, sectionsOf, refusal}
+use Rattle.sheet_format.specs.Layout.{start, top}
+use Rattle.sheet_format.specs.Check.{countField, cellOf, cellsOf, sectionsOf, refusal}
+use Rattle.sheet_format.specs.Sheet.{Bytes}
 use Rattle.sheet_format.specs.Starred.{hollowTriangle}
-use Rattle.reports.specs.Reductions.{reduced}
-use Rattle.reports.specs.Report.{Counts, countsOf, reported, columnsOf, torsionCount, halvings, bitsOf, reportList}
-use Rattle.requests.specs.Question.{asked, cells, cellCount}
+use Rattle.reports.specs.Report.{Counts, countsOf, reported, columnsOf, torsionCount, reportList}
+use Rattle.requests.specs.Question.{asked, cells}
 use Rattle.requests.specs.Call.{report, call}
 use Rattle.program_text.specs.Text.{digits, decimal, spaced, refusalLine, generatorsText, reportText, programText}
 use Rattle.answers.specs.Printed.{DimensionPrinted, DimensionsPrinted, inTurn}
 use Rattle.answers.specs.Printed as printed
-use Rattle.answers.specs.Outcome.{Outcome}
+use Rattle.answers.specs.Outcome.{Outcome, TooWide}
 use Rattle.answers.specs.Outcome as outcome
-use Rattle.answers.specs.Behind.{ends-two}
 use Rattle.demands.specs.Calls.{Calls}
 use Rattle.demands.specs.Program.{ProgramRefuses, ProgramPrints, ProgramInput}
-use Rattle.demands.proofs.Hollow.{hollow, hollow-bytes, hollow-accepted, hollow-chains, hollow-left, hollow-reduced, hollow-narrow}
-use Rattle.demands.proofs.UseCalls.{left, when-answered}
+use Rattle.demands.proofs.Hollow.{hollow, hollow-bytes, hollow-accepted, hollow-left, hollow-narrow}
+use Rattle.demands.proofs.UseCalls.{when-answered}
 
 -- `R 1`
 abbrev tooShort : List ℕ
@@ -51,7 +49,7 @@ longer programInput b = programInput b 977 (omega arith)
 abbrev loopText : List ℕ
 loopText = 72 ∷ 32 ∷ 49 ∷ 32 ∷ 49 ∷ 32 ∷ 48 ∷ 10 ∷ 71 ∷ 32 ∷ 49 ∷ 32 ∷ 45 ∷ 49 ∷ 32 ∷ 49 ∷ 10 ∷ []
 
--- the text of the report that a call leaves, 
+-- the text of dimension 1 by what the report call leaves
 abbrev printedBy : ℕ → ℕ → List ℤ → List ℕ
 printedBy free torsion output = reportText 1 3 torsion (torsion + free) output
 
@@ -82,3 +80,19 @@ module _ (calls : Calls) (programPrints : ProgramPrints) where
   -- and dimension 3
   last : DimensionPrinted hollowTriangle 3 (hollow-printed .texts 3)
   last = hollow-printed .each 3 (omega arith)
+
+-- of any sheet: `R 13` for a dimension that goes too wide
+wide-printed : (calls : Calls) (programPrints : ProgramPrints) (b : List ℕ) (bytes : Bytes b) (accepted : refusal hostLimit b ≡ 0) (p : ℕ) → p ≤ top → TooWide (asked b p) →
+    programPrints b bytes accepted .texts p ≡ 82 ∷ 32 ∷ 49 ∷ 51 ∷ 10 ∷ []
+unfolding spaced decimal digits
+wide-printed calls programPrints b bytes accepted p small goes = of (programPrints b bytes accepted .each p small)
+  where
+    not-done : (output work : List ℤ) (counts : Counts) → call hostLimit (asked b p) report output work .answer ≡ done counts →
+        Outcome hostLimit (asked b p) report output work (call hostLimit (asked b p) report output work) → ⊥
+    not-done output work counts e (outcome.Outcome.refused-early k nonzero told is) = refused≢done (sym (ap (λ (c : Called Counts ℤ). c .answer) is) ∙ e)
+    not-done output work counts e (outcome.Outcome.too-wide none wide is) = refused≢done (sym (ap (λ (c : Called Counts ℤ). c .answer) is) ∙ e)
+    not-done output work counts e (outcome.Outcome.is-done none narrow s r x ends is) = narrow goes
+
+    of : {text : List ℕ} → DimensionPrinted b p text → text ≡ refusalLine 13
+    of (printed.DimensionPrinted.too-wide wide is) = is
+    of (printed.DimensionPrinted.reports output work counts e is) = absurd (not-done output work counts e (calls hostLimit (asked b p) report output work bytes))

@@ -1,7 +1,6 @@
 -- Uses of the claims on reports: the projective plane's report has free rank 0 and the order 2, and describes the group; the hollow triangle has one report.
 use mathlib.Core.Path.{_≡_, refl, sym, _∙_, ap, subst}
 use mathlib.Core.Logic.{_≢_}
-use mathlib.Core.List.{List, [], _∷_}
 use Prim.Native.Nat.{ℕ, zero, suc, _+_, _<_}
 use native.Mathlib.Omega.{arith}
 use lib.IntN.{ℤ, pos, natAbs, _-ℤ_}
@@ -19,13 +18,13 @@ use Rattle.requests.specs.Call.{report, call}
 use Rattle.host_calls.specs.Bytes.{numberAt}
 use Rattle.host_calls.specs.Host.{hostCall}
 use Rattle.answers.specs.Homology.{IsCycle, IsBoundary, Presents}
-use Rattle.answers.specs.Right.{slot, orderIn, generatorIn, IsRight, HasCounts}
+use Rattle.answers.specs.Right.{slot, orderIn, generatorIn, IsRight}
 use Rattle.projective_plane.specs.Examples.{loops, counts, plane-calls}
 use Rattle.demands.specs.Calls.{Calls}
 use Rattle.demands.specs.Host.{HostCalls}
 use Rattle.demands.specs.Answers.{ReportOf, CountsAnswered, Counted, RightReport, Reports, CountsRight, OneReport, OneCounts}
 use Rattle.demands.specs.Answers as claims
-use Rattle.demands.proofs.Hollow.{hollow, hollow-bytes, nines, minus}
+use Rattle.demands.proofs.Hollow.{hollow, hollow-bytes, nines}
 use Rattle.demands.proofs.Plane.{plane-bytes, numbers, number-at, plane-report, plane-order, plane-answered, loop-answered}
 use Rattle.demands.proofs.UseCalls as calling
 use Rattle.demands.proofs.UseHost.{lent, host-done}

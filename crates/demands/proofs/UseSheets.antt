@@ -1,6 +1,5 @@
 -- Uses of the claims on acceptance: the hollow triangle is a sheet at the limit 3, with its cells, and none at the limit 2.
 use mathlib.Core.Path.{_≡_, refl, sym, _∙_}
-use mathlib.Core.List.{List}
 use Prim.Native.Nat.{ℕ}
 use native.Mathlib.Omega.{arith}
 use Rattle.lists.specs.Tabulate.{tabulate}

@@ -1,12 +1,10 @@
 -- The hollow triangle's loop run backwards through the four ways in which coordinates are read: each gives -1, by the claim that coordinates decide.
 use mathlib.Core.Path.{_≡_, refl, sym, _∙_, ap}
-use mathlib.Core.List.{List, [], _∷_, _++_}
+use mathlib.Core.List.{List, [], _∷_}
 use Prim.Native.Nat.{ℕ, zero, suc, _+_, _*_, _<_}
 use native.Mathlib.Omega.{arith}
 use lib.IntN.{ℤ, pos, _-ℤ_}
-use Rattle.integers.specs.Division.{floor, modulo, residue}
 use Rattle.lists.specs.Tabulate.{tabulate}
-use Rattle.lists.specs.Splice.{splice, splices}
 use Rattle.matrices.specs.Sum.{sum}
 use Rattle.matrices.specs.Vector.{apply}
 use Rattle.trials.specs.Trial.{Called}
