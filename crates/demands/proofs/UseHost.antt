@@ -78,10 +78,10 @@ module _ (calls : Calls) (hostCalls : HostCalls) where
   unfolding cells countField cellOf cellsOf sectionsOf start tabulate
   second-read = lists-carried .reads loops lists-are-done 1 0 (omega arith) (omega arith) ∙ ap (λ (c : Called Counts ℤ). slot (c .output) 3) (lists-written calls)
 
-  -- behind the number of the second list
-  second-between : getD (hostCall hollow (lists 2 both) (lent 60) .output) 32 0 ≡ 9
+  -- the last byte of the room for the second list
+  second-between : getD (hostCall hollow (lists 2 both) (lent 60) .output) 47 0 ≡ 9
   unfolding cells countField cellOf cellsOf sectionsOf start tabulate
-  second-between = lists-carried .between loops lists-are-done 1 8 (omega arith) (omega arith) (omega arith)
+  second-between = lists-carried .between loops lists-are-done 1 23 (omega arith) (omega arith) (omega arith)
 
   lists-past : getD (hostCall hollow (lists 2 both) (lent 60) .output) 48 0 ≡ 9
   unfolding cells countField cellOf cellsOf sectionsOf start tabulate

@@ -89,21 +89,21 @@ module _ (firstFaultyChain : FirstFaultyChain) where
     earlier = first-fault e .earlier;
   }
 
--- ---- the list of a single call: the loop run backwards, as chain 1 and alone with longer slices
+-- ---- the list of a single call: the loop run backwards, as chain 1 and alone
 
 abbrev backwards : List ℤ
 backwards = minus 1 ∷ pos 1 ∷ minus 1 ∷ []
 
 module _ (calls : Calls) (listsSingle : ListsSingle) where
-  single : ListSingle 48 hollow 1 backwards (call 48 hollow (lists 2 (loop ++ backwards)) (nines 7) (nines 27) .output) loops (nines 8) (nines 40)
+  single : ListSingle 48 hollow 1 backwards (call 48 hollow (lists 2 (loop ++ backwards)) (nines 7) (nines 27) .output) loops (nines 3) (nines 27)
   unfolding cells countField cellOf cellsOf sectionsOf start countBelow tabulate
   single =
       listsSingle 48 hollow 2 (loop ++ backwards) (nines 7) (nines 27) hollow-bytes loops (ap (λ (c : Called Counts ℤ). c .answer) (lists-written calls)) 1 (omega arith)
-      (nines 8) (nines 40) (omega arith) (omega arith)
+      (nines 3) (nines 27) (omega arith) (omega arith)
 
-  single-done : call 48 hollow (coordinates backwards) (nines 8) (nines 40) .answer ≡ done loops
+  single-done : call 48 hollow (coordinates backwards) (nines 3) (nines 27) .answer ≡ done loops
   single-done = single .answer
 
-  single-same : slot (call 48 hollow (coordinates backwards) (nines 8) (nines 40) .output) 0 ≡ minus 1
+  single-same : slot (call 48 hollow (coordinates backwards) (nines 3) (nines 27) .output) 0 ≡ minus 1
   unfolding cells countField cellOf cellsOf sectionsOf start countBelow tabulate
   single-same = sym (single .same 0 (omega arith)) ∙ ap (λ (c : Called Counts ℤ). slot (c .output) 3) (lists-written calls)

@@ -31,7 +31,11 @@ module _ (acceptance : Acceptance) where
       told : refusal 2 hollowTriangle ≡ 2
       told = refl
 
-  module _ (sheetCells : SheetCells) where
-    cells : is-sheet .cells ≡ hollowCells
-    unfolding sectionsOf cellsOf cellOf countField start tabulate
-    cells = sheetCells 3 (omega arith) hollowTriangle is-sheet
+  -- at the largest limit there is, its cells are the triangle's
+  largest : IsSheet 256 hollowTriangle
+  unfolding refusal countField offsetField cellOf cellsOf sectionsOf some verticesDoNotRise cellsDoNotRise faceMissing without same rises precedes listed start tabulate
+  largest = acceptance 256 (omega arith) hollowTriangle hollow-bytes .0 refl
+
+  cells : SheetCells → largest .cells ≡ hollowCells
+  unfolding sectionsOf cellsOf cellOf countField start tabulate
+  cells sheetCells = sheetCells 256 (omega arith) hollowTriangle largest
