@@ -14,13 +14,13 @@ use Rattle.reduction_steps.specs.State.{State, within}
 use Rattle.reduction_steps.specs.Step as machine
 use Rattle.reduction_steps.specs.Pivot.{IsRule}
 use Rattle.reduction_steps.specs.PivotLaws.{pivotRule-is-rule}
-use Rattle.reports.specs.Reductions.{Reductions, tooWide, reduced, firstSizes, firstStart, secondSizes, secondStart, afterSecond, reductions}
+use Rattle.reports.specs.Reductions.{Reductions, noTransforms, tooWide, reduced, firstSizes, firstStart, secondSizes, secondStart, afterSecond, reductions}
 use Rattle.reports.specs.ReductionsLaws.{reductions-done, after-second}
 use Rattle.requests.specs.Question.{Question, cells, rule, two}
 use Rattle.requests.specs.Call.{Request, earlyChecks}
 use Rattle.requests.specs.CallLaws.{early-iff}
 use Rattle.answers.specs.TwoReductions.{Right, reductions-right, reductions-within}
-use Rattle.answers.specs.Headroom.{Headroom, reductions-headroom}
+use Rattle.answers.specs.Headroom.{Headroom, no-transforms-bare, reductions-headroom}
 use Rattle.answers.specs.WideLaws.{reaches-outcome, first-is, second-is, wide-iff}
 use Rattle.answers.specs.LeastLimit.{AtLimit, reductions-limit}
 use Rattle.answers.specs.Outcome.{TooWide, EndsAt, Ends}
@@ -46,30 +46,30 @@ pub record Behind (q : Question) : Type 0 where
   pub right : Right (cells q) (q .dimension) rows rank state
   pub small : within entryLimit state ≡ true
   pub headroom : Headroom entryLimit (cells q) (q .dimension) state
-  pub limits : (L : ℕ) → 1 ≤ L → AtLimit (rule q) L (cells q) (q .dimension) rows rank state
+  pub limits : (L : ℕ) → 1 ≤ L → AtLimit noTransforms (rule q) L (cells q) (q .dimension) rows rank state
 
 -- the machine comes to the end that the reductions give, at any entry limit
-pub ends-at : (q : Question) (s r : ℕ) (x : State) (L : ℕ) → reductions (rule q) L (cells q) (q .dimension) ≡ reduced s r x → EndsAt L q s r x
+pub ends-at : (q : Question) (s r : ℕ) (x : State) (L : ℕ) → reductions noTransforms (rule q) L (cells q) (q .dimension) ≡ reduced s r x → EndsAt L q s r x
 ends-at q s r x L e =
-    let d = reductions-done (rule q) L (cells q) (q .dimension) s r x e in
+    let d = reductions-done noTransforms (rule q) L (cells q) (q .dimension) s r x e in
     record {
       firstRank = d .firstRank;
       firstState = d .firstState;
-      first = reaches-outcome L (rule q) (firstSizes (cells q) (q .dimension)) (firstStart (cells q) (q .dimension)) (machine.done (d .firstRank) (d .firstState)) (d .first);
+      first = reaches-outcome L (rule q) (firstSizes noTransforms (cells q) (q .dimension)) (firstStart noTransforms (cells q) (q .dimension)) (machine.done (d .firstRank) (d .firstState)) (d .first);
       narrow = d .narrow;
       rows = d .rows;
-      second = reaches-outcome L (rule q) (secondSizes (cells q) (q .dimension) (d .firstRank)) (secondStart (cells q) (q .dimension) (d .firstRank) (d .firstState)) (machine.done r x) (d .second);
+      second = reaches-outcome L (rule q) (secondSizes noTransforms (cells q) (q .dimension) (d .firstRank)) (secondStart noTransforms (cells q) (q .dimension) (d .firstRank) (d .firstState)) (machine.done r x) (d .second);
     }
 
 module _ {limit : ℕ} (q : Question) (chains : ChainComplex limit (cells q)) where
   pub two-wide : (two q ≡ tooWide) ↔ TooWide q
   unfolding two
-  two-wide = wide-iff chains (rule q) (rule-is q) entryLimit (q .dimension) (omega arith)
+  two-wide = wide-iff chains noTransforms (rule q) (rule-is q) entryLimit (q .dimension) (omega arith)
 
   module _ (s r : ℕ) (x : State) where
     pub two-right : two q ≡ reduced s r x → Right (cells q) (q .dimension) s r x
     unfolding two
-    two-right e = reductions-right chains (rule q) (rule-is q) entryLimit (q .dimension) (omega arith) s r x e
+    two-right e = reductions-right chains noTransforms (rule q) (rule-is q) entryLimit (q .dimension) (omega arith) s r x e
 
     pub behind : two q ≡ reduced s r x → Behind q
     unfolding two
@@ -81,9 +81,9 @@ module _ {limit : ℕ} (q : Question) (chains : ChainComplex limit (cells q)) wh
       state = x;
       reductions-are = e;
       right = two-right e;
-      small = reductions-within chains (rule q) (rule-is q) entryLimit (q .dimension) (omega arith) s r x e;
-      headroom = reductions-headroom chains (rule q) (rule-is q) entryLimit (q .dimension) (omega arith) s r x e;
-      limits = reductions-limit chains (rule q) (rule-is q) entryLimit (q .dimension) s r x e;
+      small = reductions-within chains noTransforms (rule q) (rule-is q) entryLimit (q .dimension) (omega arith) s r x e;
+      headroom = reductions-headroom chains noTransforms (rule q) (rule-is q) entryLimit (q .dimension) (omega arith) s r x e (no-transforms-bare (cells q) (q .dimension));
+      limits = reductions-limit chains noTransforms (rule q) (rule-is q) entryLimit (q .dimension) s r x e;
     }
 
     pub ends : two q ≡ reduced s r x → Ends q s r x
@@ -94,9 +94,9 @@ module _ {limit : ℕ} (q : Question) (chains : ChainComplex limit (cells q)) wh
     unfolding two afterSecond
     ends-two d =
         let one : 1 ≤ entryLimit = omega arith in
-        let first = first-is chains (rule q) (rule-is q) entryLimit (q .dimension) one (machine.done (d .firstRank) (d .firstState)) (d .first) tt in
-        let second = second-is chains (rule q) (rule-is q) entryLimit (q .dimension) one (d .firstRank) (d .firstState) first (d .narrow) (machine.done r x) (d .second) tt in
-        after-second (rule q) entryLimit (cells q) (q .dimension) (d .firstRank) (d .firstState) first (d .narrow) (machine.done r x) second
+        let first = first-is chains noTransforms (rule q) (rule-is q) entryLimit (q .dimension) one (machine.done (d .firstRank) (d .firstState)) (d .first) tt in
+        let second = second-is chains noTransforms (rule q) (rule-is q) entryLimit (q .dimension) one (d .firstRank) (d .firstState) first (d .narrow) (machine.done r x) (d .second) tt in
+        after-second noTransforms (rule q) entryLimit (cells q) (q .dimension) (d .firstRank) (d .firstState) first (d .narrow) (machine.done r x) second
         ∙ ap (λ (n : ℕ). reduced n r x) (sym (d .rows))
 
 -- what holds of two reductions that are done holds of them however they are found

@@ -1,5 +1,6 @@
 -- The peak of two reductions that are done, document 02, Note 4: `Headroom`, and reductions-headroom. That it is an entry of some matrix on the way,
--- and covers all of them, are peak-held and peak-covers of `reduction_laws`, for the operations of either reduction.
+-- and covers all of them, are peak-held and peak-covers of `reduction_laws`, for the operations of either reduction. A transform that is kept may have
+-- entries where there are no cells; `Bare`: none has.
 use mathlib.Core.Path.{_≡_, sym, _∙_, ap, subst}
 use mathlib.Core.Logic.{_↔_}
 use mathlib.Core.Bool.{true}
@@ -21,7 +22,7 @@ use Rattle.reduction_laws.specs.Moves.{Moves, moves-keep}
 use Rattle.reduction_laws.specs.SmithForm as machine
 use Rattle.reduction_laws.specs.Peaks.{largest-le, peak-row, peak-column, covered-moves, peak-rises, peak-within}
 use Rattle.reports.specs.ReductionsLaws.{first-peak, second-peak, BothDone, reductions-done}
-use Rattle.reports.specs.Reductions.{firstSizes, firstStart, secondSizes, secondStart, reduced, reductions}
+use Rattle.reports.specs.Reductions.{Transforms, noTransforms, firstSizes, firstStart, secondSizes, secondStart, reduced, reductions}
 use Rattle.answers.specs.Starts.{first-shaped, first-within, second-shaped, second-within}
 use Rattle.answers.specs.TwoReductions.{first-smith, second-smith}
 
@@ -36,12 +37,12 @@ pub record Headroom (limit : ℕ) (K : Sections) (p : ℕ) (x : State) : Type 0 
 -- ---- tables without entries
 
 -- no table of these sizes has an entry
-record Empty (z : Sizes) : Type 0 where
-  matrix : (i j : ℕ) → i < z .rows → j < z .columns → ⊥
-  rowFollower : (i j : ℕ) → i < z .rows → j < z .rowFollower → ⊥
-  rowInverse : (i j : ℕ) → i < z .rows → j < z .rowInverse → ⊥
-  columnFollower : (i j : ℕ) → i < z .columns → j < z .columnFollower → ⊥
-  columnInverse : (i j : ℕ) → i < z .columns → j < z .columnInverse → ⊥
+pub record Empty (z : Sizes) : Type 0 where
+  pub matrix : (i j : ℕ) → i < z .rows → j < z .columns → ⊥
+  pub rowFollower : (i j : ℕ) → i < z .rows → j < z .rowFollower → ⊥
+  pub rowInverse : (i j : ℕ) → i < z .rows → j < z .rowInverse → ⊥
+  pub columnFollower : (i j : ℕ) → i < z .columns → j < z .columnFollower → ⊥
+  pub columnInverse : (i j : ℕ) → i < z .columns → j < z .columnInverse → ⊥
 
 empty-largest : {z : Sizes} {s : State} → Empty z → Shaped z s → largest s ≤ 0
 empty-largest {z} {s} h f = largest-iff 0 s .1 (record {
@@ -74,10 +75,33 @@ empty-moves {limit} {z} h p f e =
 
 -- ---- the two reductions
 
-module _ {most : ℕ} {K : Sections} (chains : ChainComplex most K) (rule : Rule) (is : IsRule rule) (limit p : ℕ) (one : 1 ≤ limit)
-    (s r : ℕ) (x : State) (e : reductions rule limit K p ≡ reduced s r x) where
-  abbrev b : BothDone rule limit K p s r x
-  b = reductions-done rule limit K p s r x e
+-- where there are no cells of dimension p, no table of the two reductions has an entry
+pub record Bare (t : Transforms) (K : Sections) (p : ℕ) : Type 0 where
+  pub first : count K p ≡ 0 → Empty (firstSizes t K p)
+  pub second : (r : ℕ) → count K p ≡ 0 → Empty (secondSizes t K p r)
+
+pub no-transforms-bare : (K : Sections) (p : ℕ) → Bare noTransforms K p
+no-transforms-bare K p = record {
+  first = λ h. record {
+    matrix = λ i j a c. omega (arith, h);
+    rowFollower = λ i j a c. omega arith;
+    rowInverse = λ i j a c. omega arith;
+    columnFollower = λ i j a c. omega (arith, h);
+    columnInverse = λ i j a c. omega (arith, h);
+  };
+  second = λ r h. record {
+    matrix = λ i j a c. omega (arith, h);
+    rowFollower = λ i j a c. omega (arith, h);
+    rowInverse = λ i j a c. omega (arith, h);
+    columnFollower = λ i j a c. omega arith;
+    columnInverse = λ i j a c. omega arith;
+  };
+}
+
+module _ {most : ℕ} {K : Sections} (chains : ChainComplex most K) (t : Transforms) (rule : Rule) (is : IsRule rule) (limit p : ℕ) (one : 1 ≤ limit)
+    (s r : ℕ) (x : State) (e : reductions t rule limit K p ≡ reduced s r x) where
+  abbrev b : BothDone t rule limit K p s r x
+  b = reductions-done t rule limit K p s r x e
 
   abbrev r₁ : ℕ
   r₁ = b .firstRank
@@ -85,70 +109,58 @@ module _ {most : ℕ} {K : Sections} (chains : ChainComplex most K) (rule : Rule
   abbrev x₁ : State
   x₁ = b .firstState
 
-  abbrev S₁ : machine.Reduced limit (firstSizes K p) (firstStart K p) r₁ x₁
-  S₁ = first-smith chains rule is limit p one s r x e
+  abbrev S₁ : machine.Reduced limit (firstSizes t K p) (firstStart t K p) r₁ x₁
+  S₁ = first-smith chains t rule is limit p one s r x e
 
-  abbrev S₂ : machine.Reduced limit (secondSizes K p r₁) (secondStart K p r₁ x₁) r x
-  S₂ = second-smith chains rule is limit p one s r x e
+  abbrev S₂ : machine.Reduced limit (secondSizes t K p r₁) (secondStart t K p r₁ x₁) r x
+  S₂ = second-smith chains t rule is limit p one s r x e
 
-  rises : firstStart K p .peak ≤ x .peak
+  rises : firstStart t K p .peak ≤ x .peak
   rises =
-      omega (arith, peak-rises limit (firstSizes K p) 0 (S₁ .moves), second-peak K p r₁ x₁, peak-rises limit (secondSizes K p r₁) 0 (S₂ .moves))
+      omega (arith, peak-rises limit (firstSizes t K p) 0 (S₁ .moves), second-peak t K p r₁ x₁, peak-rises limit (secondSizes t K p r₁) 0 (S₂ .moves))
 
   peak-small : x .peak ≤ limit
-  peak-small = peak-within limit (secondSizes K p r₁) 0 (S₂ .moves) (omega (
+  peak-small = peak-within limit (secondSizes t K p r₁) 0 (S₂ .moves) (omega (
     arith,
-    second-peak K p r₁ x₁,
-    peak-within limit (firstSizes K p) 0 (S₁ .moves) (omega (arith, first-peak K p, within-le limit (firstStart K p) .0 (first-within chains limit p one))),
-    within-le limit (secondStart K p r₁ x₁) .0 (second-within K p r₁ x₁ limit (S₁ .within) (b .narrow)),
+    second-peak t K p r₁ x₁,
+    peak-within limit (firstSizes t K p) 0 (S₁ .moves) (omega (arith, first-peak t K p, within-le limit (firstStart t K p) .0 (first-within t chains limit p one))),
+    within-le limit (secondStart t K p r₁ x₁) .0 (second-within t K p r₁ x₁ limit one (S₁ .within) (b .narrow)),
   ))
 
   -- where there are cells, V starts with an entry 1
-  unit-start : 0 < count K p → 1 ≤ largest (firstStart K p)
+  unit-start : 0 < count K p → 1 ≤ largest (firstStart t K p)
   unfolding firstStart
   unit-start h =
-      subst (λ (n : ℕ). n ≤ largest (firstStart K p))
+      subst (λ (n : ℕ). n ≤ largest (firstStart t K p))
       (ap natAbs (entry-table (count K p) (count K p) identity 0 0 h h ∙ identity-at 0))
-      (largest-le (largest (firstStart K p)) (firstStart K p) .0 (le-refl (largest (firstStart K p))) .columnFollower 0 0)
+      (largest-le (largest (firstStart t K p)) (firstStart t K p) .0 (le-refl (largest (firstStart t K p))) .columnFollower 0 0)
 
   cells-peak : 0 < count K p → 1 ≤ x .peak
-  cells-peak h = omega (arith, rises, first-peak K p, unit-start h)
+  cells-peak h = omega (arith, rises, first-peak t K p, unit-start h)
 
-  -- where there are none, no table has an entry
-  no-peak : count K p ≡ 0 → x .peak ≤ 0
-  no-peak h =
+  -- where there are none and no table has an entry
+  no-peak : Bare t K p → count K p ≡ 0 → x .peak ≤ 0
+  no-peak bare h =
       empty-moves second-empty (S₂ .moves) second-shape
-      (omega (arith, second-peak K p r₁ x₁, empty-largest second-empty second-shape, empty-moves first-empty (S₁ .moves) (first-shaped K p) start))
+      (omega (arith, second-peak t K p r₁ x₁, empty-largest second-empty second-shape, empty-moves first-empty (S₁ .moves) (first-shaped t K p) start))
     where
-      first-empty : Empty (firstSizes K p)
-      first-empty = record {
-        matrix = λ i j a c. omega (arith, h);
-        rowFollower = λ i j a c. omega arith;
-        rowInverse = λ i j a c. omega arith;
-        columnFollower = λ i j a c. omega (arith, h);
-        columnInverse = λ i j a c. omega (arith, h);
-      }
+      first-empty : Empty (firstSizes t K p)
+      first-empty = bare .first h
 
-      second-empty : Empty (secondSizes K p r₁)
-      second-empty = record {
-        matrix = λ i j a c. omega (arith, h);
-        rowFollower = λ i j a c. omega (arith, h);
-        rowInverse = λ i j a c. omega (arith, h);
-        columnFollower = λ i j a c. omega arith;
-        columnInverse = λ i j a c. omega arith;
-      }
+      second-empty : Empty (secondSizes t K p r₁)
+      second-empty = bare .second r₁ h
 
-      start : firstStart K p .peak ≤ 0
-      start = omega (arith, first-peak K p, empty-largest first-empty (first-shaped K p))
+      start : firstStart t K p .peak ≤ 0
+      start = omega (arith, first-peak t K p, empty-largest first-empty (first-shaped t K p))
 
-      second-shape : Shaped (secondSizes K p r₁) (secondStart K p r₁ x₁)
-      second-shape = second-shaped K p r₁ x₁ (S₁ .shaped)
+      second-shape : Shaped (secondSizes t K p r₁) (secondStart t K p r₁ x₁)
+      second-shape = second-shaped t K p r₁ x₁ (S₁ .shaped)
 
-  pub reductions-headroom : Headroom limit K p x
-  reductions-headroom = record {
+  pub reductions-headroom : Bare t K p → Headroom limit K p x
+  reductions-headroom bare = record {
     within = peak-small;
-    covers = covered-moves limit (secondSizes K p r₁) 0 (S₂ .moves) (omega (arith, second-peak K p r₁ x₁));
-    none = (λ z. cells (decLt 0 (count K p)) z, λ z. omega (arith, no-peak z));
+    covers = covered-moves limit (secondSizes t K p r₁) 0 (S₂ .moves) (omega (arith, second-peak t K p r₁ x₁));
+    none = (λ z. cells (decLt 0 (count K p)) z, λ z. omega (arith, no-peak bare z));
   }
     where
       cells : Dec (0 < count K p) → x .peak ≡ 0 → count K p ≡ 0

@@ -9,6 +9,7 @@ pub mod Printed
 pub mod ReportedPlaces
 pub mod Starts
 pub mod TwoReductions
+pub mod KeptTransforms
 pub mod Headroom
 pub mod WideLaws
 pub mod LeastLimit

@@ -14,7 +14,7 @@ use Rattle.complexes.specs.Complex.{Sections, count}
 use Rattle.reduction_steps.specs.Table.{tableWithin}
 use Rattle.reduction_steps.specs.State.{State}
 use Rattle.reduction_steps.specs.Step as machine
-use Rattle.reports.specs.Reductions.{product}
+use Rattle.reports.specs.Reductions.{noTransforms, product}
 use Rattle.reports.specs.Report.{Counts, countsOf}
 use Rattle.requests.specs.Question.{Question, cells, cellCount, rule}
 use Rattle.requests.specs.Call.{Request, report, coordinates, lists, listCount, listSlots, numbersOf, earlyChecks}
@@ -26,16 +26,16 @@ use Rattle.answers.specs.Wide.{FirstReaches, SecondReaches, GoesWide}
 
 -- the reductions of document 01 make an entry beyond its limit
 abbrev pub TooWide : Question → Type 0
-TooWide q = GoesWide entryLimit (rule q) (cells q) (q .dimension)
+TooWide q = GoesWide noTransforms entryLimit (rule q) (cells q) (q .dimension)
 
 -- With an entry limit the reductions come to their end: s rows of Q, and the second reduction, of rank r, leaves x.
 pub record EndsAt (limit : ℕ) (q : Question) (s r : ℕ) (x : State) : Type 0 where
   pub firstRank : ℕ
   pub firstState : State
-  pub first : FirstReaches limit (rule q) (cells q) (q .dimension) (machine.done firstRank firstState)
+  pub first : FirstReaches noTransforms limit (rule q) (cells q) (q .dimension) (machine.done firstRank firstState)
   pub narrow : tableWithin limit (product (cells q) (q .dimension) firstRank firstState) ≡ true
   pub rows : s ≡ cellCount q - firstRank
-  pub second : SecondReaches limit (rule q) (cells q) (q .dimension) firstRank firstState (machine.done r x)
+  pub second : SecondReaches noTransforms limit (rule q) (cells q) (q .dimension) firstRank firstState (machine.done r x)
 
 abbrev pub Ends : Question → ℕ → ℕ → State → Type 0
 Ends q s r x = EndsAt entryLimit q s r x

@@ -22,10 +22,10 @@ use Rattle.reduction_steps.specs.Step.{done, reduce}
 use Rattle.reduction_laws.specs.Tables.{Eq-table}
 use Rattle.reduction_laws.specs.SmithForm as machine
 use Rattle.reduction_laws.specs.SmithForm.{reduce-smith}
-use Rattle.reports.specs.Reductions.{firstSizes, firstStart, secondSizes, secondStart, product, reduced, reductions}
+use Rattle.reports.specs.Reductions.{Transforms, firstSizes, firstStart, secondSizes, secondStart, product, reduced, reductions}
 use Rattle.reports.specs.ReductionsLaws.{BothDone, reductions-done}
 use Rattle.reports.specs.Report.{kind}
-use Rattle.answers.specs.Starts.{first-shaped, first-within, second-shaped, second-within, entry-drop}
+use Rattle.answers.specs.Starts.{first-shaped, first-within, second-shaped, second-within, entry-drop, beside-left, beside-width}
 
 -- s rows of Q, rank r and the state x are right for dimension p of K
 pub record Right (K : Sections) (p s r : ℕ) (x : State) : Type 0 where
@@ -36,7 +36,7 @@ pub record Right (K : Sections) (p s r : ℕ) (x : State) : Type 0 where
 
 -- ---- identities as companions
 
-identity-transpose : (i j : ℕ) → identity i j ≡ identity j i
+pub identity-transpose : (i j : ℕ) → identity i j ≡ identity j i
 identity-transpose i j = go (ℕ-discrete i j)
   where
     go : Dec (i ≡ j) → identity i j ≡ identity j i
@@ -44,11 +44,11 @@ identity-transpose i j = go (ℕ-discrete i j)
     go (no d) = identity-other i j d ∙ sym (identity-other j i (λ e. d (sym e)))
 
 module _ {m n : ℕ} {A X : Matrix} where
-  times-identity : Eq m n X (mul n A (entry (table n n identity))) → Eq m n X A
+  pub times-identity : Eq m n X (mul n A (entry (table n n identity))) → Eq m n X A
   times-identity e =
       Eq-trans e (Eq-trans (mul-ext (Eq-refl m n A) (Eq-table n n identity)) (record { at = λ i j a b. mul-identity-right n A i j b }))
 
-  identity-times : Eq m n X (mul m (transpose (entry (table m m identity))) A) → Eq m n X A
+  pub identity-times : Eq m n X (mul m (transpose (entry (table m m identity))) A) → Eq m n X A
   identity-times e =
       Eq-trans e (Eq-trans (mul-ext transposed (Eq-refl m n A)) (record { at = λ i j a b. mul-identity-left m A i j a }))
     where
@@ -66,9 +66,18 @@ module _ {n : ℕ} (r : ℕ) (T : Table) {C : Matrix} where
   unfolding kernelBasis
   columns-from e = record { at = λ i j a b. entry-drop r T j i ∙ e .at i (r + j) a (omega arith) }
 
+-- ---- the part of a range
+
+module _ {m n w : ℕ} {A B : Matrix} (h : n ≤ w) where
+  left : Eq m w A B → Eq m n A B
+  left e = record { at = λ i j a b. e .at i j a (le-trans b h) }
+
+  upper : Eq w m A B → Eq n m A B
+  upper e = record { at = λ i j a b. e .at i j (le-trans a h) b }
+
 -- ---- both reductions
 
-module _ {most : ℕ} {K : Sections} (chains : ChainComplex most K) (rule : Rule) (is : IsRule rule) (limit p : ℕ) (one : 1 ≤ limit) where
+module _ {most : ℕ} {K : Sections} (chains : ChainComplex most K) (t : Transforms) (rule : Rule) (is : IsRule rule) (limit p : ℕ) (one : 1 ≤ limit) where
   abbrev m : ℕ
   m = countBelow K p
 
@@ -78,8 +87,8 @@ module _ {most : ℕ} {K : Sections} (chains : ChainComplex most K) (rule : Rule
   abbrev l : ℕ
   l = count K (suc p)
 
-  module _ (r₁ : ℕ) (x₁ : State) (S₁ : machine.Reduced limit (firstSizes K p) (firstStart K p) r₁ x₁)
-      (r : ℕ) (x : State) (S₂ : machine.Reduced limit (secondSizes K p r₁) (secondStart K p r₁ x₁) r x) where
+  module _ (r₁ : ℕ) (x₁ : State) (S₁ : machine.Reduced limit (firstSizes t K p) (firstStart t K p) r₁ x₁)
+      (r : ℕ) (x : State) (S₂ : machine.Reduced limit (secondSizes t K p r₁) (secondStart t K p r₁ x₁) r x) where
     first-bound : r₁ ≤ n
     first-bound = le-trans (S₁ .bound) (min-le-right m n)
 
@@ -100,6 +109,15 @@ module _ {most : ℕ} {K : Sections} (chains : ChainComplex most K) (rule : Rule
     product-is =
         Eq-trans (Eq-table (n - r₁) l (mul n (entry (drop r₁ (x₁ .columnInverse))) (boundary K (suc p)))) (mul-ext Q-is (Eq-refl n l (boundary K (suc p))))
 
+    -- where they stand at the start of the second
+    Q-left : Eq (n - r₁) n (entry (secondStart t K p r₁ x₁ .rowFollower)) (entry (drop r₁ (x₁ .columnInverse)))
+    unfolding secondStart
+    Q-left = beside-left (n - r₁) n (drop r₁ (x₁ .columnInverse)) (t .secondRows)
+
+    G-left : Eq n (n - r₁) (transpose (entry (secondStart t K p r₁ x₁ .rowInverse))) (transpose (entry (drop r₁ (x₁ .columnFollower))))
+    unfolding secondStart
+    G-left = Eq-transpose (beside-left (n - r₁) n (drop r₁ (x₁ .columnFollower)) (t .secondRows))
+
     both-right : Right K p (n - r₁) r x
     unfolding firstStart secondStart
     both-right = record {
@@ -119,20 +137,20 @@ module _ {most : ℕ} {K : Sections} (chains : ChainComplex most K) (rule : Rule
         W = S₂ .C;
         Wi = S₂ .Ci;
         second = smith-ext product-is (S₂ .smith);
-        isGenerators = Eq-trans (S₂ .rowInverse) (mul-ext G-is (Eq-refl (n - r₁) (n - r₁) (S₂ .Ui)));
-        isCoordinates = Eq-trans (S₂ .rowFollower) (mul-ext (Eq-refl (n - r₁) (n - r₁) (S₂ .U)) Q-is);
+        isGenerators = Eq-trans (upper (beside-width (t .secondRows) (n - r₁) n) (S₂ .rowInverse)) (mul-ext (Eq-trans G-left G-is) (Eq-refl (n - r₁) (n - r₁) (S₂ .Ui)));
+        isCoordinates = Eq-trans (left (beside-width (t .secondRows) (n - r₁) n) (S₂ .rowFollower)) (mul-ext (Eq-refl (n - r₁) (n - r₁) (S₂ .U)) (Eq-trans Q-left Q-is));
       };
       rank = S₂ .rank;
       rank-bound = second-bound;
       rows-bound = omega arith;
     }
 
-  pub first-reduced : (r₁ : ℕ) (x₁ : State) → reduce limit (firstSizes K p) rule (firstStart K p) ≡ done r₁ x₁ → machine.Reduced limit (firstSizes K p) (firstStart K p) r₁ x₁
-  first-reduced = reduce-smith limit (firstSizes K p) rule is (firstStart K p) (first-shaped K p) (first-within chains limit p one)
+  pub first-reduced : (r₁ : ℕ) (x₁ : State) → reduce limit (firstSizes t K p) rule (firstStart t K p) ≡ done r₁ x₁ → machine.Reduced limit (firstSizes t K p) (firstStart t K p) r₁ x₁
+  first-reduced = reduce-smith limit (firstSizes t K p) rule is (firstStart t K p) (first-shaped t K p) (first-within t chains limit p one)
 
-  module _ (s r : ℕ) (x : State) (e : reductions rule limit K p ≡ reduced s r x) where
-    abbrev both : BothDone rule limit K p s r x
-    both = reductions-done rule limit K p s r x e
+  module _ (s r : ℕ) (x : State) (e : reductions t rule limit K p ≡ reduced s r x) where
+    abbrev both : BothDone t rule limit K p s r x
+    both = reductions-done t rule limit K p s r x e
 
     abbrev r₁ : ℕ
     r₁ = both .firstRank
@@ -140,16 +158,16 @@ module _ {most : ℕ} {K : Sections} (chains : ChainComplex most K) (rule : Rule
     abbrev x₁ : State
     x₁ = both .firstState
 
-    pub first-smith : machine.Reduced limit (firstSizes K p) (firstStart K p) r₁ x₁
+    pub first-smith : machine.Reduced limit (firstSizes t K p) (firstStart t K p) r₁ x₁
     first-smith = first-reduced r₁ x₁ (both .first)
 
-    pub second-smith : machine.Reduced limit (secondSizes K p r₁) (secondStart K p r₁ x₁) r x
+    pub second-smith : machine.Reduced limit (secondSizes t K p r₁) (secondStart t K p r₁ x₁) r x
     second-smith =
-        reduce-smith limit (secondSizes K p r₁) rule is (secondStart K p r₁ x₁)
-        (second-shaped K p r₁ x₁ (first-smith .shaped)) (second-within K p r₁ x₁ limit (first-smith .within) (both .narrow)) r x (both .second)
+        reduce-smith limit (secondSizes t K p r₁) rule is (secondStart t K p r₁ x₁)
+        (second-shaped t K p r₁ x₁ (first-smith .shaped)) (second-within t K p r₁ x₁ limit one (first-smith .within) (both .narrow)) r x (both .second)
 
     pub reductions-right : Right K p s r x
-    reductions-right = subst (λ (t : ℕ). Right K p t r x) (sym (both .rows)) (both-right r₁ x₁ first-smith r x second-smith)
+    reductions-right = subst (λ (n : ℕ). Right K p n r x) (sym (both .rows)) (both-right r₁ x₁ first-smith r x second-smith)
 
     -- the state that is left lies within the limit
     pub reductions-within : within limit x ≡ true

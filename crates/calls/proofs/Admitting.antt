@@ -1,30 +1,28 @@
--- What a call on a dimension asked for (`Asked`) and was given (`Lent`), and what its callees answered.
+-- What a call on a dimension was given (`Lent`, `Lengths`), and what its callees answered.
 --     admit-refused, admit-granted     the first of the checks 1 to 9; `Granted`, what they ask, the sizes of the dimension and the chain complex
 --     regrant                          the same for other chains that want as many slots
 --     twice-refused, twice-done        the two reductions went too wide; they left the state that is written
 use mathlib.Core.Path.{_≡_, subst}
 use mathlib.Core.List.{List}
 use Prim.Native.Nat.{ℕ, _*_, _≤_}
-use Rattle.complexes.specs.Complex.{Sections, count}
+use Rattle.complexes.specs.Complex.{count}
 use Rattle.complexes.specs.ChainComplex.{ChainComplex}
 use lib.IntN.{ℤ}
 use lib.ListN.{length}
 use Rattle.reduction_steps.specs.Pivot.{pivotRule}
 use Rattle.sheet_format.specs.Sheet.{Bytes}
-use Rattle.trials.specs.Trial.{first}
 use Rattle.sheet_format.specs.Check.{sectionsOf}
 use Rattle.limits.specs.Limits.{libraryLimit}
 use Rattle.faces.specs.Face.{Accepted}
-use Rattle.requests.specs.Call.{callChecks}
-use Rattle.reports.specs.Reductions.{reductionsOf}
+use Rattle.reports.specs.Reductions.{Reductions, tooWide, reductionsOf}
+use Rattle.requests.specs.Question.{Question}
 use Rattle.requests.specs.CheckLaws.{Passed, callChecks-zero}
-use Rattle.reports.specs.Reductions.{Reductions, tooWide}
 use Rattle.refusal.specs.Number.{numberOf}
 use Rattle.refusal.specs.declared.Refusal.{Refusal}
 use Rattle.passes.specs.Answer.{Cleared}
 use Rattle.writers.specs.declared.reduced.Reduced.{Reduced}
 use Rattle.calls.specs.Slices.{ReducedTwice, TwiceReduced}
-use Rattle.calls.specs.Admission.{sizesIn, slotsFor, SizesRead, Admits}
+use Rattle.calls.specs.Admission.{sizesIn, slotsFor, spaceFor, admission, SizesRead, Admits}
 use Rattle.calls.specs.declared.admission.Sizes.{Sizes}
 use Rattle.calls.specs.declared.admission.Request.{Request}
 use Rattle.calls.specs.declared.admission.Request.the-variants.{Coordinates}
@@ -34,55 +32,59 @@ use Rattle.calls.specs.declared.reductions.Reductions as answer
 use Rattle.calls.specs.declared.reductions.Reductions.the-variants as variants
 use Rattle.calls.proofs.Sheet.{accepted-library, sheet-chains}
 
--- the output slots that check 9 asks for
-abbrev pub slotsAsked : Request → Sections → ℕ → ℕ
-slotsAsked request K q = slotsFor request (sizesIn K q)
-
--- what a call asks for on a dimension: the slots of its output and of its work slice
-pub record Asked : Type 0 where
+-- the count limit and the question of a call, and the lengths of its output and its work slice
+pub record Lengths : Type 0 where
   pub limit : ℕ
-  pub sheet : List ℕ
-  pub dimension : ℕ
+  pub question : Question
   pub slots : ℕ
   pub work : ℕ
 
--- what a call of the library on a dimension was given
+-- what a call of the library was given
 pub record Lent : Type 0 where
   pub limit : ℕ
-  pub sheet : List ℕ
-  pub dimension : ℕ
+  pub question : Question
   pub output : List ℤ
   pub work : List ℤ
 
-abbrev pub asked : Lent → Asked
-asked l = record { limit = l .limit; sheet = l .sheet; dimension = l .dimension; slots = length (l .output); work = length (l .work) }
+abbrev pub lengths : Lent → Lengths
+lengths l = record { limit = l .limit; question = l .question; slots = length (l .output); work = length (l .work) }
+
+-- n_p
+abbrev pub cellsOf : Question → ℕ
+cellsOf q = count (sectionsOf (q .sheet)) (q .dimension)
 
 -- ---- the checks 1 to 9
 
-module _ (l : Asked) (request : Request) where
+module _ (l : Lengths) (request : Request) where
+  -- the slots that check 9 asks for
+  abbrev pub slotsAsked : ℕ
+  slotsAsked = slotsFor request (sizesIn (sectionsOf (l .question .sheet)) (l .question .dimension))
+
+  abbrev pub spaceAsked : ℕ
+  spaceAsked = spaceFor request (sizesIn (sectionsOf (l .question .sheet)) (l .question .dimension))
+
   pub record Granted (n : Sizes) : Type 0 where
-    pub passed : Passed (l .limit) (l .sheet) (l .dimension) (slotsAsked request) (l .slots) (l .work)
-    pub sizes : SizesRead (sectionsOf (l .sheet)) (l .dimension) n
-    pub library : Accepted (l .sheet)
-    pub chains : ChainComplex libraryLimit (sectionsOf (l .sheet))
+    pub passed : Passed (l .limit) (l .question) slotsAsked spaceAsked (l .slots) (l .work)
+    pub sizes : SizesRead (sectionsOf (l .question .sheet)) (l .question .dimension) n
+    pub library : Accepted (l .question .sheet)
+    pub chains : ChainComplex libraryLimit (sectionsOf (l .question .sheet))
 
   abbrev Answered : Admission → Type 0
-  Answered = Admits (l .limit) (l .sheet) (l .dimension) request (l .slots) (l .work)
+  Answered = Admits (l .limit) (l .question) request (l .slots) (l .work)
 
   module _ (r : Admission) (h : Answered r) where
-    pub admit-refused : {x : Refusal} → r ≡ Refused x
-        → first (callChecks (l .limit) (l .sheet) (l .dimension) (slotsAsked request) (l .slots) (l .work)) ≡ numberOf x
+    pub admit-refused : {x : Refusal} → r ≡ Refused x → admission (l .limit) (l .question) request (l .slots) (l .work) ≡ numberOf x
     admit-refused e = subst Answered e h
 
-    pub admit-granted : {n : Sizes} → l .limit ≤ libraryLimit → Bytes (l .sheet) → r ≡ Admitted n → Granted n
+    pub admit-granted : {n : Sizes} → l .limit ≤ libraryLimit → Bytes (l .question .sheet) → r ≡ Admitted n → Granted n
     admit-granted within bytes e =
         let k = subst Answered e h in
-        let passed = callChecks-zero (l .limit) (l .sheet) (l .dimension) (slotsAsked request) (l .slots) (l .work) .0 (k .0) in
+        let passed = callChecks-zero (l .limit) (l .question) slotsAsked spaceAsked (l .slots) (l .work) .0 (k .0) in
         let library = accepted-library within (passed .accepted) in
         record { passed = passed; sizes = k .1; library = library; chains = sheet-chains bytes library }
 
 -- what is granted for some chains is granted for others that want as many slots
-pub regrant : (l : Asked) {m number : ℕ} {n : Sizes} → m * count (sectionsOf (l .sheet)) (l .dimension) ≡ number * count (sectionsOf (l .sheet)) (l .dimension)
+pub regrant : (l : Lengths) {m number : ℕ} {n : Sizes} → m * cellsOf (l .question) ≡ number * cellsOf (l .question)
     → Granted l (Coordinates number) n → Granted l (Coordinates m) n
 regrant l e g =
     record {
@@ -99,15 +101,15 @@ regrant l e g =
 
 -- ---- the two reductions
 
-module _ (l : Asked) where
+module _ (l : Lengths) where
   abbrev pub twice : Reductions
-  twice = reductionsOf pivotRule (sectionsOf (l .sheet)) (l .dimension)
+  twice = reductionsOf pivotRule (sectionsOf (l .question .sheet)) (l .question .dimension)
 
   abbrev Twice : answer.Reductions → List ℤ → Type 0
-  Twice r w = TwiceReduced (sectionsOf (l .sheet)) (l .dimension) twice (l .work) r w
+  Twice r w = TwiceReduced (sectionsOf (l .question .sheet)) (l .question .dimension) twice (l .work) r w
 
   abbrev pub Reduces : Reduced → List ℤ → Type 0
-  Reduces x w = ReducedTwice (sectionsOf (l .sheet)) (l .dimension) twice (l .work) x w
+  Reduces x w = ReducedTwice (sectionsOf (l .question .sheet)) (l .question .dimension) twice (l .work) x w
 
   module _ (r : answer.Reductions) {w : List ℤ} where
     pub twice-done : {x : Reduced} → r ≡ variants.Done x → Twice r w → Reduces x w

@@ -18,7 +18,7 @@ use Rattle.reduction_steps.specs.Table.{Table, entry, table, tableLargest, tabl
 use Rattle.reduction_steps.specs.State.{State, largest}
 use Rattle.reduction_laws.specs.Tables.{entry-table, table-ext, tableLargest-table, tableWithin-table, tableWithin-false}
 use Rattle.reduction_laws.specs.Shape.{Shaped}
-use Rattle.reports.specs.Reductions.{firstSizes, secondSizes, secondStart, product, absent}
+use Rattle.reports.specs.Reductions.{noTransforms, firstSizes, secondSizes, secondStart, product, absent}
 use Rattle.requests.specs.Call.{workSlots}
 use Rattle.limits.specs.Limits.{entryLimit}
 use Rattle.answers.specs.Starts.{second-shaped, entry-drop}
@@ -51,7 +51,7 @@ unfolding largest
 matrix-largest s = omega arith
 
 module _ (K : Sections) (p n r : ℕ) (slots : workSlots K p ≤ n) (within : r ≤ count K p) (peak : ℕ) (w : List ℤ)
-    (shaped : Shaped (firstSizes K p) (stateOf (firstLayoutOf K p) peak w)) where
+    (shaped : Shaped (firstSizes noTransforms K p) (stateOf (firstLayoutOf K p) peak w)) where
   -- Q times the boundary matrix of dimension p + 1
   abbrev pub multiplied : theory.Matrix
   multiplied = mul (count K p) (contents (secondLayoutOf K p r .«row_follower») w) (boundary K (suc p))
@@ -97,8 +97,8 @@ module _ (K : Sections) (p n r : ℕ) (slots : workSlots K p ≤ n) (within : r 
         (lines-absent end (count K (suc p)) w′)
         refl
       where
-        later : Shaped (secondSizes K p r) (secondStart K p r (stateOf (firstLayoutOf K p) peak w))
-        later = second-shaped K p r (stateOf (firstLayoutOf K p) peak w) shaped
+        later : Shaped (secondSizes noTransforms K p r) (secondStart noTransforms K p r (stateOf (firstLayoutOf K p) peak w))
+        later = second-shaped noTransforms K p r (stateOf (firstLayoutOf K p) peak w) shaped
 
         end : ℕ
         end = secondLayoutOf K p r .«column_follower» .at
@@ -117,7 +117,7 @@ module _ (K : Sections) (p n r : ℕ) (slots : workSlots K p ≤ n) (within : r 
             tableLargest-table (tableLargest (begun peak .matrix)) (count K p - r) (count K (suc p)) multiplied .0
             (subst (λ (T : Table). tableLargest T ≤ tableLargest (begun peak .matrix)) (sym product-is) (le-refl (tableLargest (begun peak .matrix))))
 
-    pub second-state : stateOf (secondLayoutOf K p r) (x .peak) w′ ≡ secondStart K p r (stateOf (firstLayoutOf K p) peak w)
+    pub second-state : stateOf (secondLayoutOf K p r) (x .peak) w′ ≡ secondStart noTransforms K p r (stateOf (firstLayoutOf K p) peak w)
     unfolding secondStart
     second-state = tables (x .peak) ∙ ap begun peak-is
 

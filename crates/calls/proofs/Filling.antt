@@ -15,7 +15,7 @@ use Rattle.complexes.specs.Boundary.{countBelow, boundary}
 use Rattle.reduction_steps.specs.Table.{Table, table, tableLargest}
 use Rattle.reduction_steps.specs.State.{State, largest}
 use Rattle.reduction_laws.specs.Tables.{table-ext, tableLargest-table}
-use Rattle.reports.specs.Reductions.{firstStart, absent}
+use Rattle.reports.specs.Reductions.{noTransforms, firstStart, absent}
 use Rattle.requests.specs.Call.{workSlots}
 use Rattle.lines.specs.Slice.{entryLimit, lineAt, Under}
 use Rattle.lines.specs.Matrices.{contents, Held, Holds}
@@ -141,7 +141,7 @@ module _ (K : Sections) (p n : ℕ) (slots : workSlots K p ≤ n) where
         room : ℕ
         room = count K p * max (countBelow K p) (count K (suc p))
 
-    first-state : stateOf (firstLayoutOf K p) start w₃ ≡ firstStart K p
+    first-state : stateOf (firstLayoutOf K p) start w₃ ≡ firstStart noTransforms K p
     unfolding firstStart
     first-state = tables start ∙ ap begun start-is
       where

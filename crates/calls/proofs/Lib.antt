@@ -1,6 +1,7 @@
 -- What the proofs of the crate share: where the matrices stand (`Places`), the sheet (`Sheet`), the start of the first
 -- reduction (`Filling`) and of the second (`Between`), what the two come to (`Outcomes`) and that it can be written (`Writing`), the refusals before
--- them (`Refusals`), what `admit` answered (`Admitting`), and what the calls answer (`Answering`, `ReportAnswers`, `ListAnswers`).
+-- them (`Refusals`), what `admit` answered (`Admitting`), and the early checks of chains (`ListChecks`),
+-- and what the calls answer (`Answering`, `ReportAnswers`, `ListAnswers`).
 mod Places
 pub mod Sheet
 mod Filling
@@ -10,5 +11,6 @@ pub mod Writing
 mod Refusals
 pub mod Admitting
 mod Answering
+pub mod ListChecks
 mod ReportAnswers
 mod ListAnswers

@@ -19,7 +19,7 @@ use Rattle.reduction_steps.specs.Step.{Machine, done, reduce}
 use Rattle.reduction_laws.specs.Shape.{Shaped}
 use Rattle.reduction_laws.specs.SmithForm as machine
 use Rattle.reports.specs.Reductions as reports
-use Rattle.reports.specs.Reductions.{firstSizes, firstStart, secondSizes, secondStart, product, afterSecond}
+use Rattle.reports.specs.Reductions.{noTransforms, firstSizes, firstStart, secondSizes, secondStart, product, afterSecond}
 use Rattle.reports.specs.ReductionsLaws.{first-wide, product-wide, after-second, second-wide}
 use Rattle.requests.specs.Call.{workSlots}
 use Rattle.reports.specs.Reductions.{reductionsOf}
@@ -71,15 +71,15 @@ module _ {M : Matrix} {w w′ : List ℤ} {A : theory.Matrix} (peak : ℕ) (x : 
 module _ {rule : Rule} (is-rule : IsRule rule) (K : Sections) (p n : ℕ) (chains : ChainComplex libraryLimit K) (slots : workSlots K p ≤ n) where
   -- the first reduction is done with rank r, and the slice holds the state that it leaves, with the peak
   pub record FirstDone (r peak : ℕ) (w : List ℤ) : Type 0 where
-    pub outcome : reduce entryLimit (firstSizes K p) rule (firstStart K p) ≡ done r (stateOf (firstLayoutOf K p) peak w)
+    pub outcome : reduce entryLimit (firstSizes noTransforms K p) rule (firstStart noTransforms K p) ≡ done r (stateOf (firstLayoutOf K p) peak w)
     pub rank-within : r ≤ count K p
-    pub shaped : Shaped (firstSizes K p) (stateOf (firstLayoutOf K p) peak w)
+    pub shaped : Shaped (firstSizes noTransforms K p) (stateOf (firstLayoutOf K p) peak w)
     pub kept : StillUnder n peak w
 
   -- the product lies within the limit, and the slice holds the start of the second reduction
   pub record SecondStarted (r peak : ℕ) (w : List ℤ) (peak′ : ℕ) (w′ : List ℤ) : Type 0 where
     pub first : FirstDone r peak w
-    pub state : stateOf (secondLayoutOf K p r) peak′ w′ ≡ secondStart K p r (stateOf (firstLayoutOf K p) peak w)
+    pub state : stateOf (secondLayoutOf K p r) peak′ w′ ≡ secondStart noTransforms K p r (stateOf (firstLayoutOf K p) peak w)
     pub narrow : tableWithin entryLimit (product K p r (stateOf (firstLayoutOf K p) peak w)) ≡ true
     pub kept : StillUnder n peak′ w′
 
@@ -87,15 +87,14 @@ module _ {rule : Rule} (is-rule : IsRule rule) (K : Sections) (p n : ℕ) (chain
 
   module _ (W : Layout) (is : W ≡ firstLayoutOf K p) {w : List ℤ} (f : Filled K p n w) {peak : ℕ} (from : peak ≡ startPeak (count K p)) where
     -- it starts as the definition's
-    starts : reductionOf rule W peak w ≡ reduce entryLimit (firstSizes K p) rule (firstStart K p)
+    starts : reductionOf rule W peak w ≡ reduce entryLimit (firstSizes noTransforms K p) rule (firstStart noTransforms K p)
     unfolding firstLayout
-    starts = rw (is, from) (ap (reduce entryLimit (firstSizes K p) rule) (f .state))
+    starts = rw (is, from) (ap (reduce entryLimit (firstSizes noTransforms K p) rule) (f .state))
 
     pub first-refused : {x : Refusal} {w′ : List ℤ} → ReductionRefused (reductionOf rule W peak w) (length w) x w′
         → TwiceReduced K p (reductionsOf rule K p) n (Refused refusal.TooWide) w′
-    unfolding reductionsOf
     first-refused h = (
-      first-wide rule entryLimit K p (sym starts ∙ h .outcome),
+      first-wide noTransforms rule entryLimit K p (sym starts ∙ h .outcome),
       cleared (f .kept .same-length) (h .cleared),
     )
 
@@ -107,11 +106,11 @@ module _ {rule : Rule} (is-rule : IsRule rule) (K : Sections) (p n : ℕ) (chain
       kept = record { same-length = h .kept .same-length ∙ f .kept .same-length; under = h .kept .under };
     }
       where
-        outcome : reduce entryLimit (firstSizes K p) rule (firstStart K p) ≡ done r (stateOf (firstLayoutOf K p) peak′ w′)
+        outcome : reduce entryLimit (firstSizes noTransforms K p) rule (firstStart noTransforms K p) ≡ done r (stateOf (firstLayoutOf K p) peak′ w′)
         outcome = sym starts ∙ h .outcome ∙ ap (λ (X : Layout). done r (stateOf X peak′ w′)) is
 
-        right : machine.Reduced entryLimit (firstSizes K p) (firstStart K p) r (stateOf (firstLayoutOf K p) peak′ w′)
-        right = first-reduced chains rule is-rule entryLimit p (omega arith) r (stateOf (firstLayoutOf K p) peak′ w′) outcome
+        right : machine.Reduced entryLimit (firstSizes noTransforms K p) (firstStart noTransforms K p) r (stateOf (firstLayoutOf K p) peak′ w′)
+        right = first-reduced chains noTransforms rule is-rule entryLimit p (omega arith) r (stateOf (firstLayoutOf K p) peak′ w′) outcome
 
   -- ---- the product
 
@@ -136,9 +135,9 @@ module _ {rule : Rule} (is-rule : IsRule rule) (K : Sections) (p n : ℕ) (chain
     asked = mul (W .«row_follower» .width) (contents (W .«row_follower») w) (boundary K (suc p))
 
     pub product-refused : {w′ : List ℤ} → Exceeds (W .matrix) w asked w′ → reductionsOf rule K p ≡ reports.tooWide
-    unfolding reductionsOf secondLayout
+    unfolding secondLayout
     product-refused {w′} h =
-        product-wide rule entryLimit K p r (stateOf (firstLayoutOf K p) peak w) (f .outcome)
+        product-wide noTransforms rule entryLimit K p r (stateOf (firstLayoutOf K p) peak w) (f .outcome)
         (product-beyond K p n r slots (f .rank-within) peak w (f .shaped) (rw is at h))
 
     pub second-started : {x : Written} {w′ : List ℤ} → Holds (W .matrix) w asked peak x w′ → SecondStarted r peak w (x .peak) w′
@@ -153,32 +152,31 @@ module _ {rule : Rule} (is-rule : IsRule rule) (K : Sections) (p n : ℕ) (chain
   -- ---- the second reduction
 
   module _ {r peak : ℕ} {w : List ℤ} {peak′ : ℕ} {w′ : List ℤ} (s : SecondStarted r peak w peak′ w′) (W : Layout) (is : W ≡ secondLayoutOf K p r) where
-    starts-again : reductionOf rule W peak′ w′ ≡ reduce entryLimit (secondSizes K p r) rule (secondStart K p r (stateOf (firstLayoutOf K p) peak w))
+    starts-again : reductionOf rule W peak′ w′ ≡ reduce entryLimit (secondSizes noTransforms K p r) rule (secondStart noTransforms K p r (stateOf (firstLayoutOf K p) peak w))
     unfolding secondLayout
-    starts-again = rw is (ap (reduce entryLimit (secondSizes K p r) rule) (s .state))
+    starts-again = rw is (ap (reduce entryLimit (secondSizes noTransforms K p r) rule) (s .state))
 
     pub second-refused : {x : Refusal} {w″ : List ℤ} → ReductionRefused (reductionOf rule W peak′ w′) (length w′) x w″
         → TwiceReduced K p (reductionsOf rule K p) n (Refused refusal.TooWide) w″
-    unfolding reductionsOf
     second-refused h = (
-      second-wide rule entryLimit K p r (stateOf (firstLayoutOf K p) peak w) (s .first .outcome) (s .narrow) (sym starts-again ∙ h .outcome),
+      second-wide noTransforms rule entryLimit K p r (stateOf (firstLayoutOf K p) peak w) (s .first .outcome) (s .narrow) (sym starts-again ∙ h .outcome),
       cleared (s .kept .same-length) (h .cleared),
     )
 
     pub second-done : {last peak″ : ℕ} {w″ : List ℤ} → ReductionDone W (reductionOf rule W peak′ w′) (length w′) last peak″ w″
         → TwiceReduced K p (reductionsOf rule K p) n (Done (record { layout = W; rank = last; peak = peak″ })) w″
-    unfolding reductionsOf secondLayout afterSecond
+    unfolding secondLayout afterSecond
     second-done {last} {peak″} {w″} h = record {
       first-rank = r;
       rank-within = s .first .rank-within;
       layout-is = is;
       is = outcome;
-      rank-below = reductions-right chains rule is-rule entryLimit p (omega arith) (W .matrix .lines) last (stateOf W peak″ w″) outcome .rank-bound;
+      rank-below = reductions-right chains noTransforms rule is-rule entryLimit p (omega arith) (W .matrix .lines) last (stateOf W peak″ w″) outcome .rank-bound;
       kept = record { same-length = h .kept .same-length ∙ s .kept .same-length; under = h .kept .under };
     }
       where
         outcome : reductionsOf rule K p ≡ reports.reduced (W .matrix .lines) last (stateOf W peak″ w″)
         outcome =
-            after-second rule entryLimit K p r (stateOf (firstLayoutOf K p) peak w) (s .first .outcome) (s .narrow)
+            after-second noTransforms rule entryLimit K p r (stateOf (firstLayoutOf K p) peak w) (s .first .outcome) (s .narrow)
             (done last (stateOf W peak″ w″)) (sym starts-again ∙ h .outcome)
             ∙ ap (λ (k : ℕ). reports.reduced k last (stateOf W peak″ w″)) (sym (ap (λ (X : Layout). X .matrix .lines) is))

@@ -6,35 +6,33 @@ use Prim.Native.Nat.{ℕ, _<_, _≤_}
 use native.Mathlib.Omega.{arith}
 use borrow.Author.Tests.{lt-ltb, le-ltb}
 use lib.Dec.{ltb}
-use Rattle.complexes.specs.Complex.{Sections}
-use Rattle.sheet_format.specs.Layout.{top}
 use Rattle.trials.specs.Trial.{first}
-use Rattle.sheet_format.specs.Check.{sectionsOf, refusal}
-use Rattle.requests.specs.Call.{workSlots, callChecks}
+use Rattle.sheet_format.specs.Layout.{top}
+use Rattle.sheet_format.specs.Check.{refusal}
+use Rattle.requests.specs.Question.{Question}
+use Rattle.requests.specs.Call.{callChecks}
 use Rattle.requests.specs.CheckLaws.{sheet-told, sheet-passed}
 use Rattle.refusal.specs.Number.{numberOf}
 use Rattle.refusal.specs.NumberLaws.{number-positive}
 use Rattle.refusal.specs.declared.Refusal.{Refusal}
 
-module _ (limit : ℕ) (b : List ℕ) (p : ℕ) (slots : Sections → ℕ → ℕ) (output work : ℕ) where
+module _ (limit : ℕ) (q : Question) (slots space output work : ℕ) where
   abbrev before : ℕ
-  before = first (callChecks limit b p slots output work)
+  before = first (callChecks limit q slots space output work)
 
-  pub sheet-refused : (x : Refusal) → refusal limit b ≡ numberOf x → before ≡ numberOf x
-  sheet-refused x e = sheet-told limit b p slots output work (λ z. absurd (omega (arith, number-positive x))) ∙ e
+  pub sheet-refused : (x : Refusal) → refusal limit (q .sheet) ≡ numberOf x → before ≡ numberOf x
+  sheet-refused x e = sheet-told limit q slots space output work (λ z. absurd (omega (arith, number-positive x))) ∙ e
 
-  module _ (accepted : refusal limit b ≡ 0) where
-    pub dimension-refused : top < p → before ≡ 8
-    dimension-refused h = sheet-passed limit b p slots output work accepted ∙ rw (lt-ltb top p h)
+  module _ (accepted : refusal limit (q .sheet) ≡ 0) where
+    pub dimension-refused : top < q .dimension → before ≡ 8
+    dimension-refused h = sheet-passed limit q slots space output work accepted ∙ rw (lt-ltb top (q .dimension) h)
 
-    pub output-short : p ≤ top → output < slots (sectionsOf b) p → before ≡ 9
-    output-short h k =
-        sheet-passed limit b p slots output work accepted ∙ rw (le-ltb top p h, lt-ltb output (slots (sectionsOf b) p) k)
+    pub output-short : q .dimension ≤ top → output < slots → before ≡ 9
+    output-short h k = sheet-passed limit q slots space output work accepted ∙ rw (le-ltb top (q .dimension) h, lt-ltb output slots k)
 
-    pub work-short : p ≤ top → work < workSlots (sectionsOf b) p → before ≡ 9
+    pub work-short : q .dimension ≤ top → work < space → before ≡ 9
     work-short h k =
-        sheet-passed limit b p slots output work accepted
-        ∙ rw (le-ltb top p h, lt-ltb work (workSlots (sectionsOf b) p) k) (either (ltb output (slots (sectionsOf b) p)))
+        sheet-passed limit q slots space output work accepted ∙ rw (le-ltb top (q .dimension) h, lt-ltb work space k) (either (ltb output slots))
       where
         either : (t : Bool) → first ((9, t || true) ∷ []) ≡ 9
         either true = refl

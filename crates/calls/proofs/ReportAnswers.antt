@@ -1,20 +1,20 @@
 -- What the report call answers: report-refuses, report-wide, report-done.
-use mathlib.Core.Path.{_≡_, _∙_, ap}
-use mathlib.Core.List.{List}
-use Prim.Native.Nat.{ℕ}
+use mathlib.Core.Path.{_≡_, sym, _∙_, ap}
+use mathlib.Core.List.{List, append-nil}
+use Prim.Native.Nat.{ℕ, _*_}
+use native.Mathlib.Nat.{one-mul}
 use lib.IntN.{ℤ, pos}
 use lib.ListN.{length, replicate}
-use Rattle.complexes.specs.Complex.{count}
-use Rattle.trials.specs.Trial.{first}
-use Rattle.sheet_format.specs.Check.{sectionsOf}
+use Rattle.lists.specs.Splice.{written, splices}
+use Rattle.lists.specs.SplicesLaws.{splices-single}
+use Rattle.trials.specs.Trial.{first, Called}
 use Rattle.reduction_steps.specs.State.{State}
 use Rattle.reduction_steps.specs.PivotLaws.{pivotRule-is-rule}
+use Rattle.reports.specs.Report as reports
 use Rattle.reports.specs.Report.{reportList}
-use Rattle.trials.specs.Trial.{Called}
-use Rattle.reports.specs.Call.{reportSlots, reportCall}
-use Rattle.requests.specs.Call.{callChecks}
-use Rattle.lists.specs.Splice.{written}
 use Rattle.reports.specs.Reductions.{tooWide}
+use Rattle.requests.specs.Question.{cells, rule, two}
+use Rattle.requests.specs.Call.{report, listSlots, numbersOf, callChecks, earlyChecks, call}
 use Rattle.requests.specs.CheckLaws.{callChecks-zero}
 use Rattle.refusal.specs.Number.{numberOf}
 use Rattle.refusal.specs.declared.Refusal.{Refusal}
@@ -23,45 +23,63 @@ use Rattle.writers.specs.Written.{stateIn, WroteReport}
 use Rattle.writers.specs.declared.reduced.Counts.{Counts}
 use Rattle.writers.specs.declared.reduced.Reduced.{Reduced}
 use Rattle.passes.specs.Answer.{Cleared}
+use Rattle.calls.specs.Admission.{admission}
 use Rattle.calls.specs.Answer.{CallAnswers}
 use Rattle.calls.specs.declared.admission.Sizes.{Sizes}
 use Rattle.calls.specs.declared.admission.Request.the-variants.{Report}
 use Rattle.calls.specs.declared.answer.Answer.the-variants.{Done, Refused}
-use Rattle.calls.proofs.Admitting.{Lent, asked, Granted, twice, Reduces}
+use Rattle.calls.proofs.Admitting.{Lent, lengths, cellsOf, slotsAsked, spaceAsked, Granted, twice, Reduces}
 use Rattle.calls.proofs.Answering.{refuses, goes-wide, is-done}
 use Rattle.calls.proofs.Writing.{inverse-width}
 
 module _ (l : Lent) where
-  -- the refusal before the reductions
-  abbrev before-report : ℕ
-  before-report = first (callChecks (l .limit) (l .sheet) (l .dimension) reportSlots (length (l .output)) (length (l .work)))
+  -- the first of the early checks
+  abbrev early : ℕ
+  early = first (earlyChecks (l .limit) (l .question) report (length (l .output)) (length (l .work)))
+
+  -- it is the first of the checks 1 to 9
+  early-is : early ≡ admission (l .limit) (l .question) Report (length (l .output)) (length (l .work))
+  unfolding earlyChecks cells
+  early-is =
+      ap first (append-nil (callChecks (l .limit) (l .question) (1 * slots) space (length (l .output)) (length (l .work))))
+      ∙ ap (λ (n : ℕ). first (callChecks (l .limit) (l .question) n space (length (l .output)) (length (l .work)))) (one-mul slots)
+    where
+      slots : ℕ
+      slots = slotsAsked (lengths l) Report
+
+      space : ℕ
+      space = spaceAsked (lengths l) Report
 
   -- what the report leaves
   abbrev left : ℕ → ℕ → State → List ℤ
-  left s r x = written (reportList (count (sectionsOf (l .sheet)) (l .dimension)) s r x) (l .output)
+  left s r x = splices (listSlots (l .question) report) (numbersOf (l .question) report s r x) 1 (l .output)
 
-  abbrev called : Called
-  called = reportCall (l .limit) (l .sheet) (l .dimension) (l .output) (l .work)
+  abbrev called : Called reports.Counts ℤ
+  called = call (l .limit) (l .question) report (l .output) (l .work)
 
-  pub report-refuses : {x : Refusal} → before-report ≡ numberOf x → CallAnswers called (Refused x) (l .output) (l .work)
-  unfolding reportCall
-  report-refuses e = refuses before-report (twice (asked l)) left (l .output) (l .work) e
+  pub report-refuses : {x : Refusal} → admission (l .limit) (l .question) Report (length (l .output)) (length (l .work)) ≡ numberOf x
+      → CallAnswers called (Refused x) (l .output) (l .work)
+  unfolding call
+  report-refuses e = refuses early (two (l .question)) left (l .output) (l .work) (early-is ∙ e)
 
-  module _ {n : Sizes} (g : Granted (asked l) Report n) where
-    passes : before-report ≡ 0
-    passes = callChecks-zero (l .limit) (l .sheet) (l .dimension) reportSlots (length (l .output)) (length (l .work)) .1 (g .passed)
+  module _ {n : Sizes} (g : Granted (lengths l) Report n) where
+    passes : early ≡ 0
+    passes =
+        early-is
+        ∙ callChecks-zero (l .limit) (l .question) (slotsAsked (lengths l) Report) (spaceAsked (lengths l) Report) (length (l .output)) (length (l .work)) .1 (g .passed)
 
-    pub report-wide : {x : Refusal} {work′ : List ℤ} → (twice (asked l) ≡ tooWide) × Cleared (length (l .work)) x work′
+    pub report-wide : {x : Refusal} {work′ : List ℤ} → (twice (lengths l) ≡ tooWide) × Cleared (length (l .work)) x work′
         → CallAnswers called (Refused refusal.TooWide) (l .output) work′
-    unfolding reportCall
-    report-wide h = goes-wide before-report (twice (asked l)) left (l .output) (l .work) passes (h .0) (h .1 .zeros)
+    unfolding call two rule cells
+    report-wide h = goes-wide early (two (l .question)) left (l .output) (l .work) passes (h .0) (h .1 .zeros)
 
-    pub report-done : {x : Reduced} {w : List ℤ} → Reduces (asked l) x w → {counts : Counts} {report′ work′ : List ℤ} → WroteReport x w (l .output) counts report′
+    pub report-done : {x : Reduced} {w : List ℤ} → Reduces (lengths l) x w → {counts : Counts} {report′ work′ : List ℤ} → WroteReport x w (l .output) counts report′
         → work′ ≡ replicate (length w) (pos 0) → CallAnswers called (Done counts) report′ work′
-    unfolding reportCall
+    unfolding call two rule cells
     report-done {x} {w} h k e =
-        is-done before-report (twice (asked l)) left (l .output) (l .work) passes (h .is) (k .counts)
+        is-done early (two (l .question)) left (l .output) (l .work) passes (h .is) (k .counts)
         (k .is
-        ∙ ap (λ (cells : ℕ). written (reportList cells (x .layout .matrix .lines) (x .rank) (stateIn x w)) (l .output))
-        (inverse-width pivotRule-is-rule (g .chains) (g .passed .work-slots) h))
+        ∙ ap (λ (width : ℕ). written (reportList width (x .layout .matrix .lines) (x .rank) (stateIn x w)) (l .output))
+        (inverse-width pivotRule-is-rule (g .chains) (g .passed .work-slots) h)
+        ∙ sym (splices-single (listSlots (l .question) report) (numbersOf (l .question) report (x .layout .matrix .lines) (x .rank) (stateIn x w)) (l .output)))
         (e ∙ ap (λ (m : ℕ). replicate m (pos 0)) (h .kept .same-length))

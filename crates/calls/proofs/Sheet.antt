@@ -3,7 +3,7 @@
 use mathlib.Core.Path.{_≡_, refl, sym, _∙_, ap}
 use mathlib.Core.Logic.{_≢_}
 use mathlib.Core.List.{List}
-use Prim.Native.Nat.{ℕ, zero, suc, _+_, _*_, _-_, _≤_, _<_, max}
+use Prim.Native.Nat.{ℕ, zero, suc, _+_, _*_, _-_, _≤_, _<_}
 use native.Mathlib.Nat.{le-trans, pos-of-ne-zero}
 use native.Mathlib.Numerals.{add-one}
 use native.Mathlib.Omega.{arith}
@@ -16,7 +16,6 @@ use Rattle.sheet_format.specs.Check.{countField, sectionsOf, refusal}
 use Rattle.sheet_format.specs.CheckLaws.{Passes, refusal-zero, countExceeds-false}
 use Rattle.sheet_format.specs.SheetLaws.{count-sectionsOf}
 use Rattle.fields.specs.Read.{ReadsBelow}
-use Rattle.requests.specs.Call.{workSlots}
 use Rattle.limits.specs.Limits.{libraryLimit}
 use Rattle.faces.specs.Face.{Accepted}
 use Rattle.operations.specs.Layouts.{firstLayout, secondLayout}
@@ -79,6 +78,3 @@ module _ {K : Sections} {p : ℕ} {n : Sizes} (h : SizesRead K p n) where
 
   pub second-of : (rank : ℕ) → secondLayout (n .cells) (n .rows) (n .columns) rank ≡ secondLayoutOf K p rank
   second-of rank = ap (λ (k : Sizes). secondLayout (k .cells) (k .rows) (k .columns) rank) (h .is)
-
-  pub slots-of : n .cells * (2 * n .cells + max (n .rows) (n .columns)) ≡ workSlots K p
-  slots-of = ap (λ (k : Sizes). k .cells * (2 * k .cells + max (k .rows) (k .columns))) (h .is)

@@ -1,7 +1,7 @@
 -- What the two reductions leave can be counted and written: rows-within, can-count, can-report, can-coordinate.
 use mathlib.Core.Path.{_≡_, refl, sym, _∙_}
 use mathlib.Core.List.{List}
-use Prim.Native.Nat.{ℕ, suc, _+_, _≤_}
+use Prim.Native.Nat.{ℕ, suc, _+_, _*_, _≤_}
 use native.Mathlib.Nat.{mul-le-mul, le-refl}
 use native.Mathlib.Omega.{arith}
 use lib.IntN.{ℤ, natAbs}
@@ -11,8 +11,7 @@ use Rattle.complexes.specs.ChainComplex.{ChainComplex}
 use Rattle.complexes.specs.Boundary.{countBelow}
 use Rattle.reduction_steps.specs.Pivot.{Rule, IsRule}
 use Rattle.requests.specs.Call.{workSlots}
-use Rattle.reports.specs.Call.{reportSlots}
-use Rattle.reports.specs.Reductions.{reductionsOf}
+use Rattle.reports.specs.Reductions.{noTransforms, reductionsOf}
 use Rattle.limits.specs.Limits.{entryLimit, coefficientLimit, libraryLimit}
 use Rattle.answers.specs.TwoReductions.{Right, reductions-right}
 use Rattle.lines.specs.Slice.{at}
@@ -32,9 +31,8 @@ module _ {rule : Rule} (is : IsRule rule) {K : Sections} {p n : ℕ} {x : Reduce
       (second-laid (count K p) (countBelow K p) (count K (suc p)) slots (h .first-rank) (h .rank-within))
 
   right : Right K p (x .layout .matrix .lines) (x .rank) (stateIn x w)
-  unfolding reductionsOf
   right =
-      reductions-right chains rule is entryLimit p (omega arith) (x .layout .matrix .lines) (x .rank) (stateIn x w) (h .is)
+      reductions-right chains noTransforms rule is entryLimit p (omega arith) (x .layout .matrix .lines) (x .rank) (stateIn x w) (h .is)
 
   kinds : Kinds (x .layout .matrix) w
   kinds = record { nonneg = right .reduced .second .nonneg }
@@ -47,7 +45,7 @@ module _ {rule : Rule} (is : IsRule rule) {K : Sections} {p n : ℕ} {x : Reduce
   unfolding secondLayout
   follower-width = rw (h .layout-is) refl
 
-  pub can-report : {m : ℕ} → reportSlots K p ≤ m → CanReport x w m
+  pub can-report : {m : ℕ} → 2 + count K p + count K p * count K p ≤ m → CanReport x w m
   can-report {m} room = record {
     laid = laid;
     kinds = kinds;

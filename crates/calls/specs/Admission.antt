@@ -1,11 +1,11 @@
 -- The sizes of a dimension, and what `admit` answers.
 use mathlib.Core.Path.{_≡_}
-use mathlib.Core.List.{List}
-use Prim.Native.Nat.{ℕ, suc, _+_, _*_, _<_}
+use Prim.Native.Nat.{ℕ, suc, _+_, _*_, _<_, max}
 use Rattle.complexes.specs.Complex.{Sections, count}
 use Rattle.complexes.specs.Boundary.{countBelow}
 use Rattle.trials.specs.Trial.{first}
 use Rattle.sheet_format.specs.Check.{sectionsOf}
+use Rattle.requests.specs.Question.{Question}
 use Rattle.requests.specs.Call.{callChecks}
 use Rattle.refusal.specs.Number.{numberOf}
 use Rattle.calls.specs.declared.admission.Sizes.{Sizes}
@@ -24,13 +24,23 @@ pub record SizesRead (K : Sections) (p : ℕ) (r : Sizes) : Type 0 where
   pub rows-below : r .rows < 65536
   pub columns-below : r .columns < 65536
 
--- the slots that check 9 asks of the output: `reportSlots`, `listSlots`
+-- the slots that check 9 asks of the output
 abbrev pub slotsFor : Request → Sizes → ℕ
 slotsFor Report n = 2 + n .cells + n .cells * n .cells
 slotsFor (Coordinates number) n = number * n .cells
 
--- the first of the checks 1 to 9 that applies, or the sizes of the dimension
-abbrev pub Admits : ℕ → List ℕ → ℕ → Request → ℕ → ℕ → Admission → Type 0
-Admits limit b p request output work (Admitted sizes) =
-    (first (callChecks limit b p (λ K q. slotsFor request (sizesIn K q)) output work) ≡ 0) × SizesRead (sectionsOf b) p sizes
-Admits limit b p request output work (Refused x) = first (callChecks limit b p (λ K q. slotsFor request (sizesIn K q)) output work) ≡ numberOf x
+-- .. and of the work slice
+abbrev pub spaceFor : Request → Sizes → ℕ
+spaceFor request n = n .cells * (2 * n .cells + max (n .rows) (n .columns))
+
+-- the first of the checks 1 to 9 that applies, 0 for none
+abbrev pub admission : ℕ → Question → Request → ℕ → ℕ → ℕ
+admission limit q request output work =
+    let n = sizesIn (sectionsOf (q .sheet)) (q .dimension) in
+    first (callChecks limit q (slotsFor request n) (spaceFor request n) output work)
+
+-- its refusal, or the sizes of the dimension
+abbrev pub Admits : ℕ → Question → Request → ℕ → ℕ → Admission → Type 0
+Admits limit q request output work (Admitted sizes) =
+    (admission limit q request output work ≡ 0) × SizesRead (sectionsOf (q .sheet)) (q .dimension) sizes
+Admits limit q request output work (Refused x) = admission limit q request output work ≡ numberOf x

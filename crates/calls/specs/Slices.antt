@@ -6,7 +6,7 @@ use lib.IntN.{ℤ}
 use Rattle.complexes.specs.Complex.{Sections, count}
 use Rattle.complexes.specs.Boundary.{countBelow}
 use Rattle.reports.specs.Reductions as reports
-use Rattle.reports.specs.Reductions.{firstStart}
+use Rattle.reports.specs.Reductions.{noTransforms, firstStart}
 use Rattle.operations.specs.Laid.{stateOf}
 use Rattle.operations.specs.Layouts.{firstLayout, secondLayout}
 use Rattle.operations.specs.declared.layout.Layout.{Layout}
@@ -31,7 +31,7 @@ startPeak (suc cells) = 1
 
 -- the slice of length n holds the start of the first reduction
 pub record Filled (K : Sections) (p n : ℕ) (w′ : List ℤ) : Type 0 where
-  pub state : stateOf (firstLayoutOf K p) (startPeak (count K p)) w′ ≡ firstStart K p
+  pub state : stateOf (firstLayoutOf K p) (startPeak (count K p)) w′ ≡ firstStart noTransforms K p
   pub kept : StillUnder n (startPeak (count K p)) w′
 
 -- The two reductions came to x, and the slice holds the state that the second leaves, with the peak of both; its matrix has a line for each row of Q.

@@ -6,7 +6,8 @@ ghost use Rattle.complexes.specs.Boundary.{countBelow};
 ghost use Rattle.fields.specs.Read.{ReadsBelow};
 ghost use Rattle.sheet_format.specs.Layout.{top};
 ghost use Rattle.sheet_format.specs.Check.{sectionsOf};
-ghost use Rattle.calls.specs.Admission.{SizesRead, slotsFor, Admits};
+ghost use Rattle.requests.specs.Question.{asked};
+ghost use Rattle.calls.specs.Admission.{SizesRead, slotsFor, spaceFor, Admits};
 use fields::field::TOP;
 use fields::field::count;
 use operations::layout::Layout;
@@ -64,6 +65,14 @@ impl Request {
             Request::Coordinates(number) => cells != 0 && output / cells < number,
         }
     }
+
+    // The work slots that are wanted: those of the two reductions.
+    fn work_slots(self, sizes: Sizes) -> usize
+        requires { ⌜ (sizes .cells < 65536) × (sizes .rows < 65536) × (sizes .columns < 65536) ⌝ }
+        ensures { λ r. ⌜ r ≡ spaceFor self sizes ⌝ }
+    {
+        Layout::work_slots(sizes.cells, sizes.rows, sizes.columns)
+    }
 }
 
 // The sizes of the dimension, or the first of the checks 1 to 9 that applies; `output` and `work` are the lengths of the slices lent.
@@ -75,7 +84,7 @@ pub fn admit(
     output: usize,
     work: usize,
 ) -> Admission
-    ensures { λ r. ⌜ Admits (sheet .limit) (now (s .entry)) dimension request output work r ⌝ }
+    ensures { λ r. ⌜ Admits (sheet .limit) (asked (now (s .entry)) dimension) request output work r ⌝ }
 {
     if let Reading::Refused(refusal) = sheet.read(s) {
         return Admission::Refused(refusal);
@@ -88,7 +97,7 @@ pub fn admit(
     if request.lacks_slots(sizes, output) {
         return Admission::Refused(Refusal::SliceTooShort);
     }
-    if work < Layout::work_slots(sizes.cells, sizes.rows, sizes.columns) {
+    if work < request.work_slots(sizes) {
         return Admission::Refused(Refusal::SliceTooShort);
     }
     Admission::Admitted(sizes)

@@ -1,6 +1,7 @@
 // The coordinate calls.
-ghost use Rattle.reports.specs.Call.{coordinateCall};
-ghost use Rattle.reports.specs.Lists.{coordinateListsCall};
+ghost use Rattle.requests.specs.Question.{asked};
+ghost use Rattle.requests.specs.Call as requests;
+ghost use Rattle.requests.specs.Call.{call};
 ghost use Rattle.limits.specs.Limits.{libraryLimit};
 ghost use Rattle.calls.specs.Answer.{CallAnswers};
 use crate::admission::Admission;
@@ -31,7 +32,7 @@ pub fn coordinate_lists(
         let left = now (coordinates .exit) in
         let work-left = now (work .exit) in ⌜
         CallAnswers
-        (coordinateListsCall libraryLimit (now (s .entry)) dimension number (now (chains .entry)) (now (coordinates .entry)) (now (work .entry)))
+        (call libraryLimit (asked (now (s .entry)) dimension) (requests.lists number (now (chains .entry))) (now (coordinates .entry)) (now (work .entry)))
         r left work-left
         ⌝ }
 {
@@ -76,7 +77,7 @@ pub fn coordinates(
         let left = now (coordinates .exit) in
         let work-left = now (work .exit) in ⌜
         CallAnswers
-        (coordinateCall libraryLimit (now (s .entry)) dimension (now (chain .entry)) (now (coordinates .entry)) (now (work .entry)))
+        (call libraryLimit (asked (now (s .entry)) dimension) (requests.coordinates (now (chain .entry))) (now (coordinates .entry)) (now (work .entry)))
         r left work-left
         ⌝ }
 {

@@ -1,6 +1,8 @@
 // The report call.
 ghost use Prim.Native.Nat.{_≤_};
-ghost use Rattle.reports.specs.Call.{reportCall};
+ghost use Rattle.requests.specs.Question.{asked};
+ghost use Rattle.requests.specs.Call as requests;
+ghost use Rattle.requests.specs.Call.{call};
 ghost use Rattle.limits.specs.Limits.{libraryLimit};
 ghost use Rattle.calls.specs.Answer.{CallAnswers};
 use crate::admission::Admission;
@@ -26,7 +28,7 @@ pub fn report_at(
     ensures { λ r.
         let left = now (report .exit) in
         let work-left = now (work .exit) in ⌜
-        CallAnswers (reportCall (sheet .limit) (now (s .entry)) dimension (now (report .entry)) (now (work .entry))) r left work-left
+        CallAnswers (call (sheet .limit) (asked (now (s .entry)) dimension) requests.report (now (report .entry)) (now (work .entry))) r left work-left
         ⌝ }
 {
     let sizes = match admit(
@@ -54,7 +56,7 @@ pub fn report(s: &[u8], dimension: u32, report: &mut [i64], work: &mut [i32]) ->
     ensures { λ r.
         let left = now (report .exit) in
         let work-left = now (work .exit) in ⌜
-        CallAnswers (reportCall libraryLimit (now (s .entry)) dimension (now (report .entry)) (now (work .entry))) r left work-left
+        CallAnswers (call libraryLimit (asked (now (s .entry)) dimension) requests.report (now (report .entry)) (now (work .entry))) r left work-left
         ⌝ }
 {
     report_at(Sheet::library(), s, dimension, report, work)

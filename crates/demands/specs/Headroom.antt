@@ -5,6 +5,7 @@ use Prim.Native.Nat.{ℕ, _-_, _^_, _≤_, _<_}
 use Rattle.limits.specs.Limits.{entryLimit}
 use Rattle.sheet_format.specs.Sheet.{Bytes}
 use Rattle.reduction_steps.specs.State.{State}
+use Rattle.reports.specs.Reductions.{noTransforms}
 use Rattle.reports.specs.Report.{Counts}
 use Rattle.requests.specs.Question.{Question, cells, cellCount, rule}
 use Rattle.answers.specs.Wide.{GoesWide}
@@ -34,7 +35,7 @@ HeadroomNone = (q : Question) → Bytes (q .sheet) → (counts : Counts) → Cou
 -- peak, and come to the same end where it is not. L is 1 at least, so that the matrix of p, V and its inverse, which no operation has written yet, lie
 -- within it. This fixes every peak above 1, and `HeadroomNone` tells 0 from 1
 pub record AtEntryLimit (q : Question) (L : ℕ) (counts : Counts) : Type 0 where
-  pub too-wide : GoesWide L (rule q) (cells q) (q .dimension) ↔ (L < counts .peak)
+  pub too-wide : GoesWide noTransforms L (rule q) (cells q) (q .dimension) ↔ (L < counts .peak)
   pub same : counts .peak ≤ L → (s r : ℕ) (x : State) → EndsAt entryLimit q s r x → EndsAt L q s r x
 
 abbrev pub LeastLimit : Type 0

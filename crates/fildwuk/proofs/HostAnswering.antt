@@ -1,30 +1,29 @@
 -- What a host call answers: refuses, for a refusal before the reductions; goes-wide, for 13; is-done.
-use mathlib.Core.Path.{_≡_, refl, sym}
+use mathlib.Core.Path.{_≡_, sym, _∙_, ap}
 use mathlib.Core.List.{List}
-use Prim.Native.Nat.{ℕ, zero, suc}
+use Prim.Native.Nat.{ℕ}
 use native.Mathlib.Omega.{arith}
-use Rattle.reports.specs.Reductions.{Reductions, tooWide, reduced}
-use Rattle.reports.specs.Host.{finishedWith}
-use Rattle.host_calls.specs.HostCallLaws.{hostCall}
+use Rattle.reports.specs.Reductions.{tooWide, reduced}
 use Rattle.reduction_steps.specs.State.{State}
+use Rattle.requests.specs.Question.{Question, two}
+use Rattle.requests.specs.Call.{Request}
+use Rattle.host_calls.specs.Host.{hostEarly, bytesLeft, hostCall}
+use Rattle.host_calls.specs.HostCallLaws.{host-early, host-wide, host-done}
 use Rattle.refusal.specs.Number.{numberOf}
 use Rattle.refusal.specs.NumberLaws.{number-positive}
 use Rattle.refusal.specs.declared.Refusal.{Refusal}
 use Rattle.fildwuk.specs.Answer.{HostAnswers}
 
-module _ (before : ℕ) (R : Reductions) (left : ℕ → ℕ → State → List ℕ) (output : List ℕ) where
-  pub refuses : (x : Refusal) → before ≡ numberOf x → HostAnswers (hostCall before R left output) (numberOf x) output
-  refuses x e = go before e
-    where
-      go : (k : ℕ) → k ≡ numberOf x → HostAnswers (hostCall k R left output) (numberOf x) output
-      go zero f = absurd (omega (arith, number-positive x))
-      go (suc n) f = record { number-is = sym f; output-is = refl }
+module _ (q : Question) (request : Request) (output : List ℕ) where
+  pub refuses : (x : Refusal) → hostEarly q request output ≡ numberOf x → HostAnswers (hostCall q request output) (numberOf x) output
+  refuses x e = record {
+    is = host-early q request output (λ z. absurd (omega (arith, number-positive x))) ∙ ap (λ (k : ℕ). record { number = k; output = output }) e;
+  }
 
-  module _ (passes : before ≡ 0) where
-    pub goes-wide : R ≡ tooWide → HostAnswers (hostCall before R left output) 13 output
-    unfolding finishedWith
-    goes-wide e = rw (passes, e) (record { number-is = refl; output-is = refl })
+  module _ (passes : hostEarly q request output ≡ 0) where
+    pub goes-wide : two q ≡ tooWide → HostAnswers (hostCall q request output) 13 output
+    goes-wide e = record { is = host-wide q request output passes e }
 
-    pub is-done : {s r : ℕ} {x : State} {output′ : List ℕ} → R ≡ reduced s r x → output′ ≡ left s r x → HostAnswers (hostCall before R left output) 0 output′
-    unfolding finishedWith
-    is-done e o = rw (passes, e) (record { number-is = refl; output-is = o })
+    pub is-done : {s r : ℕ} {x : State} {output′ : List ℕ} → two q ≡ reduced s r x → output′ ≡ bytesLeft q request output s r x
+        → HostAnswers (hostCall q request output) 0 output′
+    is-done {s} {r} {x} e o = record { is = host-done q request output passes s r x e ∙ ap (λ (l : List ℕ). record { number = 0; output = l }) (sym o) }

@@ -8,19 +8,23 @@ use lib.ListN.{length, getD, take, drop, length-append}
 use lib.Seq.{take-append-le, length-take-le}
 use lib.IntN.{ℤ}
 use Rattle.lists.specs.Splice.{splice}
-use Rattle.complexes.specs.Complex.{count}
-use Rattle.sheet_format.specs.Check.{sectionsOf, countField}
+use Rattle.sheet_format.specs.Check.{countField}
 use Rattle.sheet_format.specs.Sheet.{Bytes}
 use Rattle.sheet_format.specs.SheetLaws.{count-sectionsOf}
 use Rattle.refusal.specs.declared.Refusal.{Refusal}
 use Rattle.refusal.specs.Number.{numberOf}
-use Rattle.trials.specs.Trial.{Called}
-use Rattle.reports.specs.Call.{reportCall}
+use Rattle.trials.specs.Trial.{Called, numberTold}
+use Rattle.reduction_steps.specs.State.{State}
+use Rattle.reports.specs.Report as reports
+use Rattle.reports.specs.Report.{reportList}
+use Rattle.reports.specs.Reductions.{Reductions, reduced}
+use Rattle.requests.specs.Question as question
+use Rattle.requests.specs.Question.{Question, cellCount, two}
+use Rattle.requests.specs.Call.{report, ofReduced, call}
 use Rattle.limits.specs.Limits.{hostLimit}
-use Rattle.host_calls.specs.Host.{HostCalled, slotsIn}
 use Rattle.host_calls.specs.Bytes.{numbersBytes}
-use Rattle.reports.specs.Host.{hostReport}
-use Rattle.host_calls.specs.HostCallLaws.{HostRefused, HostDone, reportRoom, workRoom, report-refused, report-done}
+use Rattle.host_calls.specs.Host.{slotsIn, hostCall}
+use Rattle.host_calls.specs.HostCallLaws.{reportRoom, workRoom, report-refused, report-done}
 use Rattle.answers.specs.HostSizes.{ReportSized, report-sized}
 use Rattle.writers.specs.declared.reduced.Counts.{Counts}
 use Rattle.calls.specs.declared.answer.Answer as library
@@ -33,24 +37,22 @@ use Rattle.fildwuk.specs.Answer.{HostAnswers}
 -- a library's call at the host's limit, with the first `many` slots of the numbers lent for what the host's output is to hold
 pub record Lent (room : ℕ) : Type 0 where
   pub limit : ℕ
-  pub sheet : List ℕ
-  pub dimension : ℕ
+  pub question : Question
   pub output : List ℕ
   pub numbers : List ℤ
   pub work : List ℤ
   pub many : ℕ
   pub host : limit ≡ hostLimit
-  pub bytes : Bytes sheet
+  pub bytes : Bytes (question .sheet)
   pub lent : many ≡ min (slotsIn output) room
   pub full : length numbers ≡ room
   pub space : length work ≡ workRoom
 
-abbrev pub lend : (room : ℕ) {limit many : ℕ} (sheet : List ℕ) (dimension : ℕ) (output : List ℕ) (numbers work : List ℤ) → limit ≡ hostLimit
-    → ((i : ℕ) → getD sheet i 0 < 256) → many ≡ min (slotsIn output) room → length numbers ≡ room → length work ≡ workRoom → Lent room
-lend room {limit} {many} sheet dimension output numbers work host small lent full space = record {
+abbrev pub lend : (room : ℕ) {limit many : ℕ} (q : Question) (output : List ℕ) (numbers work : List ℤ) → limit ≡ hostLimit
+    → ((i : ℕ) → getD (q .sheet) i 0 < 256) → many ≡ min (slotsIn output) room → length numbers ≡ room → length work ≡ workRoom → Lent room
+lend room {limit} {many} q output numbers work host small lent full space = record {
   limit = limit;
-  sheet = sheet;
-  dimension = dimension;
+  question = q;
   output = output;
   numbers = numbers;
   work = work;
@@ -81,57 +83,60 @@ pub writable : {room : ℕ} (l : Lent room) (after : List ℤ) {n : ℕ} → n �
     → (n ≤ length (left l after)) × (8 * n ≤ length (l .output))
 writable l after fits same = (omega (arith, fits, same, length-append after (drop (l .many) (l .numbers))), omega (arith, fits, size l))
 
--- ---- what it answers
-
--- what the library's call answers at the host's limit
-told : {limit : ℕ} (call : ℕ → Called) {r x : library.Answer} {after work : List ℤ} → limit ≡ hostLimit → CallAnswers (call limit) r after work → r ≡ x
-    → call hostLimit .answer ≡ answered x
-told call host a e = ap (λ (n : ℕ). call n .answer) (sym host) ∙ sym (a .answer) ∙ ap answered e
-
-refuses : {called : HostCalled} {k n : ℕ} {output : List ℕ} → HostRefused called k output → n ≡ k → HostAnswers called n output
-refuses h e = record { number-is = e ∙ sym (h .number-is); output-is = sym (h .output-is) }
-
--- the numbers stand in front of what follows the lent slots
-writes : {called : HostCalled} {output output′ : List ℕ} (many : ℕ) (numbers rest : List ℤ) → many ≤ length numbers → HostDone called many numbers output
-    → output′ ≡ splice 0 (numbersBytes (take many (numbers ++ rest))) output → HostAnswers called 0 output′
-writes {output = output} many numbers rest fits h e =
-    record {
-      number-is = sym (h .number-is);
-      output-is =
-          e ∙ ap (λ (l : List ℤ). splice 0 (numbersBytes l) output) (take-append-le many numbers rest fits) ∙ sym (h .output-is);
-    }
+-- the length of a report that the reductions give
+abbrev lengthIn : Question → Reductions → ℕ
+lengthIn q R = ofReduced 0 (λ s r x. length (reportList (cellCount q) s r x)) R
 
 -- ---- the report
 
-module _ (l : Lent reportRoom) {r : library.Answer} {after work′ : List ℤ}
-    (a : CallAnswers (reportCall (l .limit) (l .sheet) (l .dimension) (slots l) (l .work)) r after work′) where
-  at-host : {x : library.Answer} → r ≡ x → reportCall hostLimit (l .sheet) (l .dimension) (slots l) (l .work) .answer ≡ answered x
-  at-host e = told (λ n. reportCall n (l .sheet) (l .dimension) (slots l) (l .work)) (l .host) a e
+module _ (l : Lent reportRoom) {r : library.Answer} {after work′ : List ℤ} (a : CallAnswers (call (l .limit) (l .question) report (slots l) (l .work)) r after work′) where
+  abbrev called : Called reports.Counts ℤ
+  called = call hostLimit (l .question) report (slots l) (l .work)
 
-  pub report-refuses : {x : Refusal} {n : ℕ} → r ≡ Refused x → n ≡ numberOf x → HostAnswers (hostReport (l .sheet) (l .dimension) (l .output)) n (l .output)
-  report-refuses {x} e is = refuses (report-refused (l .sheet) (l .dimension) (l .output) (slots l) (l .work) (size l) (l .space) (numberOf x) (at-host e)) is
+  -- what the library's call comes to at the host's limit
+  called-is : called ≡ record { answer = answered r; output = after; work = work′ }
+  called-is = ap (λ (n : ℕ). call n (l .question) report (slots l) (l .work)) (sym (l .host)) ∙ a .is
+
+  told : {x : library.Answer} → r ≡ x → called .answer ≡ answered x
+  told e = ap (λ (c : Called reports.Counts ℤ). c .answer) called-is ∙ ap answered e
+
+  pub report-refuses : {x : Refusal} {n : ℕ} → r ≡ Refused x → n ≡ numberOf x → HostAnswers (hostCall (l .question) report (l .output)) n (l .output)
+  report-refuses {x} e is = record {
+    is =
+        report-refused (l .question) (l .output) (slots l) (l .work) (size l) (l .space) (numberOf x) (told e)
+        ∙ ap (λ (k : ℕ). record { number = k; output = l .output }) (sym is);
+  }
 
   module _ {x : Counts} (e : r ≡ Done x) where
-    pub report-sizes : ReportSized (l .sheet) (l .dimension) (slots l) (countsIn x)
-    report-sizes = report-sized (l .sheet) (l .bytes) (l .dimension) (slots l) (l .work) (countsIn x) (at-host e)
+    pub report-sizes : ReportSized (l .question) (length (slots l)) (countsIn x)
+    report-sizes = report-sized (l .question) (l .bytes) (slots l) (l .work) (countsIn x) (told e)
 
-    module _ {cells : ℕ} (is : cells ≡ countField (l .sheet) (l .dimension)) where
+    module _ {cells : ℕ} (is : cells ≡ countField (l .question .sheet) (l .question .dimension)) where
       abbrev numbers-of : ℕ
       numbers-of = 2 + x .torsion + (x .torsion + x .free) * cells
 
-      cells-are : numbers-of ≡ 2 + x .torsion + (x .torsion + x .free) * count (sectionsOf (l .sheet)) (l .dimension)
-      cells-are = cc (is, count-sectionsOf (l .sheet) (l .dimension))
+      cells-are : cells ≡ cellCount (l .question)
+      unfolding question.cells
+      cells-are = is ∙ sym (count-sectionsOf (l .question .sheet) (l .question .dimension))
 
       pub report-room : 2 + x .torsion + (x .torsion + x .free) * cells ≤ length (slots l)
-      report-room = omega (arith, cells-are, report-sizes .fits)
+      report-room = rw cells-are (report-sizes .fits)
+
+      -- the report has so many numbers
+      long : (s r : ℕ) (y : State) → two (l .question) ≡ reduced s r y → length (reportList (cellCount (l .question)) s r y) ≡ numbers-of
+      long s r y d =
+          let k = report-sizes .is-sized .reductions-behind in
+          let same : reduced s r y ≡ reduced (k .rows) (k .rank) (k .state) = sym d ∙ k .reductions in
+          rw cells-are (ap (lengthIn (l .question)) same ∙ report-sizes .is-sized .report-size)
 
       pub report-writes : {output′ : List ℕ} → length after ≡ length (slots l)
-          → output′ ≡ splice 0 (numbersBytes (take numbers-of (left l after))) (l .output)
-          → HostAnswers (hostReport (l .sheet) (l .dimension) (l .output)) 0 output′
-      report-writes same e′ = writes numbers-of after (drop (l .many) (l .numbers)) (omega (arith, report-room, same)) written e′
-        where
-          written : HostDone (hostReport (l .sheet) (l .dimension) (l .output)) numbers-of after (l .output)
-          written =
-              rw (a .output-is, l .host)
-              (report-done (l .sheet) (l .dimension) (l .output) (slots l) (l .work) (size l) (l .space) numbers-of (at-host e)
-              (report-sizes .is-sized .counted) (report-sizes .is-sized .report-size ∙ sym cells-are))
+          → output′ ≡ splice 0 (numbersBytes (take numbers-of (left l after))) (l .output) → HostAnswers (hostCall (l .question) report (l .output)) 0 output′
+      report-writes same e′ = record {
+        is =
+            report-done (l .question) (l .output) (slots l) (l .work) (size l) (l .space) numbers-of (ap numberTold (told e)) long
+            ∙ ap (λ (numbers : List ℤ). record { number = 0; output = splice 0 (numbersBytes (take numbers-of numbers)) (l .output) })
+            (ap (λ (c : Called reports.Counts ℤ). c .output) called-is)
+            ∙ ap (λ (numbers : List ℤ). record { number = 0; output = splice 0 (numbersBytes numbers) (l .output) })
+            (sym (take-append-le numbers-of after (drop (l .many) (l .numbers)) (omega (arith, report-room, same))))
+            ∙ ap (λ (o : List ℕ). record { number = 0; output = o }) (sym e′);
+      }

@@ -13,7 +13,8 @@ ghost use Rattle.faces.specs.Face.{Accepted};
 ghost use Rattle.host_calls.specs.Bytes.{chainFrom};
 ghost use Rattle.host_calls.specs.HostCallLaws.{workRoom};
 ghost use Rattle.requests.specs.Chains.{cyclesChecks};
-ghost use Rattle.reports.specs.Lists.{hostCoordinateLists};
+ghost use Rattle.requests.specs.Question.{asked};
+ghost use Rattle.host_calls.specs.Host.{hostCall, listsIn};
 ghost use Rattle.chains.specs.Check.{checkNumber};
 ghost use Rattle.fildwuk.specs.Answer.{HostAnswers};
 ghost use Rattle.fildwuk.specs.Lists.{CanListBytes, listBytes};
@@ -40,7 +41,7 @@ fn check_bytes(s: &[u8], p: usize, cells: usize, number: usize, chains: &[u8]) -
     requires { ⌜ Accepted (now s) ⌝ }
     requires { ⌜ (p ≤ top) × (cells ≡ count (sectionsOf (now s)) p) × (cells ≤ hostLimit) × (length (now chains) ≡ 4 * (number * cells)) ⌝ }
     ensures { λ r. ⌜
-        first (cyclesChecks coefficientLimit (now (s .entry)) p number (chainFrom (number * cells) (now (chains .entry)))) ≡
+        first (cyclesChecks coefficientLimit (sectionsOf (now (s .entry))) p number (chainFrom (number * cells) (now (chains .entry)))) ≡
         checkNumber r
         ⌝ }
 {
@@ -94,8 +95,9 @@ pub fn lists_through(
 ) -> u32
     requires { ⌜ length (now work) ≡ workRoom ⌝ }
     ensures { λ r.
-        let left = now (coordinates .exit) in ⌜
-        HostAnswers (hostCoordinateLists (now (sheet .entry)) dimension number (now (chains .entry)) (now (coordinates .entry))) r left
+        let left = now (coordinates .exit) in
+        let q = asked (now (sheet .entry)) dimension in ⌜
+        HostAnswers (hostCall q (listsIn q number (now (chains .entry))) (now (coordinates .entry))) r left
         ⌝ }
 {
     let slots = coordinates.len() / 8;

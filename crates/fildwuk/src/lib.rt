@@ -2,15 +2,16 @@
 // number of the refusal.
 ghost use mathlib.Core.Path.{_≡_};
 ghost use lib.ListN.{length};
-ghost use Rattle.reports.specs.Host.{hostReport, hostCoordinates};
-ghost use Rattle.reports.specs.Lists.{hostCoordinateLists};
+ghost use Rattle.requests.specs.Question.{asked};
+ghost use Rattle.requests.specs.Call as requests;
+ghost use Rattle.host_calls.specs.Host.{hostCall, coordinatesIn, listsIn};
 ghost use Rattle.host_calls.specs.HostCallLaws.{reportRoom, workRoom};
 ghost use Rattle.limits.specs.Limits.{hostLimit};
 ghost use Rattle.imports.specs.Import.{importCall};
 ghost use Rattle.importer.specs.ImportAnswers.{ImportTold};
 ghost use Rattle.fildwuk.specs.Answer.{HostAnswers};
 
-pub mod coordinate_lists;
+mod coordinate_lists;
 
 use crate::coordinate_lists::lists_through;
 use calls::answer::Answer;
@@ -34,7 +35,7 @@ fn report_through(
     requires { ⌜ (length (now numbers) ≡ reportRoom) × (length (now work) ≡ workRoom) ⌝ }
     ensures { λ r.
         let left = now (report .exit) in ⌜
-        HostAnswers (hostReport (now (sheet .entry)) dimension (now (report .entry))) r left
+        HostAnswers (hostCall (asked (now (sheet .entry)) dimension) requests.report (now (report .entry))) r left
         ⌝ }
 {
     let slots = smaller(report.len() / 8, REPORT_SLOTS);
@@ -54,7 +55,7 @@ fn report_through(
 pub extern "C" fn fildwuk_report(sheet: &[u8], dimension: u32, report: &mut [u8]) -> u32
     ensures { λ r.
         let left = now (report .exit) in ⌜
-        HostAnswers (hostReport (now (sheet .entry)) dimension (now (report .entry))) r left
+        HostAnswers (hostCall (asked (now (sheet .entry)) dimension) requests.report (now (report .entry))) r left
         ⌝ }
 {
     let mut work = [0i32; WORK_SLOTS];
@@ -72,8 +73,9 @@ pub extern "C" fn fildwuk_coordinate_lists(
     coordinates: &mut [u8],
 ) -> u32
     ensures { λ r.
-        let left = now (coordinates .exit) in ⌜
-        HostAnswers (hostCoordinateLists (now (sheet .entry)) dimension number (now (chains .entry)) (now (coordinates .entry))) r left
+        let left = now (coordinates .exit) in
+        let q = asked (now (sheet .entry)) dimension in ⌜
+        HostAnswers (hostCall q (listsIn q number (now (chains .entry))) (now (coordinates .entry))) r left
         ⌝ }
 {
     let mut work = [0i32; WORK_SLOTS];
@@ -96,8 +98,9 @@ pub extern "C" fn fildwuk_coordinates(
     coordinates: &mut [u8],
 ) -> u32
     ensures { λ r.
-        let left = now (coordinates .exit) in ⌜
-        HostAnswers (hostCoordinates (now (sheet .entry)) dimension (now (chain .entry)) (now (coordinates .entry))) r left
+        let left = now (coordinates .exit) in
+        let q = asked (now (sheet .entry)) dimension in ⌜
+        HostAnswers (hostCall q (coordinatesIn q (now (chain .entry))) (now (coordinates .entry))) r left
         ⌝ }
 {
     fildwuk_coordinate_lists(sheet, dimension, 1, chain, coordinates)

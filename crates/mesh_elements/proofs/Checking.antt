@@ -52,30 +52,30 @@ module _ (map : List ℕ) (x : Element) (s : Simplex) (h : IsSimplex (x .kind) s
     sized : length (e .nodes) ≡ s .vertices
     sized = sym (t .many-is) ∙ same
 
-    words : Packs (s .vertices) (e .nodes) (x .word)
+    words : Packs (s .vertices) (e .nodes) (x .packed)
     words = record {
       sized = sized;
       numbered = n;
-      is = t .word-is ∙ ap packed (take-all wordVertices (e .nodes) (omega (arith, sized, vertices-few)));
+      is = t .packed-is ∙ ap packed (take-all wordVertices (e .nodes) (omega (arith, sized, vertices-few)));
     }
 
     kind-many : nodesOfKind (e .kind) ≡ s .vertices
     kind-many = ap nodesOfKind (sym (t .kind-is)) ∙ h .many
 
-  pub refused-unlisted : AllListed map (x .word) (s .vertices) false → Checks (inMap map) x (Refused ElementFaulty)
+  pub refused-unlisted : AllListed map (x .packed) (s .vertices) false → Checks (inMap map) x (Refused ElementFaulty)
   refused-unlisted m = record {
     dimension-is = tt;
     checks = λ e t n.
-        let w : Packs (s .vertices) (e .nodes) (x .word) = words e t n in
+        let w : Packs (s .vertices) (e .nodes) (x .packed) = words e t n in
         (fault-unlisted (inMap map) e (sym (m (e .nodes) (w .sized) n (sym (w .is)))), refl);
   }
 
-  module _ (r many : ℕ) (sorts : Sorts (s .vertices) (x .word) r many) where
+  module _ (r many : ℕ) (sorts : Sorts (s .vertices) (x .packed) r many) where
     pub refused-twice : many ≢ s .vertices → Checks (inMap map) x (Refused ElementFaulty)
     refused-twice d = record {
       dimension-is = tt;
       checks = λ e t n.
-          let w : Packs (s .vertices) (e .nodes) (x .word) = words e t n in
+          let w : Packs (s .vertices) (e .nodes) (x .packed) = words e t n in
           let c : Packs many (cellWith (e .nodes)) r = sorts (e .nodes) w in (
             fault-twice (inMap map) e
                 (repeats-length (e .nodes)
@@ -84,11 +84,11 @@ module _ (map : List ℕ) (x : Element) (s : Simplex) (h : IsSimplex (x .kind) s
           );
     }
 
-    pub right : AllListed map (x .word) (s .vertices) true → many ≡ s .vertices → Checks (inMap map) x (Cell (s .dimension) r)
+    pub right : AllListed map (x .packed) (s .vertices) true → many ≡ s .vertices → Checks (inMap map) x (Cell (s .dimension) r)
     right m q = record {
       dimension-is = h .dimension-is;
       checks = λ e t n.
-          let w : Packs (s .vertices) (e .nodes) (x .word) = words e t n in
+          let w : Packs (s .vertices) (e .nodes) (x .packed) = words e t n in
           let c : Packs many (cellWith (e .nodes)) r = sorts (e .nodes) w in (
             no-fault (inMap map) e (λ z. omega (arith, kind-many e t n, z, h .vertices-are)) (w .sized ∙ sym (kind-many e t n))
                 (sym (m (e .nodes) (w .sized) n (sym (w .is))))

@@ -30,10 +30,10 @@ pub fn check_element(map: &[u8], element: Element) -> Checked
     if element.many != n {
         return Checked::Refused(Refusal::ElementFaulty);
     }
-    if !all_listed(map, element.word, n) {
+    if !all_listed(map, element.packed, n) {
         return Checked::Refused(Refusal::ElementFaulty);
     }
-    let sorted = sort_vertices(element.word, n);
+    let sorted = sort_vertices(element.packed, n);
     if sorted.many == n {
         Checked::Cell(simplex.dimension, sorted.word)
     } else {

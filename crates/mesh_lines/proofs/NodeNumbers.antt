@@ -1,7 +1,7 @@
--- The node numbers of an element, one after another, and the word of the first of them.
+-- The node numbers of an element, one after another, and the first of them packed.
 --     Turn                                  one of them
 --     Nodes                                 those from `from` up to `at`
---     no-nodes, in-word, past-word          none, and one more
+--     no-nodes, packed-in, packed-past          none, and one more
 --     no-node, no-end, all-read             what they make of the line
 use borrow.Author.Tests.{ltb-true}
 use mathlib.Core.Path.{_≡_, refl, sym, ap, _∙_}
@@ -66,13 +66,13 @@ unfolding then
 behind-next nodes v malformed = refl
 behind-next nodes v (parsed vs next) = ap (λ (l : List ℕ). parsed l next) (sym (append-assoc nodes (v ∷ []) vs))
 
--- ---- the word
+-- ---- packed
 
 packed-next : (c : List ℕ) (v : ℕ) → packed (c ++ (v ∷ [])) ≡ packed c * vertexBound + v
 unfolding packed
 packed-next c v = omega (arith, packed-append c (v ∷ []))
 
--- `many` node numbers are read from `from` up to `at`, and the others stand from there on; `word` is the word of the first of them
+-- `many` node numbers are read from `from` up to `at`, and the others stand from there on; `word` is the first of them packed
 pub record Nodes (s : List ℕ) (from at many word : ℕ) : Type 0 where
   pub nodes : List ℕ
   pub count : many ≡ length nodes
@@ -101,8 +101,8 @@ module _ {s : List ℕ} {from at many word : ℕ} (h : Nodes s from at many word
   pub no-node : standsAt Space s at ≡ true → spaced node s at ≡ malformed → nodeNumbers s from ≡ malformed
   no-node e f = h .others ∙ fails _ (one-more s at e ∙ fails _ f)
 
-  pub word-small : many < wordVertices → word < vertexBound ^ 3
-  word-small l = omega (arith, h .small (omega arith), pow-le-pow-right {n = vertexBound} (omega arith) {i = many} {j = 3} (omega arith))
+  pub packed-small : many < wordVertices → word < vertexBound ^ 3
+  packed-small l = omega (arith, h .small (omega arith), pow-le-pow-right {n = vertexBound} (omega arith) {i = many} {j = 3} (omega arith))
 
   module _ {v b : ℕ} (t : Turn s at v b) where
     count-next : many + 1 ≡ length (h .nodes ++ (v ∷ []))
@@ -111,8 +111,8 @@ module _ {s : List ℕ} {from at many word : ℕ} (h : Nodes s from at many word
     others-next : nodeNumbers s from ≡ behind (h .nodes ++ (v ∷ [])) (nodeNumbers s b)
     others-next = h .others ∙ ap (behind (h .nodes)) (one-more s at (t .space) ∙ goes _ (t .read) refl) ∙ behind-next (h .nodes) v (nodeNumbers s b)
 
-    pub in-word : {word′ : ℕ} → many < wordVertices → word′ ≡ word * vertexBound + v → Nodes s from b (many + 1) word′
-    in-word {word′} l e = record {
+    pub packed-in : {word′ : ℕ} → many < wordVertices → word′ ≡ word * vertexBound + v → Nodes s from b (many + 1) word′
+    packed-in {word′} l e = record {
       nodes = h .nodes ++ (v ∷ []);
       count = count-next;
       packs =
@@ -128,8 +128,8 @@ module _ {s : List ℕ} {from at many word : ℕ} (h : Nodes s from at many word
       others = others-next;
     }
 
-    pub past-word : {word′ : ℕ} → wordVertices ≤ many → word′ ≡ word → Nodes s from b (many + 1) word′
-    past-word l e = record {
+    pub packed-past : {word′ : ℕ} → wordVertices ≤ many → word′ ≡ word → Nodes s from b (many + 1) word′
+    packed-past l e = record {
       nodes = h .nodes ++ (v ∷ []);
       count = count-next;
       packs = e ∙ h .packs ∙ ap packed (sym (take-append-le wordVertices (h .nodes) (v ∷ []) (omega (arith, h .count))));

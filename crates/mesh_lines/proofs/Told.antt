@@ -76,13 +76,13 @@ unfolding tellElement
 element-read {p = malformed} h f = absurd (let z : _≡_ {A = ℕ} 0 1 = cc in omega arith)
 element-read {p = parsed x at} {e = e} {c = c} h f =
     let q : record { at = at } ≡ c = cc in
-    let z : record { kind = x .kind; many = length (x .nodes); word = packed (take wordVertices (x .nodes)) } ≡ e = cc in record {
+    let z : record { kind = x .kind; many = length (x .nodes); packed = packed (take wordVertices (x .nodes)) } ≡ e = cc in record {
       element = x;
       is = ap (λ (k : Cursor). parsed x (k .at)) q;
       tells = record {
         kind-is = ap (λ (t : Element). t .kind) (sym z);
         many-is = ap (λ (t : Element). t .many) (sym z);
-        word-is = ap (λ (t : Element). t .word) (sym z);
+        packed-is = ap (λ (t : Element). t .packed) (sym z);
       };
     }
 

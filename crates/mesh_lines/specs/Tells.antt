@@ -20,10 +20,10 @@ tellTitle from (parsed w at) = title.Read (from + length w) (record { at = at })
 unfoldable pub tellElement : Parsed mesh.Element → ElementLine
 tellElement malformed = element.Malformed
 tellElement (parsed e at) =
-    element.Read (record { kind = e .kind; many = length (e .nodes); word = packed (take wordVertices (e .nodes)) }) (record { at = at })
+    element.Read (record { kind = e .kind; many = length (e .nodes); packed = packed (take wordVertices (e .nodes)) }) (record { at = at })
 
 -- x tells of the element e
 pub record TellsElement (e : mesh.Element) (x : Element) : Type 0 where
   pub kind-is : x .kind ≡ e .kind
   pub many-is : x .many ≡ length (e .nodes)
-  pub word-is : x .word ≡ packed (take wordVertices (e .nodes))
+  pub packed-is : x .packed ≡ packed (take wordVertices (e .nodes))

@@ -7,11 +7,11 @@ pub enum Title {
     Read(usize, Cursor),
 }
 
-// An element line: its kind, the number of its nodes, and the word of its first nodes, at most four.
+// An element line: its kind, the number of its nodes, and the first of them, at most four, packed as the vertices of a cell are.
 pub struct Element {
     pub kind: usize,
     pub many: usize,
-    pub word: u64,
+    pub packed: u64,
 }
 
 pub enum ElementLine {

@@ -13,8 +13,8 @@ use mesh_words::number::node_number_after;
 use mesh_words::run::Class;
 use mesh_words::run::stands;
 
-// The word of a cell has room for this many nodes, each a digit to the base BASE.
-const WORD_VERTICES: usize = 4;
+// This many nodes are packed, each a digit to the base BASE.
+const PACKED_NODES: usize = 4;
 
 const BASE: u64 = NODE_BOUND as u64;
 
@@ -24,13 +24,13 @@ pub fn nodes_at(text: &[u8], kind: usize, c: Cursor) -> ElementLine
 {
     let mut at = c.at;
     let mut many: usize = 0;
-    let mut word: u64 = 0;
+    let mut packed: u64 = 0;
     while stands(text, Class::Space, at) {
         let Number::Read(v, next) = node_number_after(text, Cursor { at }) else {
             return ElementLine::Malformed;
         };
-        if many < WORD_VERTICES {
-            word = word * BASE + v as u64;
+        if many < PACKED_NODES {
+            packed = packed * BASE + v as u64;
         }
         many = many + 1;
         at = next.at;
@@ -38,5 +38,5 @@ pub fn nodes_at(text: &[u8], kind: usize, c: Cursor) -> ElementLine
     let Skipped::To(next) = end_at(text, Cursor { at }) else {
         return ElementLine::Malformed;
     };
-    ElementLine::Read(Element { kind, many, word }, next)
+    ElementLine::Read(Element { kind, many, packed }, next)
 }

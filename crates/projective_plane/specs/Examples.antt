@@ -22,7 +22,7 @@ use Rattle.reduction_steps.specs.Lines.{onList, lineLess, onLines, onEntries}
 use Rattle.reduction_steps.specs.State.{largest, rowOperation, columnOperation, within, checked, andThen, onRow, onColumn}
 use Rattle.reduction_steps.specs.Pivot.{better, alongRow, downRows, release1}
 use Rattle.reduction_steps.specs.Step.{columnKeeps, rowKeeps, rowIndivisible, firstIndivisible, positive, bring, quotient, rowPass, columnPass, next, step, run, reduce}
-use Rattle.reports.specs.Reductions.{tooWide, reduced, firstStart, product, secondStart, afterSecond, second, afterFirst, reductions}
+use Rattle.reports.specs.Reductions.{tooWide, reduced, noTransforms, firstStart, product, secondStart, afterSecond, second, afterFirst, reductions}
 use Rattle.reports.specs.Report.{Counts, reported, columnsOf, torsionCount, halvings, bitsOf, reportList, coordinateAt, coordinateList}
 use Rattle.trials.specs.Trial.{Called, done}
 use Rattle.requests.specs.Question.{Question, asked, rule, two}
@@ -84,8 +84,8 @@ plane-calls = record {
 -- ---- too wide at the entry limit 1: the order 2 stands in the matrix of dimension 2, and in the second reduction of dimension 1
 
 pub record PlaneWide : Type 0 where
-  pub first : end release1 1 cells 2 ≡ inFirst
-  pub second : end release1 1 cells 1 ≡ inSecond
+  pub first : end noTransforms release1 1 cells 2 ≡ inFirst
+  pub second : end noTransforms release1 1 cells 1 ≡ inSecond
 
 pub plane-wide : PlaneWide
 unfolding end endOfFirst endOfProduct endOfSecond firstStart product secondStart countBelow boundary coefficient sign without same
@@ -95,6 +95,6 @@ unfolding end endOfFirst endOfProduct endOfSecond firstStart product secondStart
 plane-wide = record { first = refl; second = refl }
 
 -- so the two reductions are too wide
-pub plane-too-wide : (reductions release1 1 cells 2 ≡ tooWide) × (reductions release1 1 cells 1 ≡ tooWide)
+pub plane-too-wide : (reductions noTransforms release1 1 cells 2 ≡ tooWide) × (reductions noTransforms release1 1 cells 1 ≡ tooWide)
 unfolding endsWide
-plane-too-wide = (end-wide release1 1 cells 2 inFirst (plane-wide .first) refl, end-wide release1 1 cells 1 inSecond (plane-wide .second) refl)
+plane-too-wide = (end-wide noTransforms release1 1 cells 2 inFirst (plane-wide .first) refl, end-wide noTransforms release1 1 cells 1 inSecond (plane-wide .second) refl)

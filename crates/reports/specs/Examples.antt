@@ -16,15 +16,15 @@ use Rattle.reduction_steps.specs.Lines.{onList, lineLess, onLines, onEntries}
 use Rattle.reduction_steps.specs.State.{largest, rowOperation, columnOperation, within, checked, andThen, onRow, onColumn}
 use Rattle.reduction_steps.specs.Pivot.{better, alongRow, downRows, release1}
 use Rattle.reduction_steps.specs.Step.{columnKeeps, rowKeeps, rowIndivisible, firstIndivisible, positive, bring, quotient, rowPass, columnPass, next, step, run, reduce}
-use Rattle.reports.specs.Reductions.{tooWide, reduced, firstStart, product, secondStart, afterSecond, second, afterFirst, reductions}
+use Rattle.reports.specs.Reductions.{tooWide, reduced, noTransforms, firstStart, product, secondStart, afterSecond, second, afterFirst, reductions}
 use Rattle.reports.specs.WideEnd.{inFirst, inProduct, atEnd, endOfSecond, endOfProduct, endOfFirst, end, endsWide, end-wide}
 
 pub record Examples : Type 0 where
-  pub wideInFirst : end release1 0 edgeSections 1 ≡ inFirst
-  pub wideInProduct : end release1 0 edgeSections 0 ≡ inProduct
-  pub notWide : end release1 1 edgeSections 1 ≡ atEnd
+  pub wideInFirst : end noTransforms release1 0 edgeSections 1 ≡ inFirst
+  pub wideInProduct : end noTransforms release1 0 edgeSections 0 ≡ inProduct
+  pub notWide : end noTransforms release1 1 edgeSections 1 ≡ atEnd
   -- the second reduction has no entries: the peak is that of the first
-  pub peakOfFirst : reductions release1 1 edgeSections 1
+  pub peakOfFirst : reductions noTransforms release1 1 edgeSections 1
       ≡ reduced 0 0 (record { matrix = []; rowFollower = []; rowInverse = []; columnFollower = []; columnInverse = []; peak = 1 })
 
 pub examples : Examples
@@ -36,6 +36,6 @@ unfolding end endOfFirst endOfProduct endOfSecond
 examples = record { wideInFirst = refl; wideInProduct = refl; notWide = refl; peakOfFirst = refl }
 
 -- the edge's reductions at the limit 0 are too wide
-pub edge-wide : (reductions release1 0 edgeSections 1 ≡ tooWide) × (reductions release1 0 edgeSections 0 ≡ tooWide)
+pub edge-wide : (reductions noTransforms release1 0 edgeSections 1 ≡ tooWide) × (reductions noTransforms release1 0 edgeSections 0 ≡ tooWide)
 unfolding endsWide
-edge-wide = (end-wide release1 0 edgeSections 1 inFirst (examples .wideInFirst) refl, end-wide release1 0 edgeSections 0 inProduct (examples .wideInProduct) refl)
+edge-wide = (end-wide noTransforms release1 0 edgeSections 1 inFirst (examples .wideInFirst) refl, end-wide noTransforms release1 0 edgeSections 0 inProduct (examples .wideInProduct) refl)

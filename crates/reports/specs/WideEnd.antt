@@ -8,7 +8,7 @@ use Rattle.reduction_steps.specs.Table.{tableWithin}
 use Rattle.reduction_steps.specs.State.{State}
 use Rattle.reduction_steps.specs.Pivot.{Rule}
 use Rattle.reduction_steps.specs.Step.{Machine, at, done, wide, reduce}
-use Rattle.reports.specs.Reductions.{Reductions, tooWide, reduced, firstSizes, firstStart, secondSizes, product, secondStart, afterSecond, afterFirst, reductions}
+use Rattle.reports.specs.Reductions.{Reductions, tooWide, reduced, Transforms, firstSizes, firstStart, secondSizes, product, secondStart, afterSecond, afterFirst, reductions}
 use Rattle.reports.specs.ReductionsLaws.{after-first, first-wide, product-wide, after-second}
 
 -- in the first reduction, after the product, in the second reduction, or at its end
@@ -25,15 +25,15 @@ unfoldable pub endOfProduct : Bool → Machine → End
 endOfProduct true m = endOfSecond m
 endOfProduct false m = inProduct
 
-module _ (rule : Rule) (limit : ℕ) (K : Sections) (p : ℕ) where
+module _ (t : Transforms) (rule : Rule) (limit : ℕ) (K : Sections) (p : ℕ) where
   unfoldable pub endOfFirst : Machine → End
   endOfFirst (at l k x) = inFirst
   endOfFirst (done r x) =
-      endOfProduct (tableWithin limit (product K p r x)) (reduce limit (secondSizes K p r) rule (secondStart K p r x))
+      endOfProduct (tableWithin limit (product K p r x)) (reduce limit (secondSizes t K p r) rule (secondStart t K p r x))
   endOfFirst wide = inFirst
 
   unfoldable pub end : End
-  end = endOfFirst (reduce limit (firstSizes K p) rule (firstStart K p))
+  end = endOfFirst (reduce limit (firstSizes t K p) rule (firstStart t K p))
 
 unfoldable pub isWide : Reductions → Bool
 isWide tooWide = true
@@ -55,40 +55,40 @@ after-all s wide = refl
 agree : (x : Reductions) (y : End) {x′ : Reductions} {y′ : End} → x ≡ x′ → y ≡ y′ → isWide x′ ≡ endsWide y′ → isWide x ≡ endsWide y
 agree x y e f h = ap isWide e ∙ h ∙ sym (ap endsWide f)
 
-module _ (rule : Rule) (limit : ℕ) (K : Sections) (p : ℕ) where
+module _ (t : Transforms) (rule : Rule) (limit : ℕ) (K : Sections) (p : ℕ) where
   Agree : Type 0
-  Agree = isWide (reductions rule limit K p) ≡ endsWide (end rule limit K p)
+  Agree = isWide (reductions t rule limit K p) ≡ endsWide (end t rule limit K p)
 
   abbrev firstMachine : Machine
-  firstMachine = reduce limit (firstSizes K p) rule (firstStart K p)
+  firstMachine = reduce limit (firstSizes t K p) rule (firstStart t K p)
 
   module _ (r : ℕ) (x : State) (first : firstMachine ≡ done r x) where
     abbrev secondMachine : Machine
-    secondMachine = reduce limit (secondSizes K p r) rule (secondStart K p r x)
+    secondMachine = reduce limit (secondSizes t K p r) rule (secondStart t K p r x)
 
-    after-product : (b : Bool) → tableWithin limit (product K p r x) ≡ b → end rule limit K p ≡ endOfProduct b secondMachine
+    after-product : (b : Bool) → tableWithin limit (product K p r x) ≡ b → end t rule limit K p ≡ endOfProduct b secondMachine
     unfolding end endOfFirst
-    after-product b e = ap (endOfFirst rule limit K p) first ∙ ap (λ (t : Bool). endOfProduct t secondMachine) e
+    after-product b e = ap (endOfFirst t rule limit K p) first ∙ ap (λ (u : Bool). endOfProduct u secondMachine) e
 
     from-product : (b : Bool) → tableWithin limit (product K p r x) ≡ b → Agree
     unfolding Agree endOfProduct isWide endsWide
-    from-product true e = agree _ _ (after-second rule limit K p r x first e secondMachine refl) (after-product true e) (after-all _ secondMachine)
-    from-product false e = agree _ _ (product-wide rule limit K p r x first e) (after-product false e) refl
+    from-product true e = agree _ _ (after-second t rule limit K p r x first e secondMachine refl) (after-product true e) (after-all _ secondMachine)
+    from-product false e = agree _ _ (product-wide t rule limit K p r x first e) (after-product false e) refl
 
   from-first : (m : Machine) → firstMachine ≡ m → Agree
   unfolding Agree end endOfFirst afterFirst isWide endsWide
-  from-first (at l k x) e = agree _ _ (after-first rule limit K p (at l k x) e) (ap (endOfFirst rule limit K p) e) refl
+  from-first (at l k x) e = agree _ _ (after-first t rule limit K p (at l k x) e) (ap (endOfFirst t rule limit K p) e) refl
   from-first (done r x) e = from-product r x e (tableWithin limit (product K p r x)) refl
-  from-first wide e = agree _ _ (first-wide rule limit K p e) (ap (endOfFirst rule limit K p) e) refl
+  from-first wide e = agree _ _ (first-wide t rule limit K p e) (ap (endOfFirst t rule limit K p) e) refl
 
-  pub wide-end : isWide (reductions rule limit K p) ≡ endsWide (end rule limit K p)
+  pub wide-end : isWide (reductions t rule limit K p) ≡ endsWide (end t rule limit K p)
   unfolding Agree
   wide-end = from-first firstMachine refl
 
   -- what does not come to its end is too wide
-  pub end-wide : (e : End) → end rule limit K p ≡ e → endsWide e ≡ true → reductions rule limit K p ≡ tooWide
+  pub end-wide : (e : End) → end t rule limit K p ≡ e → endsWide e ≡ true → reductions t rule limit K p ≡ tooWide
   unfolding isWide
-  end-wide e f w = narrow (reductions rule limit K p) (wide-end ∙ ap endsWide f ∙ w)
+  end-wide e f w = narrow (reductions t rule limit K p) (wide-end ∙ ap endsWide f ∙ w)
     where
       narrow : (x : Reductions) → isWide x ≡ true → x ≡ tooWide
       narrow tooWide h = refl

@@ -19,7 +19,7 @@ use Rattle.lists.specs.Splice.{splices}
 use Rattle.lists.specs.SplicesLaws.{splices-nothing}
 use Rattle.trials.specs.Trial.{first, done, cleared}
 use Rattle.reduction_steps.specs.State.{State}
-use Rattle.reports.specs.Reductions.{Reductions, tooWide, reduced}
+use Rattle.reports.specs.Reductions.{Reductions, tooWide, reduced, noTransforms}
 use Rattle.reports.specs.ReductionsLaws.{reductions-done}
 use Rattle.reports.specs.Report.{countsOf, reported, coordinateList}
 use Rattle.requests.specs.Question.{Question, cells, cellCount, rule, two}
@@ -79,7 +79,7 @@ module _ (q : Question) (empty : cellCount q ≡ 0) where
   none-numbers s r x e number chains i = rw rows
     where
       rows : s ≡ 0
-      rows = omega (arith, reductions-done (rule q) entryLimit (cells q) (q .dimension) s r x e .rows, empty)
+      rows = omega (arith, reductions-done noTransforms (rule q) entryLimit (cells q) (q .dimension) s r x e .rows, empty)
 
   none : (number : ℕ) → number * cellCount q ≡ 0 * cellCount q
   none number = rw empty (mul-zero number)

@@ -5,6 +5,7 @@ use native.Mathlib.Omega.{arith}
 use borrow.Author.Needs.{needs}
 use denote.Ref.{now}
 use lib.ListN.{length}
+use Rattle.requests.specs.Question.{asked}
 use Rattle.host_calls.specs.HostCallLaws.{reportRoom}
 use Rattle.answers.specs.HostSizes.{ReportSized}
 use Rattle.writers.specs.declared.reduced.Counts.{Counts}
@@ -18,7 +19,7 @@ abbrev call : tie.After-report-at → Lent reportRoom
 call c =
     let known = c .before .before .before .before .before .before in
     let args = known .before .args in
-    lend reportRoom (now (args .sheet)) (args .dimension) (now (args .report)) (now (args .numbers)) (now (args .work)) (c .before .before .before .host .ensures)
+    lend reportRoom (asked (now (args .sheet)) (args .dimension)) (now (args .report)) (now (args .numbers)) (now (args .work)) (c .before .before .before .host .ensures)
     (λ i. known .shared-slice-known .given i .fits) (c .before .before .before .before .smaller .ensures) (known .before .pre .0) (known .before .pre .1)
 
 -- where it is done
@@ -29,7 +30,7 @@ module _ (c : tie.After-counts) where
   abbrev counts : Counts
   counts = c .counts .given .0 .0
 
-  sizes : ReportSized (call called .sheet) (call called .dimension) (slots (call called)) (countsIn counts)
+  sizes : ReportSized (call called .question) (length (slots (call called))) (countsIn counts)
   sizes = report-sizes (call called) (called .report-at .ensures) (c .counts .given .1)
 
 module _ (c : tie.After-count) where

@@ -5,21 +5,28 @@ use borrow.Author.Needs.{needs}
 use borrow.Author.Tests.{ltb-true, ltb-false}
 use denote.Ref.{now}
 use lib.Dec.{ltb}
-use Rattle.complexes.specs.Complex.{Sections}
-use Rattle.sheet_format.specs.Check.{sectionsOf, refusal}
+use Rattle.sheet_format.specs.Check.{refusal}
 use Rattle.sheet.specs.Number.{readingNumber}
-use Rattle.requests.specs.Call.{workSlots}
+use Rattle.requests.specs.Question.{asked}
 use Rattle.requests.specs.CheckLaws.{callChecks-zero}
-use Rattle.calls.specs.Admission.{slotsFor}
+use Rattle.calls.specs.Admission.{slotsFor, spaceFor}
 use Rattle.calls.specs.declared.admission.Sizes.{Sizes}
-use Rattle.calls.proofs.Sheet.{slots-of}
 use Rattle.calls.proofs.Refusals.{sheet-refused, dimension-refused, output-short, work-short}
-use Rattle.calls.proofs.Admitting.{slotsAsked}
+use Rattle.calls.proofs.Admitting.{Lengths, slotsAsked, spaceAsked}
 use Rattle.calls.proofs.admission.admit.Statement.{statement}
 use Rattle.calls.proofs.admission.admit.Tie as tie
 
-abbrev slots : tie.Start → Sections → ℕ → ℕ
-slots s = slotsAsked (s .args .request)
+abbrev given : tie.Start → Lengths
+given s =
+    let a = s .args in
+    record { limit = a .sheet .limit; question = asked (now (a .s)) (a .dimension); slots = a .output; work = a .work }
+
+-- the slots that are asked for
+abbrev slots : tie.Start → ℕ
+slots s = slotsAsked (given s) (s .args .request)
+
+abbrev space : tie.Start → ℕ
+space s = spaceAsked (given s) (s .args .request)
 
 -- ---- the sheet
 
@@ -30,7 +37,7 @@ returns : tie.Need-returns
 returns c =
     let s = c .before .before .before .before .before in
     let a = s .args in
-    sheet-refused (a .sheet .limit) (now (a .s)) (a .dimension) (slots s) (a .output) (a .work) (c .before .refusal .given .0 .0)
+    sheet-refused (a .sheet .limit) (given s .question) (slots s) (space s) (a .output) (a .work) (c .before .refusal .given .0 .0)
     (sym (c .before .before .before .read .ensures .number) ∙ ap readingNumber (c .before .refusal .given .1))
 
 enum-told : tie.Need-enum-told
@@ -47,8 +54,9 @@ module _ (c : tie.After-enum-told) where
 
 returns-2 : tie.Need-returns-2
 returns-2 c =
-    let a = start (c .before) .args in
-    dimension-refused (a .sheet .limit) (now (a .s)) (a .dimension) (slots (start (c .before))) (a .output) (a .work) (accepted (c .before)) (c .if1 .taken)
+    let s = start (c .before) in
+    let a = s .args in
+    dimension-refused (a .sheet .limit) (given s .question) (slots s) (space s) (a .output) (a .work) (accepted (c .before)) (c .if1 .taken)
 
 -- ---- the slices
 
@@ -59,11 +67,7 @@ module _ (c : tie.After-lacks-slots) where
   abbrev told : tie.After-enum-told
   told = c .before .before .before
 
-  -- the slots that are asked for
-  abbrev needed : ℕ
-  needed = slots (start told) (sectionsOf (now (start told .args .s))) (start told .args .dimension)
-
-  output-is : ltb (start told .args .output) needed ≡ c .lacks-slots .result
+  output-is : ltb (start told .args .output) (slots (start told)) ≡ c .lacks-slots .result
   output-is =
       ap (λ (n : Sizes). ltb (start told .args .output) (slotsFor (start told .args .request) n)) (sym (c .before .sizes-of .ensures .is))
       ∙ sym (c .lacks-slots .ensures)
@@ -72,32 +76,32 @@ returns-3 : tie.Need-returns-3
 returns-3 c =
     let t = told (c .before) in
     let a = start t .args in
-    output-short (a .sheet .limit) (now (a .s)) (a .dimension) (slots (start t)) (a .output) (a .work) (accepted t) (c .before .before .before .if1 .left)
-    (ltb-true (a .output) (needed (c .before)) (output-is (c .before) ∙ c .if2 .taken))
+    output-short (a .sheet .limit) (given (start t) .question) (slots (start t)) (space (start t)) (a .output) (a .work) (accepted t) (c .before .before .before .if1 .left)
+    (ltb-true (a .output) (slots (start t)) (output-is (c .before) ∙ c .if2 .taken))
 
 module _ (c : tie.After-work-slots) where
-  abbrev asked : tie.After-lacks-slots
-  asked = c .before .before
+  abbrev tried : tie.After-lacks-slots
+  tried = c .before .before
 
-  work-is : c .work-slots .result ≡ workSlots (sectionsOf (now (start (told asked) .args .s))) (start (told asked) .args .dimension)
-  work-is = c .work-slots .ensures ∙ slots-of (asked .before .sizes-of .ensures)
+  work-is : c .work-slots .result ≡ space (start (told tried))
+  work-is = c .work-slots .ensures ∙ ap (spaceFor (start (told tried) .args .request)) (tried .before .sizes-of .ensures .is)
 
 returns-4 : tie.Need-returns-4
 returns-4 c =
-    let t = told (asked (c .before)) in
+    let t = told (tried (c .before)) in
     let a = start t .args in
-    work-short (a .sheet .limit) (now (a .s)) (a .dimension) (slots (start t)) (a .output) (a .work) (accepted t)
-    (asked (c .before) .before .before .if1 .left) (rw (← work-is (c .before)) (c .if3 .taken))
+    work-short (a .sheet .limit) (given (start t) .question) (slots (start t)) (space (start t)) (a .output) (a .work) (accepted t)
+    (tried (c .before) .before .before .if1 .left) (rw (← work-is (c .before)) (c .if3 .taken))
 
 returns-5 : tie.Need-returns-5
 returns-5 c =
-    let o = asked (c .before) in
+    let o = tried (c .before) in
     let t = told o in
     let a = start t .args in (
-      callChecks-zero (a .sheet .limit) (now (a .s)) (a .dimension) (slots (start t)) (a .output) (a .work) .1 (record {
+      callChecks-zero (a .sheet .limit) (given (start t) .question) (slots (start t)) (space (start t)) (a .output) (a .work) .1 (record {
         accepted = accepted t;
         dimension = o .before .before .if1 .left;
-        output-slots = ltb-false (a .output) (needed o) (output-is o ∙ c .before .before .if2 .left);
+        output-slots = ltb-false (a .output) (slots (start t)) (output-is o ∙ c .before .before .if2 .left);
         work-slots = rw (← work-is (c .before)) (c .if3 .left);
       }),
       o .before .sizes-of .ensures,

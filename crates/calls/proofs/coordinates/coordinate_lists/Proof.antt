@@ -11,10 +11,12 @@ use lib.IntN.{ℤ}
 use lib.ListN.{length}
 use Rattle.lists.specs.Splice.{splices}
 use Rattle.complexes.specs.Complex.{count}
-use Rattle.trials.specs.Trial.{first}
+use Rattle.trials.specs.Trial.{first, Called}
+use Rattle.reports.specs.Report as reports
 use Rattle.sheet_format.specs.Check.{sectionsOf}
 use Rattle.reduction_steps.specs.PivotLaws.{pivotRule-is-rule}
-use Rattle.trials.specs.Trial.{Called}
+use Rattle.requests.specs.Question.{asked}
+use Rattle.requests.specs.Question as question
 use Rattle.requests.specs.Chains.{chainAt, cyclesChecks}
 use Rattle.requests.specs.ListsLaws.{nonempty, nonempty-size, nonempty-lists}
 use Rattle.limits.specs.Limits.{libraryLimit, coefficientLimit}
@@ -26,7 +28,7 @@ use Rattle.calls.specs.declared.answer.Answer.{Answer}
 use Rattle.calls.specs.declared.admission.Sizes.{Sizes}
 use Rattle.calls.specs.declared.admission.Request.the-variants.{Coordinates}
 use Rattle.calls.proofs.Sheet.{cells-of}
-use Rattle.calls.proofs.Admitting.{Lent, asked, admit-refused, Granted, admit-granted, regrant, Reduces, twice-done, twice-refused}
+use Rattle.calls.proofs.Admitting.{Lent, lengths, admit-refused, Granted, admit-granted, regrant, Reduces, twice-done, twice-refused}
 use Rattle.calls.proofs.Writing.{can-count}
 use Rattle.calls.proofs.ListAnswers.{listsCalled, lists-refuse, length-refuses, cycles-refuse, lists-wide, can-list, lists-done}
 use Rattle.calls.proofs.coordinates.coordinate_lists.Statement.{statement}
@@ -35,13 +37,13 @@ use Rattle.calls.proofs.coordinates.coordinate_lists.Tie as tie
 abbrev lent : tie.Start → Lent
 lent s =
     let a = s .args in
-    record { limit = libraryLimit; sheet = now (a .s); dimension = a .dimension; output = now (a .coordinates); work = now (a .work) }
+    record { limit = libraryLimit; question = asked (now (a .s)) (a .dimension); output = now (a .coordinates); work = now (a .work) }
 
 -- ---- the checks 1 to 9
 
 -- the library's sheet has the library's limit
 admits : (c : tie.After-admit) → let a = c .before .before .before .args in
-    Admits libraryLimit (now (a .s)) (a .dimension) (Coordinates (a .number)) (length (now (a .coordinates))) (length (now (a .work))) (c .admit .result)
+    Admits libraryLimit (asked (now (a .s)) (a .dimension)) (Coordinates (a .number)) (length (now (a .coordinates))) (length (now (a .work))) (c .admit .result)
 admits c = rw (c .before .library .ensures) at (c .admit .ensures)
 
 enum-known-refusal : tie.Need-enum-known-refusal
@@ -52,8 +54,8 @@ returns c =
     let called = c .before .before .before in
     let start = called .before .before .before in
     let l = lent start in
-    lists-refuse l (start .args .number) (now (start .args .chains))
-    (admit-refused (asked l) (Coordinates (start .args .number)) (called .admit .result) (admits called) (c .before .refusal .given .1))
+    lists-refuse l (start .args .number) (now (start .args .chains)) (c .before .refusal .given .0 .0)
+    (admit-refused (lengths l) (Coordinates (start .args .number)) (called .admit .result) (admits called) (c .before .refusal .given .1))
 
 enum-known-sizes : tie.Need-enum-known-sizes
 enum-known-sizes c = c .match .keys2
@@ -78,9 +80,9 @@ module _ (c : tie.After-known-told2) where
   abbrev cells : ℕ
   cells = count (sectionsOf (now (entered .args .s))) (entered .args .dimension)
 
-  granted : Granted (asked (lent entered)) (Coordinates number) sizes
+  granted : Granted (lengths (lent entered)) (Coordinates number) sizes
   granted =
-      admit-granted (asked (lent entered)) (Coordinates number) (called .admit .result) (admits called) (le-refl libraryLimit)
+      admit-granted (lengths (lent entered)) (Coordinates number) (called .admit .result) (admits called) (le-refl libraryLimit)
       (record { small = λ i. called .before .before .shared-slice-known .given i .fits }) (c .before .sizes .given .1)
 
   cells-are : sizes .cells ≡ cells
@@ -113,19 +115,20 @@ module _ (c : tie.After-nonempty) where
   size : length (chains-of known) ≡ lists * cells known
   size = c .before .if1 .left ∙ ap (λ (n : ℕ). number known * n) (cells-are known) ∙ sym same-slots
 
-  regranted : Granted (asked (lent (entered known))) (Coordinates lists) (sizes known)
-  regranted = regrant (asked (lent (entered known))) same-slots (granted known)
+  regranted : Granted (lengths (lent (entered known))) (Coordinates lists) (sizes known)
+  regranted = regrant (lengths (lent (entered known))) same-slots (granted known)
 
   -- the call on them is the call on all
   on-lists : {r : Answer} {left work-left : List ℤ} → CallAnswers (listsCalled (lent (entered known)) lists (chains-of known)) r left work-left
       → CallAnswers (listsCalled (lent (entered known)) (number known) (chains-of known)) r left work-left
-  on-lists {r} {left} {work-left} h = subst (λ (x : Called). CallAnswers x r left work-left) (sym same) h
+  unfolding question.cells
+  on-lists {r} {left} {work-left} h = subst (λ (x : Called reports.Counts ℤ). CallAnswers x r left work-left) (sym same) h
     where
       l : Lent
       l = lent (entered known)
 
       same : listsCalled l (number known) (chains-of known) ≡ listsCalled l lists (chains-of known)
-      same = nonempty-lists libraryLimit (l .sheet) (l .dimension) (number known) (chains-of known) (l .output) (l .work) ∙ ap (λ (n : ℕ). listsCalled l n (chains-of known)) (sym lists-are)
+      same = nonempty-lists libraryLimit (l .question) (number known) (chains-of known) (l .output) (l .work) ∙ ap (λ (n : ℕ). listsCalled l n (chains-of known)) (sym lists-are)
 
 check-chains-requires : tie.Need-check-chains-requires
 check-chains-requires c κs =
@@ -140,7 +143,7 @@ returns-3 c =
     let checked = c .before .before .before in
     let m = checked .before in
     let k = known m in
-    on-lists m (cycles-refuse (lent (entered k)) (lists m) (chains-of k) (regranted m) (size m) (checked .check-chains .ensures ∙ ap checkNumber (c .before .refusal2 .given .1)))
+    on-lists m (cycles-refuse (lent (entered k)) (lists m) (chains-of k) (regranted m) (size m) (c .before .refusal2 .given .0 .0) (checked .check-chains .ensures ∙ ap checkNumber (c .before .refusal2 .given .1)))
 
 enum-told : tie.Need-enum-told
 enum-told c = c .match2 .keys2
@@ -154,7 +157,7 @@ module _ (c : tie.After-enum-told) where
   abbrev given : Lent
   given = lent (entered (known counted))
 
-  passed : first (cyclesChecks coefficientLimit (given .sheet) (given .dimension) (lists counted) (chains-of (known counted))) ≡ 0
+  passed : first (cyclesChecks coefficientLimit (sectionsOf (given .question .sheet)) (given .question .dimension) (lists counted) (chains-of (known counted))) ≡ 0
   passed = c .before .before .check-chains .ensures ∙ ap checkNumber (c .enum-told .given .1)
 
 reduce-twice-requires : tie.Need-reduce-twice-requires
@@ -177,7 +180,7 @@ returns-4 c =
     let m = counted t in
     on-lists m
     (lists-wide (given t) (lists m) (chains-of (known m)) (regranted m) (size m) (passed t)
-    (twice-refused (asked (given t)) (reduce .reduce-twice .result) (c .enum-told2 .given .1) (reduce .reduce-twice .ensures)))
+    (twice-refused (lengths (given t)) (reduce .reduce-twice .result) (c .enum-told2 .given .1) (reduce .reduce-twice .ensures)))
 
 -- ---- the coordinates
 
@@ -188,8 +191,8 @@ module _ (c : tie.After-known-told4) where
   abbrev checked : tie.After-enum-told
   checked = reduces .before .before
 
-  reduced : Reduces (asked (given checked)) (c .before .reduced .given .0 .0) (reduces .reduce-twice .last .1 .1 .1 .0)
-  reduced = twice-done (asked (given checked)) (reduces .reduce-twice .result) (c .before .reduced .given .1) (reduces .reduce-twice .ensures)
+  reduced : Reduces (lengths (given checked)) (c .before .reduced .given .0 .0) (reduces .reduce-twice .last .1 .1 .1 .0)
+  reduced = twice-done (lengths (given checked)) (reduces .reduce-twice .result) (c .before .reduced .given .1) (reduces .reduce-twice .ensures)
 
 write-lists-requires : tie.Need-write-lists-requires
 write-lists-requires c κs =

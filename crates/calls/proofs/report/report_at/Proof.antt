@@ -4,8 +4,9 @@ use mathlib.Core.Path.{_∙_}
 use borrow.Author.Needs.{needs}
 use denote.Ref.{now}
 use Rattle.reduction_steps.specs.PivotLaws.{pivotRule-is-rule}
+use Rattle.requests.specs.Question.{asked}
 use Rattle.calls.specs.declared.admission.Request.the-variants.{Report}
-use Rattle.calls.proofs.Admitting.{Lent, asked, admit-refused, Granted, admit-granted, Reduces, twice-done, twice-refused}
+use Rattle.calls.proofs.Admitting.{Lent, lengths, admit-refused, Granted, admit-granted, Reduces, twice-done, twice-refused}
 use Rattle.calls.proofs.Writing.{can-report}
 use Rattle.calls.proofs.ReportAnswers.{report-refuses, report-wide, report-done}
 use Rattle.calls.proofs.report.report_at.Statement.{statement}
@@ -14,7 +15,7 @@ use Rattle.calls.proofs.report.report_at.Tie as tie
 abbrev lent : tie.Start → Lent
 lent s =
     let a = s .args in
-    record { limit = a .sheet .limit; sheet = now (a .s); dimension = a .dimension; output = now (a .report); work = now (a .work) }
+    record { limit = a .sheet .limit; question = asked (now (a .s)) (a .dimension); output = now (a .report); work = now (a .work) }
 
 -- ---- the checks 1 to 9
 
@@ -25,7 +26,7 @@ returns : tie.Need-returns
 returns c =
     let called = c .before .before .before in
     let l = lent (called .before .before) in
-    report-refuses l (admit-refused (asked l) Report (called .admit .result) (called .admit .ensures) (c .before .refusal .given .1))
+    report-refuses l (admit-refused (lengths l) Report (called .admit .result) (called .admit .ensures) (c .before .refusal .given .1))
 
 enum-known-sizes : tie.Need-enum-known-sizes
 enum-known-sizes c = c .match .keys2
@@ -34,10 +35,10 @@ module _ (c : tie.After-sizes) where
   abbrev given : Lent
   given = lent (c .before .before .before .before)
 
-  granted : Granted (asked given) Report (c .sizes .given .0 .0)
+  granted : Granted (lengths given) Report (c .sizes .given .0 .0)
   granted =
       let called = c .before .before in
-      admit-granted (asked given) Report (called .admit .result) (called .admit .ensures) (called .before .before .pre)
+      admit-granted (lengths given) Report (called .admit .result) (called .admit .ensures) (called .before .before .pre)
       (record { small = λ i. called .before .shared-slice-known .given i .fits }) (c .sizes .given .1)
 
 -- ---- the reductions
@@ -60,7 +61,7 @@ returns-2 : tie.Need-returns-2
 returns-2 c =
     let called = c .before .before .before in
     let l = given (admitted called) in
-    report-wide l (granted (admitted called)) (twice-refused (asked l) (called .reduce-twice .result) (c .enum-told .given .1) (called .reduce-twice .ensures))
+    report-wide l (granted (admitted called)) (twice-refused (lengths l) (called .reduce-twice .result) (c .enum-told .given .1) (called .reduce-twice .ensures))
 
 same-length : tie.Need-same-length
 same-length c = c .before .before .before .reduce-twice .kept .1 .1 .1 .0
@@ -74,8 +75,8 @@ module _ (c : tie.After-known-told3) where
   abbrev sized : tie.After-sizes
   sized = admitted called
 
-  reduced : Reduces (asked (given sized)) (c .before .reduced .given .0 .0) (called .reduce-twice .last .1 .1 .1 .0)
-  reduced = twice-done (asked (given sized)) (called .reduce-twice .result) (c .before .reduced .given .1) (called .reduce-twice .ensures)
+  reduced : Reduces (lengths (given sized)) (c .before .reduced .given .0 .0) (called .reduce-twice .last .1 .1 .1 .0)
+  reduced = twice-done (lengths (given sized)) (called .reduce-twice .result) (c .before .reduced .given .1) (called .reduce-twice .ensures)
 
 write-report-requires : tie.Need-write-report-requires
 write-report-requires c κs =

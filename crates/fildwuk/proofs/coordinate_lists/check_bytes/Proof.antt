@@ -9,9 +9,9 @@ use lib.IntN.{ℤ}
 use Rattle.trials.specs.Trial.{first}
 use Rattle.refusal.specs.Number.{numberOf}
 use Rattle.refusal.specs.NumberLaws.{number-positive}
-use Rattle.requests.specs.Chains.{cycleChecks}
+use Rattle.sheet_format.specs.Check.{sectionsOf}
+use Rattle.requests.specs.Chains.{cycleChecks, chainAt}
 use Rattle.host_calls.specs.Bytes.{chainFrom}
-use Rattle.requests.specs.Chains.{chainAt}
 use Rattle.requests.specs.ChainsLaws.{fault, passed-next, cycles-zero, cycles-told}
 use Rattle.limits.specs.Limits.{hostLimit, coefficientLimit}
 use Rattle.chains.specs.Check.{checkNumber}
@@ -22,7 +22,7 @@ use Rattle.fildwuk.proofs.coordinate_lists.check_bytes.Tie as tie
 
 abbrev Inv-loop : tie.InvT-loop
 Inv-loop s p cells number chains coefficients₀ i₀ coefficients i =
-    (i ≤ number) × ((k : ℕ) → k < i → fault coefficientLimit s p (chainFrom (number * cells) chains) k ≡ 0) × (length coefficients ≡ hostLimit)
+    (i ≤ number) × ((k : ℕ) → k < i → fault coefficientLimit (sectionsOf s) p (chainFrom (number * cells) chains) k ≡ 0) × (length coefficients ≡ hostLimit)
 
 abbrev μ-loop : tie.MeasureT-loop
 μ-loop s p cells number chains coefficients₀ i₀ coefficients i = number - i
@@ -89,11 +89,11 @@ module _ (c : tie.After-check-chain Inv-loop μ-loop) where
   reads = c .before .before .before
 
   -- the number that is told of it
-  told : fault coefficientLimit (now (start reads .args .s)) (start reads .args .p) (chainFrom (number reads * cells reads) (bytes reads)) (i reads)
+  told : fault coefficientLimit (sectionsOf (now (start reads .args .s))) (start reads .args .p) (chainFrom (number reads * cells reads) (bytes reads)) (i reads)
       ≡ checkNumber (c .check-chain .result)
   told =
       let a = start reads .args in
-      ap (λ (z : List ℤ). first (cycleChecks coefficientLimit (now (a .s)) (a .p) z))
+      ap (λ (z : List ℤ). first (cycleChecks coefficientLimit (sectionsOf (now (a .s))) (a .p) z))
       (ap (λ (n : ℕ). chainAt n (chainFrom (number reads * cells reads) (bytes reads)) (i reads)) (sym (start reads .pre .1 .1)) ∙ sym (read-is reads))
       ∙ c .check-chain .ensures
 
@@ -106,7 +106,7 @@ returns c =
     let r = reads called in
     let a = start r .args in
     let x = c .before .refusal .given in
-    cycles-told coefficientLimit (now (a .s)) (a .p) (chainFrom (number r * cells r) (bytes r)) (a .number) (numberOf (x .0 .0))
+    cycles-told coefficientLimit (sectionsOf (now (a .s))) (a .p) (chainFrom (number r * cells r) (bytes r)) (a .number) (numberOf (x .0 .0))
     (λ e. absurd (omega (arith, number-positive (x .0 .0)))) .1
     (record {
       place = i r;
@@ -130,7 +130,7 @@ loop-again c =
 returns-2 : tie.Need-returns-2 Inv-loop μ-loop
 returns-2 c =
     let a = c .before .before .before .before .args in
-    cycles-zero coefficientLimit (now (a .s)) (a .p) (chainFrom (a .number * a .cells) (now (a .chains))) (a .number) .1
+    cycles-zero coefficientLimit (sectionsOf (now (a .s))) (a .p) (chainFrom (a .number * a .cells) (now (a .chains))) (a .number) .1
     (λ k l. c .before .loop .inv .1 k (omega (arith, c .loop-test .left)))
 
 pub check-bytes-spec : {M : Type 1} → statement M

@@ -8,36 +8,39 @@ use borrow.Author.Needs.{needs}
 use denote.Ref.{now}
 use lib.ListN.{length}
 use Rattle.lists.specs.Splice.{splices}
-use Rattle.complexes.specs.Complex.{count}
 use Rattle.trials.specs.Trial.{first}
 use Rattle.sheet_format.specs.Check.{sectionsOf}
-use Rattle.host_calls.specs.Host.{HostCalled, slotsIn}
+use Rattle.host_calls.specs.Host.{HostCalled, slotsIn, hostCall, listsIn}
 use Rattle.host_calls.specs.Bytes.{chainFrom}
+use Rattle.requests.specs.Question as question
+use Rattle.requests.specs.Question.{Question, asked}
 use Rattle.requests.specs.Chains.{cyclesChecks}
-use Rattle.reports.specs.Lists.{hostCoordinateLists}
-use Rattle.host_calls.specs.HostCallLaws.{counts-within}
-use Rattle.requests.specs.ListsLaws.{nonempty, nonempty-size, nonempty-host-lists}
+use Rattle.requests.specs.ListsLaws.{nonempty, nonempty-size}
+use Rattle.host_calls.specs.HostListsLaws.{nonempty-host-lists}
 use Rattle.limits.specs.Limits.{hostLimit, coefficientLimit}
 use Rattle.chains.specs.Check.{checkNumber}
 use Rattle.calls.specs.Admission.{Admits}
 use Rattle.calls.specs.declared.admission.Sizes.{Sizes}
 use Rattle.calls.specs.declared.admission.Request.the-variants.{Coordinates}
 use Rattle.calls.proofs.Sheet.{cells-of}
-use Rattle.calls.proofs.Admitting.{Asked, admit-refused, Granted, admit-granted, regrant, Reduces, twice-done, twice-refused}
+use Rattle.calls.proofs.Admitting.{Lengths, cellsOf, admit-refused, Granted, admit-granted, regrant, Reduces, twice-done, twice-refused}
 use Rattle.fildwuk.specs.Answer.{HostAnswers}
 use Rattle.fildwuk.specs.Lists.{listBytes}
-use Rattle.fildwuk.proofs.HostListAnswers.{hostAsked, lists-refuse, length-refuses, cycles-refuse, lists-wide, can-list, lists-done}
+use Rattle.fildwuk.proofs.HostListAnswers.{hostLengths, few-cells, lists-refuse, length-refuses, cycles-refuse, lists-wide, can-list, lists-done}
 use Rattle.fildwuk.proofs.coordinate_lists.lists_through.Statement.{statement}
 use Rattle.fildwuk.proofs.coordinate_lists.lists_through.Tie as tie
 
-abbrev asked : tie.Start → Asked
-asked s = let a = s .args in hostAsked (now (a .sheet)) (a .dimension) (now (a .coordinates)) (length (now (a .work)))
+abbrev questionOf : tie.Start → Question
+questionOf s = asked (now (s .args .sheet)) (s .args .dimension)
+
+abbrev given : tie.Start → Lengths
+given s = hostLengths (questionOf s) (now (s .args .coordinates)) (length (now (s .args .work)))
 
 -- ---- the checks 1 to 9
 
 -- the host's sheet has the host's limit
 admits : (c : tie.After-admit) → let a = c .before .before .before .before .before .args in
-    Admits hostLimit (now (a .sheet)) (a .dimension) (Coordinates (a .number)) (slotsIn (now (a .coordinates))) (length (now (a .work))) (c .admit .result)
+    Admits hostLimit (asked (now (a .sheet)) (a .dimension)) (Coordinates (a .number)) (slotsIn (now (a .coordinates))) (length (now (a .work))) (c .admit .result)
 admits c = rw (c .before .host .ensures) at (c .admit .ensures)
 
 returns : tie.Need-returns
@@ -47,8 +50,8 @@ returns c =
     let a = start .args in
     let x = c .before .before .refusal .given in
     rw (c .number .ensures)
-    (lists-refuse (now (a .sheet)) (a .dimension) (a .number) (now (a .chains)) (now (a .coordinates)) (start .pre) (x .0 .0)
-    (admit-refused (asked start) (Coordinates (a .number)) (called .admit .result) (admits called) (x .1)))
+    (lists-refuse (questionOf start) (a .number) (now (a .chains)) (now (a .coordinates)) (start .pre) (x .0 .0)
+    (admit-refused (given start) (Coordinates (a .number)) (called .admit .result) (admits called) (x .1)))
 
 module _ (c : tie.After-known-told2) where
   abbrev called : tie.After-admit
@@ -57,11 +60,8 @@ module _ (c : tie.After-known-told2) where
   abbrev entered : tie.Start
   entered = called .before .before .before .before .before
 
-  abbrev sheet : List ℕ
-  sheet = now (entered .args .sheet)
-
-  abbrev dimension : ℕ
-  dimension = entered .args .dimension
+  abbrev q : Question
+  q = questionOf entered
 
   abbrev number : ℕ
   number = entered .args .number
@@ -77,11 +77,11 @@ module _ (c : tie.After-known-told2) where
 
   -- n_p
   abbrev cells : ℕ
-  cells = count (sectionsOf sheet) dimension
+  cells = cellsOf q
 
-  granted : Granted (asked entered) (Coordinates number) sizes
+  granted : Granted (given entered) (Coordinates number) sizes
   granted =
-      admit-granted (asked entered) (Coordinates number) (called .admit .result) (admits called) (omega arith)
+      admit-granted (given entered) (Coordinates number) (called .admit .result) (admits called) (omega arith)
       (record { small = λ i. called .before .before .before .before .shared-slice-known .given i .fits }) (c .before .sizes .given .1)
 
   cells-are : sizes .cells ≡ cells
@@ -99,7 +99,7 @@ returns-2 : tie.Need-returns-2
 returns-2 c =
     let k = c .before .before in
     rw (c .number2 .ensures)
-    (length-refuses (sheet k) (dimension k) (number k) (bytes k) (output k) (entered k .pre) (granted k)
+    (length-refuses (q k) (number k) (bytes k) (output k) (entered k .pre) (granted k)
     (λ e. c .before .if1 .taken (e ∙ ap (λ (n : ℕ). 4 * (number k * n)) (sym (cells-are k)))))
 
 module _ (c : tie.After-nonempty) where
@@ -119,19 +119,20 @@ module _ (c : tie.After-nonempty) where
   size : length (bytes known) ≡ 4 * (lists * cells known)
   size = c .before .if1 .left ∙ ap (λ (n : ℕ). 4 * (number known * n)) (cells-are known) ∙ ap (λ (n : ℕ). 4 * n) (sym same-slots)
 
-  regranted : Granted (asked (entered known)) (Coordinates lists) (sizes known)
-  regranted = regrant (asked (entered known)) same-slots (granted known)
+  regranted : Granted (given (entered known)) (Coordinates lists) (sizes known)
+  regranted = regrant (given (entered known)) same-slots (granted known)
 
   -- the call on them is the call on all
-  on-lists : {r : ℕ} {left : List ℕ} → HostAnswers (hostCoordinateLists (sheet known) (dimension known) lists (bytes known) (output known)) r left
-      → HostAnswers (hostCoordinateLists (sheet known) (dimension known) (number known) (bytes known) (output known)) r left
+  on-lists : {r : ℕ} {left : List ℕ} → HostAnswers (hostCall (q known) (listsIn (q known) lists (bytes known)) (output known)) r left
+      → HostAnswers (hostCall (q known) (listsIn (q known) (number known) (bytes known)) (output known)) r left
+  unfolding question.cells
   on-lists {r} {left} h = subst (λ (x : HostCalled). HostAnswers x r left) (sym same) h
     where
-      same : hostCoordinateLists (sheet known) (dimension known) (number known) (bytes known) (output known)
-          ≡ hostCoordinateLists (sheet known) (dimension known) lists (bytes known) (output known)
-      same =
-          nonempty-host-lists (sheet known) (dimension known) (number known) (bytes known) (output known)
-          ∙ ap (λ (n : ℕ). hostCoordinateLists (sheet known) (dimension known) n (bytes known) (output known)) (sym lists-are)
+      on : ℕ → HostCalled
+      on n = hostCall (q known) (listsIn (q known) n (bytes known)) (output known)
+
+      same : on (number known) ≡ on lists
+      same = nonempty-host-lists (q known) (number known) (bytes known) (output known) ∙ ap on (sym lists-are)
 
 check-bytes-requires : tie.Need-check-bytes-requires
 check-bytes-requires c κs =
@@ -140,7 +141,7 @@ check-bytes-requires c κs =
       (
         g .passed .dimension,
         cells-are k,
-        omega (arith, cells-are k, counts-within (sheet k) (g .passed .accepted) (dimension k)),
+        omega (arith, cells-are k, few-cells (q k) (g .passed)),
         size c ∙ ap (λ (n : ℕ). 4 * (lists c * n)) (sym (cells-are k)),
       ),
     )
@@ -148,11 +149,11 @@ check-bytes-requires c κs =
 module _ (c : tie.After-check-bytes) where
   -- the number that is told of the chains
   told : let m = c .before in
-      first (cyclesChecks coefficientLimit (sheet (known m)) (dimension (known m)) (lists m) (chainFrom (lists m * cells (known m)) (bytes (known m))))
+      first (cyclesChecks coefficientLimit (sectionsOf (q (known m) .sheet)) (q (known m) .dimension) (lists m) (chainFrom (lists m * cells (known m)) (bytes (known m))))
       ≡ checkNumber (c .check-bytes .result)
   told =
       let m = c .before in let k = known m in
-      ap (λ (n : ℕ). first (cyclesChecks coefficientLimit (sheet k) (dimension k) (lists m) (chainFrom (lists m * n) (bytes k)))) (sym (cells-are k))
+      ap (λ (n : ℕ). first (cyclesChecks coefficientLimit (sectionsOf (q k .sheet)) (q k .dimension) (lists m) (chainFrom (lists m * n) (bytes k)))) (sym (cells-are k))
       ∙ c .check-bytes .ensures
 
 returns-3 : tie.Need-returns-3
@@ -162,7 +163,7 @@ returns-3 c =
     let x = c .before .before .refusal2 .given in
     rw (c .number3 .ensures)
     (on-lists m
-    (cycles-refuse (sheet k) (dimension k) (lists m) (bytes k) (output k) (entered k .pre) (regranted m) (size m) (x .0 .0) (told checked ∙ ap checkNumber (x .1))))
+    (cycles-refuse (q k) (lists m) (bytes k) (output k) (entered k .pre) (regranted m) (size m) (x .0 .0) (told checked ∙ ap checkNumber (x .1))))
 
 -- ---- the reductions
 
@@ -171,7 +172,7 @@ module _ (c : tie.After-enum-told) where
   counted = c .before .before .before
 
   passed : let k = known counted in
-      first (cyclesChecks coefficientLimit (sheet k) (dimension k) (lists counted) (chainFrom (lists counted * cells k) (bytes k))) ≡ 0
+      first (cyclesChecks coefficientLimit (sectionsOf (q k .sheet)) (q k .dimension) (lists counted) (chainFrom (lists counted * cells k) (bytes k))) ≡ 0
   passed = told (c .before .before) ∙ ap checkNumber (c .enum-told .given .1)
 
 reduce-twice-requires : tie.Need-reduce-twice-requires
@@ -185,8 +186,8 @@ returns-4 c =
     let m = counted t in let k = known m in
     rw (c .number4 .ensures)
     (on-lists m
-    (lists-wide (sheet k) (dimension k) (lists m) (bytes k) (output k) (entered k .pre) (regranted m) (size m) (passed t)
-    (twice-refused (asked (entered k)) (reduce .reduce-twice .result) (c .before .enum-told2 .given .1) (reduce .reduce-twice .ensures) .0)))
+    (lists-wide (q k) (lists m) (bytes k) (output k) (entered k .pre) (regranted m) (size m) (passed t)
+    (twice-refused (given (entered k)) (reduce .reduce-twice .result) (c .before .enum-told2 .given .1) (reduce .reduce-twice .ensures) .0)))
 
 -- ---- the coordinates
 
@@ -197,16 +198,16 @@ module _ (c : tie.After-known-told4) where
   abbrev checked : tie.After-enum-told
   checked = reduces .before .before
 
-  reduced : Reduces (asked (entered (known (counted checked)))) (c .before .reduced .given .0 .0) (reduces .reduce-twice .last .1 .1 .1 .0)
+  reduced : Reduces (given (entered (known (counted checked)))) (c .before .reduced .given .0 .0) (reduces .reduce-twice .last .1 .1 .1 .0)
   reduced =
-      twice-done (asked (entered (known (counted checked)))) (reduces .reduce-twice .result) (c .before .reduced .given .1) (reduces .reduce-twice .ensures)
+      twice-done (given (entered (known (counted checked)))) (reduces .reduce-twice .result) (c .before .reduced .given .1) (reduces .reduce-twice .ensures)
 
 write-bytes-requires : tie.Need-write-bytes-requires
 write-bytes-requires c κs =
     let d = c .before .before in
     let t = checked d in
     let m = counted t in let k = known m in
-    rw (cells-are k) (can-list (sheet k) (dimension k) (lists m) (bytes k) (output k) (entered k .pre) (regranted m) (size m) (passed t) (reduced d))
+    rw (cells-are k) (can-list (q k) (lists m) (bytes k) (output k) (entered k .pre) (regranted m) (size m) (passed t) (reduced d))
 
 returns-5 : tie.Need-returns-5
 returns-5 c =
@@ -215,7 +216,7 @@ returns-5 c =
     let t = checked d in
     let m = counted t in let k = known m in
     on-lists m
-    (lists-done (sheet k) (dimension k) (lists m) (bytes k) (output k) (entered k .pre) (regranted m) (size m) (passed t) (reduced d)
+    (lists-done (q k) (lists m) (bytes k) (output k) (entered k .pre) (regranted m) (size m) (passed t) (reduced d)
     (wrote .write-bytes .ensures
     ∙ ap (λ (n : ℕ). splices (8 * n) (listBytes (d .before .reduced .given .0 .0) (reduces d .reduce-twice .last .1 .1 .1 .0) n (lists m) (bytes k)) (lists m) (output k))
     (cells-are k)))

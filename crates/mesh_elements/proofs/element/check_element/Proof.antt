@@ -49,7 +49,7 @@ returns-3 : tie.Need-returns-3
 returns-3 c =
     let k = c .before .before in let map = now (start k .args .map) in let x = start k .args .element in let s = known k .kind2 .given .0 .0 in
     refused-unlisted map x s (is-simplex k) (same-number k)
-    (subst (AllListed map (x .word) (s .vertices)) (not-true (c .before .all-listed .result) (c .if2 .taken)) (c .before .all-listed .ensures))
+    (subst (AllListed map (x .packed) (s .vertices)) (not-true (c .before .all-listed .result) (c .if2 .taken)) (c .before .all-listed .ensures))
 
 sort-vertices-requires : tie.Need-sort-vertices-requires
 sort-vertices-requires c κs =
@@ -61,7 +61,7 @@ returns-4 c =
     let sorted = c .before .before in let looked = sorted .before in let k = looked .before .before in
     let map = now (start k .args .map) in let x = start k .args .element in let s = known k .kind2 .given .0 .0 in
     right map x s (is-simplex k) (same-number k) (sorted .sort-vertices .result .word) (sorted .sort-vertices .result .many) (sorted .sort-vertices .ensures)
-    (subst (AllListed map (x .word) (s .vertices)) (not-false (looked .before .all-listed .result) (looked .if2 .left)) (looked .before .all-listed .ensures))
+    (subst (AllListed map (x .packed) (s .vertices)) (not-false (looked .before .all-listed .result) (looked .if2 .left)) (looked .before .all-listed .ensures))
     (c .if3 .taken)
 
 returns-5 : tie.Need-returns-5

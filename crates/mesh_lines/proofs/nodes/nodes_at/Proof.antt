@@ -1,5 +1,5 @@
 -- `nodes_at` meets its contract. The loop's invariant: some node numbers are read, and the others stand from `at` on; `many` is their number and
--- `word` the word of the first of them. The measure is what is left of the text.
+-- `packed` the first of them packed. The measure is what is left of the text.
 use borrow.Author.Needs.{needs}
 use mathlib.Core.Path.{refl, sym, ap, ap₂, _∙_}
 use mathlib.Core.Logic.{⊎-elim}
@@ -12,7 +12,7 @@ use Rattle.mesh_lines.specs.Tells.{tellElement}
 use Rattle.mesh_lines.specs.Nodes.{elementNodes}
 use Rattle.mesh_lines.specs.declared.answer.ElementLine.the-variants as element
 use Rattle.mesh_lines.proofs.NodeNumbers.{Turn, node-small, node-ends, inside}
-use Rattle.mesh_lines.proofs.NodeNumbers.{Nodes, no-nodes, no-end, all-read, no-node, word-small, in-word, past-word}
+use Rattle.mesh_lines.proofs.NodeNumbers.{Nodes, no-nodes, no-end, all-read, no-node, packed-small, packed-in, packed-past}
 use Rattle.mesh_words.proofs.Steps.{fails, goes}
 use Rattle.mesh_words.proofs.Told.{skipped-malformed, skipped-to, number-malformed, number-read}
 use Rattle.mesh_lines.proofs.Told.{element-fails}
@@ -20,10 +20,10 @@ use Rattle.mesh_lines.proofs.nodes.nodes_at.Statement.{statement}
 use Rattle.mesh_lines.proofs.nodes.nodes_at.Tie as tie
 
 abbrev Inv-loop : tie.InvT-loop
-Inv-loop text kind at₀ many₀ word₀ at many word = Nodes text at₀ at many word
+Inv-loop text kind at₀ many₀ packed₀ at many packed = Nodes text at₀ at many packed
 
 abbrev μ-loop : tie.MeasureT-loop
-μ-loop text kind at₀ many₀ word₀ at many word = length text - at
+μ-loop text kind at₀ many₀ packed₀ at many packed = length text - at
 
 loop-holds : tie.Need-loop-holds Inv-loop μ-loop
 loop-holds c = no-nodes _ _
@@ -50,11 +50,11 @@ module _ (c : tie.After-known-told Inv-loop μ-loop) where
         read = number-read (r .node-number-after .ensures) (c .before .v .given .1);
       }
 
-mul-word : tie.Need-mul-word Inv-loop μ-loop
-mul-word c = omega (arith, word-small (loop (c .before) .loop .inv) (c .if2 .taken))
+mul-packed : tie.Need-mul-packed Inv-loop μ-loop
+mul-packed c = omega (arith, packed-small (loop (c .before) .loop .inv) (c .if2 .taken))
 
-add-word : tie.Need-add-word Inv-loop μ-loop
-add-word c = omega (arith, word-small (loop (c .before) .loop .inv) (c .if2 .taken), node-small (turn (c .before)))
+add-packed : tie.Need-add-packed Inv-loop μ-loop
+add-packed c = omega (arith, packed-small (loop (c .before) .loop .inv) (c .if2 .taken), node-small (turn (c .before)))
 
 add-many : tie.Need-add-many Inv-loop μ-loop
 add-many c = omega (arith, loop (c .before) .loop .inv .passed, inside (turn (c .before)))
@@ -65,7 +65,7 @@ loop-less c = omega (arith, inside (turn (c .before)), node-ends (turn (c .befor
 loop-again : tie.Need-loop-again Inv-loop μ-loop
 loop-again c =
     let inv = loop (c .before) .loop .inv in let t = turn (c .before) in
-    ⊎-elim (λ w. in-word inv t (w .0 .taken) (w .1)) (λ w. past-word inv t (w .0 .left) (w .1)) (c .if2 .came)
+    ⊎-elim (λ w. packed-in inv t (w .0 .taken) (w .1)) (λ w. packed-past inv t (w .0 .left) (w .1)) (c .if2 .came)
 
 returns-2 : tie.Need-returns-2 Inv-loop μ-loop
 unfolding elementNodes
@@ -79,12 +79,12 @@ unfolding elementNodes tellElement
 returns-3 c =
     let r = c .before .before .before in let t = r .before in let h = t .before .before .loop .inv in
     let kind = t .before .before .before .before .args .kind in let next = c .before .next .given .0 .0 in
-    ap₂ (λ (many word : ℕ). element.Read (record { kind = kind; many = many; word = word }) next) (h .count) (h .packs)
+    ap₂ (λ (many packed : ℕ). element.Read (record { kind = kind; many = many; packed = packed }) next) (h .count) (h .packs)
     ∙ sym (ap tellElement (goes _ (all-read h (sym (t .before .stands .ensures) ∙ t .if1 .left)
     (skipped-to (r .end-at .ensures) (c .before .next .given .1))) refl))
 
 pub nodes-at-spec : {M : Type 1} → statement M
 nodes-at-spec =
     tie.close
-    (tie.spec Inv-loop μ-loop loop-holds (λ c κs. search needs) (λ c κs. search needs) (λ c. search needs) (λ c. search needs) returns mul-word
-    add-word add-many loop-less loop-again (λ c κs. search needs) (λ c. search needs) (λ c. search needs) returns-2 returns-3)
+    (tie.spec Inv-loop μ-loop loop-holds (λ c κs. search needs) (λ c κs. search needs) (λ c. search needs) (λ c. search needs) returns mul-packed
+    add-packed add-many loop-less loop-again (λ c κs. search needs) (λ c. search needs) (λ c. search needs) returns-2 returns-3)

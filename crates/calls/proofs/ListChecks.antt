@@ -1,0 +1,75 @@
+-- The early checks of a call on many chains, for the library's calls and the host's: admission-told, where 1 to 9 tell one; length-told, 10;
+-- cycles-next, where 11 and 12 decide; small-coefficients, of chains that are not at fault.
+use mathlib.Core.Path.{_≡_, refl, _∙_}
+use mathlib.Core.Logic.{_≢_}
+use mathlib.Core.Bool.{Bool}
+use mathlib.Core.List.{List, _++_}
+use Prim.Native.Nat.{ℕ, _*_, _≤_, _<_}
+use native.Mathlib.Omega.{arith}
+use borrow.Author.Tests.{ne-eqb}
+use lib.IntN.{ℤ, pos, natAbs}
+use lib.ListN.{length, getD}
+use Rattle.limits.specs.Limits.{coefficientLimit}
+use Rattle.trials.specs.Trial.{first}
+use Rattle.complexes.specs.Complex.{Sections}
+use Rattle.sheet_format.specs.Check.{sectionsOf}
+use Rattle.requests.specs.Question.{cells}
+use Rattle.requests.specs.Chains.{chainAt, cyclesChecks, chainsChecks}
+use Rattle.requests.specs.ChainsLaws.{cycles-zero, chains-sized, fault-small}
+use Rattle.requests.specs.Call.{lists, callChecks, earlyChecks}
+use Rattle.requests.specs.CheckLaws.{callChecks-zero, call-told, call-passed}
+use Rattle.refusal.specs.Number.{numberOf}
+use Rattle.refusal.specs.NumberLaws.{number-positive}
+use Rattle.refusal.specs.declared.Refusal.{Refusal}
+use Rattle.calls.specs.Admission.{admission}
+use Rattle.calls.specs.declared.admission.Sizes.{Sizes}
+use Rattle.calls.specs.declared.admission.Request.the-variants.{Coordinates}
+use Rattle.calls.proofs.Admitting.{Lengths, cellsOf, slotsAsked, spaceAsked, Granted}
+
+module _ (l : Lengths) (number : ℕ) (chains : List ℤ) where
+  abbrev K : Sections
+  K = sectionsOf (l .question .sheet)
+
+  abbrev p : ℕ
+  p = l .question .dimension
+
+  -- the first of the early checks
+  abbrev pub listsEarly : ℕ
+  listsEarly = first (earlyChecks (l .limit) (l .question) (lists number chains) (l .slots) (l .work))
+
+  -- the slots that check 9 asks for
+  abbrev slots : ℕ
+  slots = slotsAsked l (Coordinates number)
+
+  abbrev space : ℕ
+  space = spaceAsked l (Coordinates number)
+
+  -- 10 to 12
+  abbrev chainChecked : List (ℕ × Bool)
+  chainChecked = chainsChecks coefficientLimit K p number chains
+
+  early-is : listsEarly ≡ first (callChecks (l .limit) (l .question) slots space (l .slots) (l .work) ++ chainChecked)
+  unfolding earlyChecks cells
+  early-is = refl
+
+  pub admission-told : (x : Refusal) → admission (l .limit) (l .question) (Coordinates number) (l .slots) (l .work) ≡ numberOf x → listsEarly ≡ numberOf x
+  admission-told x e =
+      early-is ∙ call-told (l .limit) (l .question) slots space (l .slots) (l .work) chainChecked (λ q. absurd (omega (arith, number-positive x))) ∙ e
+
+  module _ {n : Sizes} (g : Granted l (Coordinates number) n) where
+    chains-next : listsEarly ≡ first chainChecked
+    chains-next =
+        early-is
+        ∙ call-passed (l .limit) (l .question) slots space (l .slots) (l .work) chainChecked
+        (callChecks-zero (l .limit) (l .question) slots space (l .slots) (l .work) .1 (g .passed))
+
+    pub length-told : length chains ≢ number * cellsOf (l .question) → listsEarly ≡ 10
+    unfolding chainsChecks
+    length-told d = chains-next ∙ rw (ne-eqb (length chains) (number * cellsOf (l .question)) d)
+
+    pub cycles-next : length chains ≡ number * cellsOf (l .question) → listsEarly ≡ first (cyclesChecks coefficientLimit K p number chains)
+    cycles-next size = chains-next ∙ chains-sized coefficientLimit K p chains number size
+
+  pub small-coefficients : first (cyclesChecks coefficientLimit K p number chains) ≡ 0 → (i : ℕ) → i < number → (j : ℕ)
+      → natAbs (getD (chainAt (cellsOf (l .question)) chains i) j (pos 0)) ≤ coefficientLimit
+  small-coefficients passed i m = fault-small coefficientLimit K p chains i (cycles-zero coefficientLimit K p chains number .0 passed i m)

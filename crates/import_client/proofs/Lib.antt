@@ -1,0 +1,3 @@
+-- From what the imports promise to texts and slices written out.
+mod Whole
+mod Cases

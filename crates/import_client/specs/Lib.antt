@@ -1,0 +1,2 @@
+-- What the imports answer and leave on texts and slices written out.
+pub mod Used

@@ -1,0 +1,19 @@
+// Clients of the import: each calls it and nothing else, and its contract says what the import's own contract gives on texts and slices written out.
+ghost use Rattle.import_client.specs.Used.{LibraryUsed, HostUsed};
+use fildwuk::fildwuk_import;
+use importer::answer::Imported;
+use importer::import::import;
+
+// The library's import.
+pub fn import_library(text: &[u8], sheet: &mut [u8]) -> Imported
+    ensures { λ r. ⌜ LibraryUsed (now (text .entry)) (now (sheet .entry)) r (now (sheet .exit)) ⌝ }
+{
+    import(text, sheet)
+}
+
+// The host's import.
+pub fn import_host(text: &[u8], sheet: &mut [u8]) -> u32
+    ensures { λ r. ⌜ HostUsed (now (text .entry)) (now (sheet .entry)) r (now (sheet .exit)) ⌝ }
+{
+    fildwuk_import(text, sheet)
+}
