@@ -8,6 +8,7 @@ use Rattle.sheet_format.specs.Layout.{start}
 use Rattle.sheet_format.specs.Check.{countField, cellOf, cellsOf, sectionsOf}
 use Rattle.sheet_format.specs.Starred.{hollowTriangle}
 use Rattle.reduction_steps.specs.State.{State}
+use Rattle.reports.specs.Reductions.{noTransforms}
 use Rattle.reports.specs.Report.{Counts}
 use Rattle.requests.specs.Question.{asked, cells, rule}
 use Rattle.answers.specs.Wide.{GoesWide}
@@ -53,10 +54,10 @@ module _ (headroomNone : HeadroomNone) (d : Counts) where
 
 module _ (leastLimit : LeastLimit) where
   -- too wide at the entry limit 1 and not at 2
-  wide-at-1 : GoesWide 1 (rule loops) (cells loops) 1
+  wide-at-1 : GoesWide noTransforms 1 (rule loops) (cells loops) 1
   wide-at-1 = leastLimit loops plane-bytes counts plane-answered 1 (omega arith) .too-wide .1 (omega arith)
 
-  narrow-at-2 : GoesWide 2 (rule loops) (cells loops) 1 → ⊥
+  narrow-at-2 : GoesWide noTransforms 2 (rule loops) (cells loops) 1 → ⊥
   narrow-at-2 wide = omega (arith, leastLimit loops plane-bytes counts plane-answered 2 (omega arith) .too-wide .0 wide)
 
   -- at 2 the reductions come to the same end
