@@ -126,7 +126,7 @@ module _ (l : Lent reportRoom) {r : library.Answer} {after work′ : List ℤ} (
       long : (s r : ℕ) (y : State) → two (l .question) ≡ reduced s r y → length (reportList (cellCount (l .question)) s r y) ≡ numbers-of
       long s r y d =
           let k = report-sizes .is-sized .reductions-behind in
-          let same : reduced s r y ≡ reduced (k .rows) (k .rank) (k .state) = sym d ∙ k .reductions in
+          let same : reduced s r y ≡ reduced (k .rows) (k .rank) (k .state) = sym d ∙ k .reductions-are in
           rw cells-are (ap (lengthIn (l .question)) same ∙ report-sizes .is-sized .report-size)
 
       pub report-writes : {output′ : List ℕ} → length after ≡ length (slots l)

@@ -1,12 +1,14 @@
 // The library's calls, at its count limit of 256, for the tests and the benchmark in C. They answer 0 for done or the number of the refusal.
 ghost use mathlib.Core.Path.{_≡_};
-ghost use Rattle.reports.specs.Call.{reportCall, coordinateCall};
-ghost use Rattle.reports.specs.Lists.{coordinateListsCall};
+ghost use Rattle.trials.specs.Trial.{numberTold};
+ghost use Rattle.requests.specs.Question.{asked};
+ghost use Rattle.requests.specs.Call as requests;
+ghost use Rattle.requests.specs.Call.{call};
 ghost use Rattle.limits.specs.Limits.{libraryLimit};
 ghost use Rattle.calls.specs.Answer.{answered};
 ghost use Rattle.imports.specs.Import.{importCall};
 ghost use Rattle.importer.specs.ImportAnswers.{ImportTold};
-ghost use Rattle.library_host.specs.Answer.{numberTold, LibraryAnswers, HeadroomAnswers};
+ghost use Rattle.library_host.specs.Answer.{LibraryAnswers, HeadroomAnswers};
 use calls::answer::Answer;
 
 fn number_told(answer: Answer) -> u32
@@ -30,7 +32,7 @@ pub extern "C" fn library_report(
         let left = now (report .exit) in
         let work-left = now (work .exit) in ⌜
         LibraryAnswers
-        (reportCall libraryLimit (now (sheet .entry)) dimension (now (report .entry)) (now (work .entry))) r left work-left
+        (call libraryLimit (asked (now (sheet .entry)) dimension) requests.report (now (report .entry)) (now (work .entry))) r left work-left
         ⌝ }
 {
     number_told(calls::report::report(sheet, dimension, report, work))
@@ -52,7 +54,7 @@ pub extern "C" fn library_headroom(
         let peak-left = now (peak .exit) in
         let bits-left = now (bits .exit) in ⌜
         HeadroomAnswers
-        (reportCall libraryLimit (now (sheet .entry)) dimension (now (report .entry)) (now (work .entry))) r left work-left
+        (call libraryLimit (asked (now (sheet .entry)) dimension) requests.report (now (report .entry)) (now (work .entry))) r left work-left
         (now (peak .entry)) peak-left (now (bits .entry)) bits-left
         ⌝ }
 {
@@ -79,7 +81,7 @@ pub extern "C" fn library_coordinates(
         let left = now (coordinates .exit) in
         let work-left = now (work .exit) in ⌜
         LibraryAnswers
-        (coordinateCall libraryLimit (now (sheet .entry)) dimension (now (chain .entry)) (now (coordinates .entry)) (now (work .entry)))
+        (call libraryLimit (asked (now (sheet .entry)) dimension) (requests.coordinates (now (chain .entry))) (now (coordinates .entry)) (now (work .entry)))
         r left work-left
         ⌝ }
 {
@@ -100,7 +102,7 @@ pub extern "C" fn library_coordinate_lists(
         let left = now (coordinates .exit) in
         let work-left = now (work .exit) in ⌜
         LibraryAnswers
-        (coordinateListsCall libraryLimit (now (sheet .entry)) dimension number (now (chains .entry)) (now (coordinates .entry)) (now (work .entry)))
+        (call libraryLimit (asked (now (sheet .entry)) dimension) (requests.lists number (now (chains .entry))) (now (coordinates .entry)) (now (work .entry)))
         r left work-left
         ⌝ }
 {

@@ -5,12 +5,10 @@ ghost use mathlib.Core.Path.{_≡_};
 ghost use mathlib.Core.List.{List};
 ghost use Prim.Native.Nat.{ℕ, suc, _+_, _≤_};
 ghost use lib.ListN.{length, take};
-ghost use Rattle.complexes.specs.Complex.{count};
 ghost use Rattle.sheet_format.specs.Layout.{top};
-ghost use Rattle.sheet_format.specs.Check.{refusal, sectionsOf};
-ghost use Rattle.reduction_steps.specs.Pivot.{pivotRule};
+ghost use Rattle.sheet_format.specs.Check.{refusal};
+ghost use Rattle.requests.specs.Question.{asked, cellCount, two};
 ghost use Rattle.program_text.specs.Text.{dimensionText, dimensionsText, programText};
-ghost use Rattle.reports.specs.Reductions.{reductionsOf};
 ghost use Rattle.limits.specs.Limits.{hostLimit};
 ghost use Rattle.host_calls.specs.HostCallLaws.{reportRoom, workRoom};
 ghost use Rattle.text.specs.Put.{PutsWithin};
@@ -39,10 +37,9 @@ fn put_dimension(
 ) -> usize
     requires { ⌜ (refusal hostLimit (now s) ≡ 0) × (p ≤ top) × (at + dimensionRoom ≤ length (now out)) ⌝ }
     requires { ⌜ (length (now report) ≡ reportRoom) × (length (now work) ≡ workRoom) ⌝ }
-    ensures { λ r. ⌜
-        PutsWithin dimensionRoom
-        (dimensionText p (count (sectionsOf (now (s .entry))) p) (reductionsOf pivotRule (sectionsOf (now (s .entry))) p)) at
-        (now (out .entry)) r (now (out .exit))
+    ensures { λ r.
+        let q = asked (now (s .entry)) p in ⌜
+        PutsWithin dimensionRoom (dimensionText p (cellCount q) (two q)) at (now (out .entry)) r (now (out .exit))
         ⌝ }
 {
     match report_at(Sheet::host(), s, p as u32, report, work) {

@@ -1,11 +1,11 @@
 -- `library_coordinates` meets its contract: it answers the number of what the library's call answers. Assumes nothing.
 use borrow.Author.Needs.{needs}
-use Rattle.library_host.proofs.Told.{told}
+use Rattle.library_host.proofs.Told.{called-told}
 use Rattle.library_host.proofs.library_coordinates.Statement.{statement}
 use Rattle.library_host.proofs.library_coordinates.Tie as tie
 
 returns : tie.Need-returns
-returns c = told (c .before .before .before .coordinates .ensures) (c .number-told .ensures)
+returns c = called-told (c .before .before .before .coordinates .ensures) (c .number-told .ensures)
 
 pub library-coordinates-spec : {M : Type 1} → statement M
 library-coordinates-spec = tie.close (tie.spec (λ c κs. search needs) (λ c κs. search needs) (λ c. search needs) (λ c. search needs) returns)

@@ -7,7 +7,9 @@ use borrow.Author.Needs.{needs}
 use denote.Ref.{now}
 use lib.IntN.{ℤ}
 use Rattle.sheet_format.specs.Sheet.{Bytes}
-use Rattle.reports.specs.Call.{reportCall}
+use Rattle.requests.specs.Question.{asked}
+use Rattle.requests.specs.Call as requests
+use Rattle.requests.specs.Call.{call}
 use Rattle.limits.specs.Limits.{hostLimit}
 use Rattle.writers.specs.declared.reduced.Counts.{Counts}
 use Rattle.calls.specs.declared.answer.Answer.{Answer}
@@ -47,8 +49,8 @@ module _ (c : tie.After-report-at) where
   bytes : Bytes sheet
   bytes = record { small = λ i. c .before .before .before .before .before .shared-slice-known .given i .fits }
 
-  answers : (r : Answer) → c .report-at .result ≡ r → CallAnswers (reportCall limit sheet (start .args .p) report work) r after work′
-  answers r e = subst (λ (x : Answer). CallAnswers (reportCall limit sheet (start .args .p) report work) x after work′) e (c .report-at .ensures)
+  answers : (r : Answer) → c .report-at .result ≡ r → CallAnswers (call limit (asked sheet (start .args .p)) requests.report report work) r after work′
+  answers r e = subst (λ (x : Answer). CallAnswers (call limit (asked sheet (start .args .p)) requests.report report work) x after work′) e (c .report-at .ensures)
 
 -- ---- where it is done
 
@@ -59,7 +61,7 @@ module _ (c : tie.After-counts) where
   abbrev counts : Counts
   counts = c .counts .given .0 .0
 
-  done : CallAnswers (reportCall (limit called) (sheet called) (start called .args .p) (report called) (work called)) (Done counts) (after called) (work′ called)
+  done : CallAnswers (call (limit called) (asked (sheet called) (start called .args .p)) requests.report (report called) (work called)) (Done counts) (after called) (work′ called)
   done = answers called (Done counts) (c .counts .given .1)
 
 module _ (c : tie.After-count) where
