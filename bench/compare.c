@@ -54,7 +54,7 @@ static void show_answers(void) {
         uint32_t before = report_by(earlier_report, p);
         memcpy(earlier, report, sizeof report);
         memset(report, 0, sizeof report);
-        uint32_t answer = report_by(library_report, p);
+        uint32_t answer = report_by(fildwuk_library_report, p);
         if (answer != 0)
             printf("  dimension %d is refused with %u\n", p, (unsigned)answer);
         if (answer != before || memcmp(report, earlier, sizeof report) != 0)

@@ -3,13 +3,10 @@
 
 #include "library.h"
 
-extern uint32_t library_headroom(const uint8_t *sheet, size_t sheet_len, uint32_t dimension, int64_t *report, size_t report_len, int32_t *work,
-                                 size_t work_len, uint64_t *peak, uint32_t *bits);
-
 static void show(int p) {
     uint64_t peak = 0;
     uint32_t bits = 0;
-    uint32_t answer = library_headroom(sheet, length, (uint32_t)p, report, REPORT, work, work_slots(p), &peak, &bits);
+    uint32_t answer = fildwuk_library_headroom(sheet, length, (uint32_t)p, report, REPORT, work, work_slots(p), &peak, &bits);
     if (answer != 0)
         printf("     R %2" PRIu32 "    ", answer);
     else

@@ -3,28 +3,29 @@
 #ifndef LIBRARY_H
 #define LIBRARY_H
 
+#include "fildwuk_library.h"
 #include "sheet.h"
 
 typedef uint32_t report_call(const uint8_t *sheet, size_t sheet_len, uint32_t dimension, int64_t *report, size_t report_len, int32_t *work,
                              size_t work_len);
 typedef uint32_t coordinate_call(const uint8_t *sheet, size_t sheet_len, uint32_t dimension, const int32_t *chain, size_t chain_len,
                                  int64_t *coordinates, size_t coordinates_len, int32_t *work, size_t work_len);
-typedef uint32_t coordinate_lists_call(const uint8_t *sheet, size_t sheet_len, uint32_t dimension, size_t number, const int32_t *chains,
-                                       size_t chains_len, int64_t *coordinates, size_t coordinates_len, int32_t *work, size_t work_len);
 
-extern report_call library_report, earlier_report;
-extern coordinate_call library_coordinates, earlier_coordinates;
-extern coordinate_lists_call library_coordinate_lists;
+extern report_call earlier_report;
+extern coordinate_call earlier_coordinates;
 
-enum { CELLS = 256, REPORT = 2 + CELLS + CELLS * CELLS, WORK = 3 * CELLS * CELLS };
+enum {
+    CELLS = FILDWUK_LIBRARY_CELLS,
+    REPORT = FILDWUK_LIBRARY_REPORT_SLOTS(FILDWUK_LIBRARY_CELLS),
+    WORK = FILDWUK_LIBRARY_WORK_SLOTS_MOST
+};
 
 static int64_t report[REPORT];
 static int32_t work[WORK];
 
 /* The slots of the work slice that check 9 wants. */
 static size_t work_slots(int p) {
-    size_t n = count(p), rows = count(p - 1), columns = count(p + 1);
-    return n * (2 * n + (rows > columns ? rows : columns));
+    return FILDWUK_LIBRARY_WORK_SLOTS(count(p), count(p - 1), count(p + 1));
 }
 
 static uint32_t report_by(report_call *call, int p) { return call(sheet, length, (uint32_t)p, report, REPORT, work, work_slots(p)); }
@@ -35,6 +36,6 @@ static void reports_by(report_call *call) {
         report_by(call, p);
 }
 
-static inline void reports(void) { reports_by(library_report); }
+static inline void reports(void) { reports_by(fildwuk_library_report); }
 
 #endif

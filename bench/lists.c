@@ -3,7 +3,7 @@
  * The aims are 40 loops for less than 3 single calls at about 250 cells, and for less than 6 below. Ends with an error where a list is not that of
  * the single call, or an aim is missed on a sheet with cells of dimension 2. On a graph, which has none, the second reduction has no columns, and
  * the products of 40 loops may take longer than a single call: a missed aim is told, and is no error. Usage: lists FILE.sheet .. */
-#include "fildwuk.h"
+#include "fildwuk_library.h"
 #include "library.h"
 #include "timing.h"
 
@@ -35,12 +35,12 @@ static size_t edges(void) { return count(1); }
 
 static uint32_t library_single(size_t i) {
     size_t n = edges();
-    return library_coordinates(sheet, length, 1, loops + i * n, n, lists + i * n, n, work, work_slots(1));
+    return fildwuk_library_coordinates(sheet, length, 1, loops + i * n, n, lists + i * n, n, work, work_slots(1));
 }
 
 static uint32_t library_many(size_t many) {
     size_t slots = many * edges();
-    return library_coordinate_lists(sheet, length, 1, many, loops, slots, lists, slots, work, work_slots(1));
+    return fildwuk_library_coordinate_lists(sheet, length, 1, many, loops, slots, lists, slots, work, work_slots(1));
 }
 
 /* The host calls take bytes, low byte first, as the numbers stand in memory here. */
@@ -188,7 +188,7 @@ static void show_all(const calls *those, char **files) {
         if (cells() > by->limit)
             continue;
         memset(report, 0, 2 * sizeof *report);
-        uint32_t answer = report_by(library_report, 1);
+        uint32_t answer = report_by(fildwuk_library_report, 1);
         make_loops();
         hold_lists(name_of(*files), answer);
         if (answer == 0)

@@ -23,7 +23,7 @@ static uint32_t coordinates_by(coordinate_call *call, int p) {
 
 static void all_coordinates(void) {
     for (int p = 0; p < 4; p++)
-        coordinates_by(library_coordinates, p);
+        coordinates_by(fildwuk_library_coordinates, p);
 }
 
 static void earlier_all_coordinates(void) {
@@ -31,13 +31,14 @@ static void earlier_all_coordinates(void) {
         coordinates_by(earlier_coordinates, p);
 }
 
-static void checks(void) { library_report(sheet, length, 4, report, REPORT, work, WORK); }
+static void checks(void) { fildwuk_library_report(sheet, length, 4, report, REPORT, work, WORK); }
 
 /* Ends the program where a call is not answered as the columns say. */
 static void hold_answers(const char *name) {
-    int held = library_report(sheet, length, 4, report, REPORT, work, WORK) == 8;
+    int held = fildwuk_library_report(sheet, length, 4, report, REPORT, work, WORK) == 8;
     for (int p = 0; p < 4; p++)
-        held = held && report_by(library_report, p) == 0 && coordinates_by(library_coordinates, p) == 0 && coordinates_by(earlier_coordinates, p) == 0;
+        held = held && report_by(fildwuk_library_report, p) == 0 && coordinates_by(fildwuk_library_coordinates, p) == 0 &&
+               coordinates_by(earlier_coordinates, p) == 0;
     if (!held) {
         fprintf(stderr, "%s: a call is refused\n", name);
         exit(1);

@@ -1,5 +1,5 @@
 #!/usr/bin/env python3
-"""Writes the triangles of a list of facets as a MSH 2.2 file, for Gmsh. The nodes' places carry no meaning."""
+"""Writes a closed surface of a few triangles as a MSH 2.2 file, for Gmsh. The nodes' places carry no meaning."""
 
 import argparse
 import sys
@@ -19,11 +19,16 @@ def text(triangles):
     return "".join(f"{part}\n" for part in parts)
 
 
+SURFACES = {"projective_plane": meshes.projective_plane, "klein_bottle": meshes.klein_bottle}
+
+
 def main():
-    """Writes the six-vertex projective plane to FILE."""
+    """Writes the six-vertex projective plane to FILE, or another surface."""
     parser = argparse.ArgumentParser(description=__doc__)
     parser.add_argument("file", metavar="FILE", type=Path)
-    parser.parse_args().file.write_text(text(meshes.projective_plane()), encoding="ascii")
+    parser.add_argument("surface", metavar="SURFACE", nargs="?", choices=SURFACES, default="projective_plane", help=", ".join(SURFACES))
+    options = parser.parse_args()
+    options.file.write_text(text(SURFACES[options.surface]()), encoding="ascii")
 
 
 if __name__ == "__main__":

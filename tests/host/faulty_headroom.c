@@ -5,11 +5,13 @@
 #include <stdlib.h>
 #include <string.h>
 
+#include "fildwuk_library.h"
+
 static volatile uint8_t seen;
 
 static int is(const char *fault) { return strcmp(getenv("FAULT"), fault) == 0; }
 
-uint32_t library_report(const uint8_t *sheet, size_t sheet_len, uint32_t dimension, int64_t *report, size_t report_len, int32_t *work,
+uint32_t fildwuk_library_report(const uint8_t *sheet, size_t sheet_len, uint32_t dimension, int64_t *report, size_t report_len, int32_t *work,
                         size_t work_len) {
     (void)sheet_len, (void)dimension, (void)report_len;
     if (sheet[15] == 0) {
@@ -65,10 +67,10 @@ static uint32_t refused(uint32_t number, uint64_t *peak, uint32_t *bits) {
     return is("answers another number the second time") ? number + calls++ : number;
 }
 
-uint32_t library_headroom(const uint8_t *sheet, size_t sheet_len, uint32_t dimension, int64_t *report, size_t report_len, int32_t *work,
+uint32_t fildwuk_library_headroom(const uint8_t *sheet, size_t sheet_len, uint32_t dimension, int64_t *report, size_t report_len, int32_t *work,
                           size_t work_len, uint64_t *peak, uint32_t *bits) {
     static uint64_t calls;
-    uint32_t number = library_report(sheet, sheet_len, dimension, report, report_len, work, work_len);
+    uint32_t number = fildwuk_library_report(sheet, sheet_len, dimension, report, report_len, work, work_len);
     uint64_t largest = sheet[16] > sheet[17] ? sheet[16] : sheet[17];
     touch(sheet, sheet_len, report, report_len, work, work_len, peak, bits);
     if (number != 0)

@@ -3,7 +3,7 @@
 #include <stdlib.h>
 #include <string.h>
 
-#include "fildwuk.h"
+#include "fildwuk_library.h"
 
 enum { SHEET = 16 };
 
@@ -58,6 +58,6 @@ static uint32_t import(const uint8_t *text, size_t text_len, uint8_t *sheet, siz
 
 uint32_t fildwuk_import(const uint8_t *text, size_t text_len, uint8_t *sheet, size_t sheet_len) { return import(text, text_len, sheet, sheet_len); }
 
-uint32_t library_import(const uint8_t *text, size_t text_len, uint8_t *sheet, size_t sheet_len);
-
-uint32_t library_import(const uint8_t *text, size_t text_len, uint8_t *sheet, size_t sheet_len) { return import(text, text_len, sheet, sheet_len); }
+uint32_t fildwuk_library_import(const uint8_t *text, size_t text_len, uint8_t *sheet, size_t sheet_len) {
+    return import(text, text_len, sheet, sheet_len);
+}

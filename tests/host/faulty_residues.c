@@ -3,16 +3,7 @@
 #include <stdlib.h>
 #include <string.h>
 
-#include "fildwuk.h"
-
-enum { CELLS = 256 };
-
-extern uint32_t library_report(const uint8_t *sheet, size_t sheet_len, uint32_t dimension, int64_t *report, size_t report_len, int32_t *work,
-                               size_t work_len);
-extern uint32_t library_coordinates(const uint8_t *sheet, size_t sheet_len, uint32_t dimension, const int32_t *chain, size_t chain_len,
-                                    int64_t *coordinates, size_t coordinates_len, int32_t *work, size_t work_len);
-extern uint32_t library_coordinate_lists(const uint8_t *sheet, size_t sheet_len, uint32_t dimension, size_t number, const int32_t *chains,
-                                         size_t chains_len, int64_t *coordinates, size_t coordinates_len, int32_t *work, size_t work_len);
+#include "fildwuk_library.h"
 
 static int is(const char *fault) { return strcmp(getenv("FAULT"), fault) == 0; }
 
@@ -31,9 +22,9 @@ static int64_t misread(int64_t d, int64_t c, int in_lists) {
 
 /* Misreads lists of coordinates, so many bytes apart. */
 static void misread_lists(const uint8_t *sheet, size_t sheet_len, uint32_t dimension, size_t number, size_t apart, uint8_t *lists, int in_lists) {
-    static int64_t report[2 + CELLS + CELLS * CELLS];
-    static int32_t work[3 * CELLS * CELLS];
-    if (library_report(sheet, sheet_len, dimension, report, sizeof report / 8, work, sizeof work / 4) != FILDWUK_DONE)
+    static int64_t report[FILDWUK_LIBRARY_REPORT_SLOTS(FILDWUK_LIBRARY_CELLS)];
+    static int32_t work[FILDWUK_LIBRARY_WORK_SLOTS_MOST];
+    if (fildwuk_library_report(sheet, sheet_len, dimension, report, sizeof report / 8, work, sizeof work / 4) != FILDWUK_DONE)
         exit(2);
     for (size_t i = 0; i < number; i++)
         for (size_t j = 0; j < (size_t)report[1]; j++) {
@@ -63,7 +54,7 @@ uint32_t faulty_coordinate_lists(const uint8_t *sheet, size_t sheet_len, uint32_
 
 uint32_t faulty_library_coordinates(const uint8_t *sheet, size_t sheet_len, uint32_t dimension, const int32_t *chain, size_t chain_len,
                                     int64_t *coordinates, size_t coordinates_len, int32_t *work, size_t work_len) {
-    uint32_t answer = library_coordinates(sheet, sheet_len, dimension, chain, chain_len, coordinates, coordinates_len, work, work_len);
+    uint32_t answer = fildwuk_library_coordinates(sheet, sheet_len, dimension, chain, chain_len, coordinates, coordinates_len, work, work_len);
     if (answer == FILDWUK_DONE)
         misread_lists(sheet, sheet_len, dimension, 1, 0, (uint8_t *)coordinates, 0);
     return answer;
@@ -72,7 +63,7 @@ uint32_t faulty_library_coordinates(const uint8_t *sheet, size_t sheet_len, uint
 uint32_t faulty_library_coordinate_lists(const uint8_t *sheet, size_t sheet_len, uint32_t dimension, size_t number, const int32_t *chains,
                                          size_t chains_len, int64_t *coordinates, size_t coordinates_len, int32_t *work, size_t work_len) {
     uint32_t answer =
-        library_coordinate_lists(sheet, sheet_len, dimension, number, chains, chains_len, coordinates, coordinates_len, work, work_len);
+        fildwuk_library_coordinate_lists(sheet, sheet_len, dimension, number, chains, chains_len, coordinates, coordinates_len, work, work_len);
     if (answer == FILDWUK_DONE && chains_len != 0)
         misread_lists(sheet, sheet_len, dimension, number, 8 * (chains_len / number), (uint8_t *)coordinates, 1);
     return answer;

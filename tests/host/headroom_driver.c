@@ -4,17 +4,13 @@
  * and its bits as 4, then the report and the work slice, all as the call left them.
  *
  * Each call is made twice, with untouchable memory after and before every block. The program ends with status 3 where the two differ, bytes outside
- * the lent blocks have changed, the answer or a slice is not that of library_report, a refusal has changed the peak or its bits, the bits are not
- * those of the peak, or the peak is beyond the entry limit or less than an order or a coefficient in the report; and by a signal where a call touches
- * that memory or takes half a second. */
+ * the lent blocks have changed, the answer or a slice is not that of fildwuk_library_report, a refusal has changed the peak or its bits, the bits are
+ * not those of the peak, or the peak is beyond the entry limit or less than an order or a coefficient in the report; and by a signal where a call
+ * touches that memory or takes half a second. */
 #include "fenced.h"
+#include "fildwuk_library.h"
 
 enum { DIMENSIONS = 4, ENTRY_LIMIT = 1048575 };
-
-extern uint32_t library_report(const uint8_t *sheet, size_t sheet_len, uint32_t dimension, int64_t *report, size_t report_len, int32_t *work,
-                               size_t work_len);
-extern uint32_t library_headroom(const uint8_t *sheet, size_t sheet_len, uint32_t dimension, int64_t *report, size_t report_len, int32_t *work,
-                                 size_t work_len, uint64_t *peak, uint32_t *bits);
 
 /* Lengths are those of the slices: bytes of the sheet, slots. */
 struct request {
@@ -32,16 +28,16 @@ static struct left lend(const struct request *r, enum side side) {
     return (struct left){0, fence(8, side), fence(4, side), fence(8 * (size_t)r->report_len, side), fence(4 * (size_t)r->work_len, side)};
 }
 
-/* Makes the call for the peak, or library_report, which is lent no peak. */
+/* Makes the call for the peak, or fildwuk_library_report, which is lent no peak. */
 static struct left call_fenced(const struct request *r, enum side side, int with_peak) {
     struct fenced sheet = fence_copy(r->sheet, r->sheet_len, side);
     struct left left = lend(r, side);
     int64_t *report = (int64_t *)(void *)left.report.bytes;
     int32_t *work = (int32_t *)(void *)left.work.bytes;
     limit_time();
-    left.number = with_peak ? library_headroom(sheet.bytes, r->sheet_len, r->dimension, report, r->report_len, work, r->work_len,
-                                               (uint64_t *)(void *)left.peak.bytes, (uint32_t *)(void *)left.bits.bytes)
-                            : library_report(sheet.bytes, r->sheet_len, r->dimension, report, r->report_len, work, r->work_len);
+    left.number = with_peak ? fildwuk_library_headroom(sheet.bytes, r->sheet_len, r->dimension, report, r->report_len, work, r->work_len,
+                                                       (uint64_t *)(void *)left.peak.bytes, (uint32_t *)(void *)left.bits.bytes)
+                            : fildwuk_library_report(sheet.bytes, r->sheet_len, r->dimension, report, r->report_len, work, r->work_len);
     if (!intact(left.peak) || !intact(left.bits) || !intact(left.report) || !intact(left.work))
         exit(3);
     release(sheet);

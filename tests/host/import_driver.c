@@ -6,9 +6,7 @@
  * the slice have changed, a refusal has changed the slice, or done has changed bytes past the sheet; and by a signal where a call touches that
  * memory, writes to the text, or takes half a second, or a twentieth of a second on a text of at most 64 KiB. */
 #include "fenced.h"
-#include "fildwuk.h"
-
-extern uint32_t library_import(const uint8_t *text, size_t text_len, uint8_t *sheet, size_t sheet_len);
+#include "fildwuk_library.h"
 
 enum { SHORT_TEXT = 65536 };
 
@@ -30,7 +28,7 @@ static uint32_t call(int kind, struct fenced text, struct fenced sheet) {
     limit_call(text.length);
     if (kind == 'H')
         return fildwuk_import(text.bytes, text.length, sheet.bytes, sheet.length);
-    return library_import(text.bytes, text.length, sheet.bytes, sheet.length);
+    return fildwuk_library_import(text.bytes, text.length, sheet.bytes, sheet.length);
 }
 
 /* Whether the slice holds what it held before the call, apart from a sheet at its start after done. */

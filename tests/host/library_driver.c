@@ -8,13 +8,7 @@
  * outside the lent slices have changed, or lists are not those of single calls; and by a signal where a call touches that memory or takes half a
  * second. */
 #include "fenced.h"
-
-extern uint32_t library_report(const uint8_t *sheet, size_t sheet_len, uint32_t dimension, int64_t *report, size_t report_len, int32_t *work,
-                               size_t work_len);
-extern uint32_t library_coordinates(const uint8_t *sheet, size_t sheet_len, uint32_t dimension, const int32_t *chain, size_t chain_len,
-                                    int64_t *coordinates, size_t coordinates_len, int32_t *work, size_t work_len);
-extern uint32_t library_coordinate_lists(const uint8_t *sheet, size_t sheet_len, uint32_t dimension, size_t number, const int32_t *chains,
-                                         size_t chains_len, int64_t *coordinates, size_t coordinates_len, int32_t *work, size_t work_len);
+#include "fildwuk_library.h"
 
 /* Lengths are those of the slices: bytes of the sheet, coefficients, slots. */
 struct request {
@@ -36,12 +30,12 @@ static uint32_t call(const struct request *r, struct fenced sheet, struct fenced
     int32_t *room = (int32_t *)(void *)work.bytes;
     limit_time();
     if (r->kind == 'R')
-        return library_report(sheet.bytes, r->sheet_len, r->dimension, slots, r->output_len, room, r->work_len);
+        return fildwuk_library_report(sheet.bytes, r->sheet_len, r->dimension, slots, r->output_len, room, r->work_len);
     if (r->kind == 'C')
-        return library_coordinates(sheet.bytes, r->sheet_len, r->dimension, coefficients, r->chains_len, slots, r->output_len, room,
-                                   r->work_len);
-    return library_coordinate_lists(sheet.bytes, r->sheet_len, r->dimension, r->number, coefficients, r->chains_len, slots, r->output_len,
-                                    room, r->work_len);
+        return fildwuk_library_coordinates(sheet.bytes, r->sheet_len, r->dimension, coefficients, r->chains_len, slots, r->output_len,
+                                           room, r->work_len);
+    return fildwuk_library_coordinate_lists(sheet.bytes, r->sheet_len, r->dimension, r->number, coefficients, r->chains_len, slots,
+                                            r->output_len, room, r->work_len);
 }
 
 static struct left call_fenced(const struct request *r, enum side side) {

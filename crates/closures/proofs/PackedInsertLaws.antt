@@ -9,7 +9,7 @@ use Prim.Native.Nat.{ℕ, suc, _<_}
 use native.Mathlib.Omega.{arith}
 use borrow.Author.Tests.{ltb-true, lt-ltb}
 use lib.Dec.{ltb}
-use lib.ListN.{length, getD}
+use lib.ListN.{getD}
 use Rattle.complexes.specs.Cell.{Cell, precedes}
 use Rattle.complexes.specs.Packed.{packed}
 use Rattle.complexes.specs.PackedLaws.{packed-precedes}

@@ -1,5 +1,5 @@
--- The complex of some cells: they and their nonempty subsets. `Insert`, `Closure` and `Form` have the definitions, `Examples` some closures worked
--- out by hand, `ClosureLaws` that the closure is what `Form` says.
+-- The complex of some cells: they and their nonempty subsets. `Rising`, `Insert`, `Closure` and `Form` have the definitions, `Examples` some closures
+-- worked out by hand. That the closure is what `Form` says is `proofs/ClosureLaws`.
 pub mod Insert
 pub mod Closure
 pub mod Form

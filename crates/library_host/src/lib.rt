@@ -1,4 +1,4 @@
-// The library's calls, at its count limit of 256, for the tests and the benchmark in C. They answer 0 for done or the number of the refusal.
+// The library's calls for C, at its count limit of 256, with a work slice that the caller lends. They answer 0 for done or the number of the refusal.
 ghost use mathlib.Core.Path.{_≡_};
 ghost use Rattle.trials.specs.Trial.{numberTold};
 ghost use Rattle.requests.specs.Question.{asked};
@@ -22,7 +22,7 @@ fn number_told(answer: Answer) -> u32
 
 // The report of a dimension.
 #[no_mangle]
-pub extern "C" fn library_report(
+pub extern "C" fn fildwuk_library_report(
     sheet: &[u8],
     dimension: u32,
     report: &mut [i64],
@@ -40,7 +40,7 @@ pub extern "C" fn library_report(
 
 // The report with its headroom: where the call is done, the peak and its bits are written.
 #[no_mangle]
-pub extern "C" fn library_headroom(
+pub extern "C" fn fildwuk_library_headroom(
     sheet: &[u8],
     dimension: u32,
     report: &mut [i64],
@@ -70,7 +70,7 @@ pub extern "C" fn library_headroom(
 
 // The coordinates of a cycle.
 #[no_mangle]
-pub extern "C" fn library_coordinates(
+pub extern "C" fn fildwuk_library_coordinates(
     sheet: &[u8],
     dimension: u32,
     chain: &[i32],
@@ -90,7 +90,7 @@ pub extern "C" fn library_coordinates(
 
 // The coordinate lists of `number` chains.
 #[no_mangle]
-pub extern "C" fn library_coordinate_lists(
+pub extern "C" fn fildwuk_library_coordinate_lists(
     sheet: &[u8],
     dimension: u32,
     number: usize,
@@ -118,7 +118,7 @@ pub extern "C" fn library_coordinate_lists(
 
 // The import of a mesh text.
 #[no_mangle]
-pub extern "C" fn library_import(text: &[u8], sheet: &mut [u8]) -> u32
+pub extern "C" fn fildwuk_library_import(text: &[u8], sheet: &mut [u8]) -> u32
     ensures { λ r.
         let left = now (sheet .exit) in ⌜
         ImportTold (importCall libraryLimit (now (text .entry)) (now (sheet .entry))) r left

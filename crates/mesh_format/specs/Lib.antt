@@ -1,4 +1,4 @@
--- Mesh texts: what they tell, their form, reading them, and that reading and the form agree.
+-- Mesh texts: what they tell, their form, and reading them. That reading and the form agree is `proofs/Accept`.
 pub mod Mesh
 pub mod Words
 pub mod Form

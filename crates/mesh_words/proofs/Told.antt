@@ -1,11 +1,9 @@
 -- What an answer says of the reading that it tells, and the other way.
 --     skipped-malformed, skipped-to, number-malformed, number-read     the reading, from the answer
 --     skipped-fails, skipped-goes, number-fails, number-goes           the answer, from the reading
-use mathlib.Core.Path.{_≡_, refl, sym, ap, _∙_}
-use mathlib.Core.List.{List}
-use Prim.Native.Nat.{ℕ, _+_, _-_}
+use mathlib.Core.Path.{_≡_, refl, ap}
+use Prim.Native.Nat.{ℕ, _-_}
 use native.Mathlib.Omega.{arith}
-use lib.ListN.{length, take}
 use Rattle.mesh_format.specs.Parse.{Parsed, malformed, parsed}
 use Rattle.mesh_words.specs.Tells.{tellSkipped, tellNumber}
 use Rattle.mesh_words.specs.declared.answer.Cursor.{Cursor}

@@ -16,7 +16,6 @@ use Rattle.import_client.proofs.import_library.Statement.{statement}
 use Rattle.import_client.proofs.import_library.Tie as tie
 
 library-used : {text before after : List ℕ} {r : Imported} → ImportAnswers (importCall libraryLimit text before) r after → LibraryUsed text before r after
-unfolding 
 library-used a = record {
   length-told = λ t b. a .answer ∙ ap₂ (λ (x y : List ℕ). importCall libraryLimit x y .answer) t b ∙ hollow-done;
   used = used libraryLimit (omega arith) (ap numberTold hollow-done) (ap numberTold (a .answer)) (a .output-is);

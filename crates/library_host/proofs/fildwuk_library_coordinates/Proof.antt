@@ -1,0 +1,11 @@
+-- `fildwuk_library_coordinates` meets its contract: it answers the number of what the library's call answers. Assumes nothing.
+use borrow.Author.Needs.{needs}
+use Rattle.library_host.proofs.Told.{called-told}
+use Rattle.library_host.proofs.fildwuk_library_coordinates.Statement.{statement}
+use Rattle.library_host.proofs.fildwuk_library_coordinates.Tie as tie
+
+returns : tie.Need-returns
+returns c = called-told (c .before .before .before .coordinates .ensures) (c .number-told .ensures)
+
+pub fildwuk-library-coordinates-spec : {M : Type 1} → statement M
+fildwuk-library-coordinates-spec = tie.close (tie.spec (λ c κs. search needs) (λ c κs. search needs) (λ c. search needs) (λ c. search needs) returns)

@@ -1,0 +1,1 @@
+"""Runs of the command fildwuk, and what is read back from what it writes."""

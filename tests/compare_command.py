@@ -1,0 +1,191 @@
+#!/usr/bin/env python3
+"""Holds `fildwuk report` to the model and to the program: on sheets and mesh texts, sound and damaged, at both limits, as plain lines, which are those of
+the program byte for byte, as JSON and in words. Runs in process, built with sanitizers."""
+
+import argparse
+import random
+import subprocess
+from pathlib import Path
+
+from command.runs import DONE, DRIVER, REFUSED, in_process
+from command.told import Dimension, from_json, from_words, head, object_of
+from compare_gmsh import due_answers, stored
+from make_sheets import fault_sheets, known_sheets, random_sheets
+from model import homology, mesh_cases, mesh_texts, meshes
+from model.calls import dimension_lines
+from model.headroom import bits
+from model.mesh import import_mesh
+from model.reduction import ENTRY_LIMIT
+from model.sheet import DIMENSIONS, LIBRARY_COUNT_LIMIT, PROGRAM_COUNT_LIMIT, Refused, from_facets, longest, parse, refusal
+
+PROGRAM = Path("target/bin/homology")
+LIMITS = {"library": LIBRARY_COUNT_LIMIT, "host": PROGRAM_COUNT_LIMIT}
+NAME = "a file"
+QUICK = 100
+
+# A sheet with an order beyond the entry limit: dimension 1 is refused with 13.
+TOO_WIDE = from_facets(meshes.tower(20))
+
+
+def sheet_of(data, limit):
+    """The answer of the import to a mesh text, 0 for a sheet, and the sheet."""
+    if data[:1] != b"$":
+        return 0, data
+    return import_mesh(data, limit, longest(limit))
+
+
+def due_dimension(data, p, name):
+    """What is due of a dimension of an accepted sheet."""
+    sheet = parse(data, LIMITS[name])
+    try:
+        report = homology.report(data, p, LIMITS[name])
+    except Refused as refused:
+        return Dimension(p, refused.number)
+    chains = tuple(tuple((cell, x) for cell, x in zip(sheet.cells(p), generator) if x) for generator in report.generators)
+    headroom = (report.peak, bits(report.peak)) if name == "library" else (None, None)
+    return Dimension(p, 0, report.rank, tuple(report.orders), chains, *headroom)
+
+
+def due_plain(data, dimensions, limit):
+    """The lines due of these dimensions, whatever the sheet."""
+    number = refusal(data, limit)
+    if number:
+        return f"R {number}\n"
+    lines = [line for p in dimensions for line in dimension_lines(data, p, limit, ENTRY_LIMIT)]
+    return "".join(" ".join(map(str, line)) + "\n" for line in lines)
+
+
+class Case:
+    """An input under a limit and the dimensions to report on."""
+
+    def __init__(self, name, data, limit, dimension=None):
+        self.name, self.data, self.limit = name, data, limit
+        self.dimensions = range(DIMENSIONS) if dimension is None else [dimension]
+        chosen = [] if dimension is None else ["--dimension", str(dimension)]
+        self.words = ["report", NAME, "--limit", limit, *chosen]
+
+    def requests(self):
+        """The runs as plain lines, as JSON and in words."""
+        return [([*self.words, "--plain"], self.data), ([*self.words, "--json"], self.data), (self.words, self.data)]
+
+    def told(self):
+        """The refusal of the input as a whole, 0 for none, and its sheet."""
+        number, sheet = sheet_of(self.data, LIMITS[self.limit])
+        return number or refusal(sheet, LIMITS[self.limit]), sheet
+
+    def wrong(self, plain, as_json, words):
+        """What differs from what is due, in the three runs."""
+        number, sheet = self.told()
+        if number:
+            return list(self.wrong_refusal(number, plain, as_json, words))
+        due = [due_dimension(sheet, p, self.limit) for p in self.dimensions]
+        status = REFUSED if any(found.refusal for found in due) else DONE
+        faults = [name for name, ran in (("plain", plain), ("JSON", as_json), ("words", words)) if ran.status != status]
+        if plain.output != due_plain(sheet, self.dimensions, LIMITS[self.limit]).encode():
+            faults.append("plain lines")
+        return faults + self.wrong_json(sheet, due, as_json) + self.wrong_words(sheet, due, words)
+
+    def wrong_refusal(self, number, plain, as_json, words):
+        """What differs where the input as a whole is refused."""
+        if (plain.status, as_json.status, words.status) != (REFUSED,) * 3:
+            yield "status of a refusal"
+        if plain.output != b"R %d\n" % number or words.output != b"":
+            yield "output of a refusal"
+        if any(f"{NAME} is refused with {number}: " not in ran.lines()[0] for ran in (plain, as_json, words)):
+            yield "message of a refusal"
+        found = object_of(as_json.output)
+        if (found["refusal"], found["limit"]) != (number, LIMITS[self.limit]) or set(found) != {"fildwuk", "limit", "refusal", "meaning", "where"}:
+            yield "object of a refusal"
+
+    def wrong_json(self, sheet, due, ran):
+        """What differs in the object."""
+        found, counts = object_of(ran.output), [parse(sheet, LIMITS[self.limit]).count(p) for p in range(DIMENSIONS)]
+        if set(found) != {"fildwuk", "limit", "refusal", "counts", "dimensions"}:
+            return ["names of the object"]
+        right = found["limit"] == LIMITS[self.limit] and found["refusal"] == 0 and found["counts"] == counts
+        return ([] if right else ["head of the object"]) + ([] if [from_json(part) for part in found["dimensions"]] == due else ["dimensions of the object"])
+
+    def wrong_words(self, sheet, due, ran):
+        """What differs in the words."""
+        lines = ran.output.decode("ascii").splitlines()
+        counts = [parse(sheet, LIMITS[self.limit]).count(p) for p in range(DIMENSIONS)]
+        if lines[0] != head(NAME, counts):
+            return ["first line"]
+        at = 1
+        for part in due:
+            found, taken = from_words(lines[at:], part.dimension, part.orders)
+            if found != part:
+                return [f"words of dimension {part.dimension}"]
+            at += taken
+        return [] if at == len(lines) else ["lines after the last dimension"]
+
+
+def quick(data):
+    """Whether the model reduces a sheet quickly, or not at all."""
+    return refusal(data, LIBRARY_COUNT_LIMIT) or max(parse(data, LIBRARY_COUNT_LIMIT).count(p) for p in range(DIMENSIONS)) <= QUICK
+
+
+def sheets(rng, count):
+    """Sheets by name: known ones, damaged ones, random ones."""
+    found = {**known_sheets(), "tower 1": from_facets(meshes.tower(1))}
+    found.update(list(fault_sheets().items())[::3])
+    found.update(random_sheets(rng, count))
+    found.update({"no bytes": b"", "a byte": b"\0", "zeros": bytes(70000)})
+    return {name: data for name, data in found.items() if quick(data)}
+
+
+def texts(rng, count):
+    """Mesh texts by name: stored ones, and random ones, sound and damaged."""
+    found = {line.name: stored(line.name) for line in due_answers()}
+    found.update((name, text) for name, (text, _) in rng.sample(list(mesh_cases.damaged(rng).items()), 60))
+    found.update((f"random text {i}", text) for i, (text, _) in enumerate(mesh_texts.random_texts(rng, count)))
+    return {name: text for name, text in found.items() if text[:1] == b"$"}
+
+
+def cases(rng, inputs):
+    """The cases of the inputs: both limits, and one dimension alone under one of them."""
+    for name, data in inputs.items():
+        for limit in LIMITS:
+            yield Case(name, data, limit)
+        yield Case(name, data, rng.choice(list(LIMITS)), rng.randrange(DIMENSIONS))
+    yield Case("tower 20", TOO_WIDE, "library", 1)
+
+
+def count_beside_program(sheets_tried, driver, program):
+    """How many sheets have other plain lines than the program's under the host limit, or under the library's where the program does not say 2."""
+    ran = in_process(((["report", "--plain", "--limit", limit], data) for data in sheets_tried.values() for limit in ("host", "library")), driver)
+    wrong = 0
+    for i, (name, data) in enumerate(sheets_tried.items()):
+        printed = subprocess.run([program], input=data, capture_output=True, check=False).stdout
+        if ran[2 * i].output != printed or (printed != b"R 2\n" and ran[2 * i + 1].output != printed):
+            wrong += 1
+            print(f"{name}: the program prints {printed[:100]!r}")
+    return wrong
+
+
+def main():
+    """Exits with 1 where something differs."""
+    parser = argparse.ArgumentParser(description=__doc__, formatter_class=argparse.RawDescriptionHelpFormatter)
+    parser.add_argument("--driver", type=Path, default=DRIVER, metavar="FILE", help="the built driver (target/host/command_driver)")
+    parser.add_argument("--program", type=Path, default=PROGRAM, metavar="FILE", help="the built program (target/bin/homology)")
+    parser.add_argument("--random", type=int, default=60, metavar="N", help="random sheets, each also in a damaged copy, and random texts (60)")
+    options = parser.parse_args()
+    rng = random.Random(7)
+    tried = sheets(rng, options.random)
+    made = list(cases(rng, {**tried, **texts(rng, options.random)}))
+    ran = in_process((request for case in made for request in case.requests()), options.driver)
+    wrong, told = 0, {13} if b"R 13" in ran[-3].output else set()
+    for i, case in enumerate(made):
+        told.add(case.told()[0])
+        faults = case.wrong(*ran[3 * i:3 * i + 3])
+        wrong += bool(faults)
+        for fault in faults:
+            print(f"{case.name}, limit {case.limit}, dimensions {list(case.dimensions)}: {fault}")
+    wrong += count_beside_program(tried, options.driver, options.program)
+    lost = {0, 1, 2, 3, 4, 5, 6, 7, 13, 14, 15, 16} - told
+    print(f"{len(made)} cases, {len(tried)} sheets beside the program, {wrong} differ" + (f", never due: {lost}" if lost else ""))
+    raise SystemExit(1 if wrong or lost else 0)
+
+
+if __name__ == "__main__":
+    main()

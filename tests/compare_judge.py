@@ -1,0 +1,166 @@
+#!/usr/bin/env python3
+"""Compares `fildwuk judge` with the model: random combinations of generators on meshes with free and twisted loops and cavities, and named faults.
+
+The words and the status are held to the object that --json writes, which is held to
+the model.
+"""
+
+import argparse
+import json
+import random
+import subprocess
+import sys
+import tempfile
+from collections import Counter
+from pathlib import Path
+
+from model.judge_cases import random_case
+from model.judgement import judge
+from model.sheet import closure
+
+ROOT = Path(__file__).resolve().parent.parent
+COMMAND = ROOT / "target/host/fildwuk"
+MESHES = ROOT / "tests/meshes"
+
+
+def run(command, words, text=""):
+    """The status, output and messages of the command judge."""
+    done = subprocess.run([command, "judge", *words], input=text, text=True, capture_output=True, check=False)
+    return done.returncode, done.stdout, done.stderr
+
+
+def too_many(facets):
+    """Whether the region has more cells than are taken."""
+    return any(len(section) > 256 for section in closure(facets))
+
+
+def words_fault(status, words, found):
+    """What is wrong with the words, None where they say what the object says."""
+    lines = words.splitlines()
+    basis = [line for line in lines if line.startswith("together: a basis")]
+    if status != (0 if found["basis"] else 1) or len(basis) != found["basis"]:
+        return "status or basis"
+    for group, line in zip(found["groups"], lines[1:]):
+        said = {"outside": "not in the region", "large": "not judged", "open": "no cycle", "bounds": "bounds", "free": "free",
+                "twisted": f"twisted of order {group.get('order')}"}[group["verdict"]]
+        name = "" if group["name"] is None else f' "{group["name"]}"'
+        if not line.startswith(f"group {group['tag']}{name}, {group['elements']} ") or said not in line:
+            return "verdict"
+        if "times" in group and abs(group["times"]) > 1 and f"{group['times']} times group {group['of']}" not in line:
+            return "multiple"
+    if not found["basis"] and found["index"] > 1 and f"  they have index {found['index']} " not in words:
+        return "index"
+    if found["rank"] < found["free"] and f"  they have rank {found['rank']}, " not in words:
+        return "rank"
+    return None
+
+
+def fault_of(command, case):
+    """What is wrong with the command on a case, None where nothing is, and what is due."""
+    due = judge(case.region, case.dimension, case.groups)
+    status, output, _ = run(command, ["-", *case.words, "--json"], case.text)
+    try:
+        found = json.loads(output)
+    except ValueError:
+        return f"status {status}, no object", due
+    differ = [key for key, value in due.items() if found.get(key) != value]
+    if differ or status != (0 if due["basis"] else 1):
+        return f"status {status}, other {', '.join(differ)}", due
+    again, words, messages = run(command, ["-", *case.words], case.text)
+    fault = words_fault(again, words, found)
+    return (f"words: {fault}" if fault else "messages" if messages else None), due
+
+
+def compare_random(command, count, seed):
+    """How many random cases differ, and how often each kind came."""
+    rng, wrong, met = random.Random(seed), 0, Counter()
+    for i in range(count):
+        case = random_case(rng)
+        if too_many(case.region):
+            continue
+        fault, due = fault_of(command, case)
+        met["cases"] += 1
+        met["a basis"] += due["basis"]
+        met["index"] += due["index"] > 1
+        met["dependent"] += bool(due["relations"])
+        for group in due["groups"]:
+            met[group["verdict"]] += 1
+            met["multiple"] += "times" in group
+        if fault:
+            wrong += 1
+            print(f"case {i}: {fault}; words {case.words}")
+    return wrong, met
+
+
+LARGE = "".join(f"{i + 2} 1 2 9 1 1 2\n" for i in range(32768))
+TRIANGLE = "$MeshFormat\n2.2 0 8\n$EndMeshFormat\n$Nodes\n3\n1 0 0 0\n2 1 0 0\n3 0 1 0\n$EndNodes\n$Elements\n{}\n{}$EndElements\n"
+FAULTS = [
+    ("unknown tag", TRIANGLE.format(1, "1 2 2 5 1 1 2 3\n"), ["8"], 2, "", "no group of lines has the tag 8"),
+    ("tag of another dimension", TRIANGLE.format(1, "1 2 2 5 1 1 2 3\n"), ["5"], 2, "", "no group of lines has the tag 5"),
+    ("no groups, no loops", TRIANGLE.format(1, "1 2 2 5 1 1 2 3\n"), [], 0, "together: a basis of the free loops, of which there are none", ""),
+    ("no groups, a loop", TRIANGLE.format(3, "1 1 2 0 1 1 2\n2 1 2 0 1 2 3\n3 1 2 0 1 1 3\n"), [], 1, "rank 0, the free loops have rank 1", ""),
+    ("line with one node twice", TRIANGLE.format(2, "1 2 2 5 1 1 2 3\n2 1 2 9 1 1 1\n"), [], 1, "the line in line 13 of the file is no edge", ""),
+    ("line of three nodes", TRIANGLE.format(2, "1 2 2 5 1 1 2 3\n2 1 2 9 1 1 2 3\n"), [], 1, "the line in line 13 of the file is no edge", ""),
+    ("line alone", TRIANGLE.format(1, "1 1 2 9 1 1 2\n"), [], 1, "no edge of it", ""),
+    ("large coefficient", TRIANGLE.format(32769, "1 2 2 5 1 1 2 3\n" + LARGE), [], 1, "its coefficient 32768 at (1,2) is beyond 32767", ""),
+    ("malformed", "$MeshFormat\n", [], 1, "", "refused with 14"),
+    ("faulty element", TRIANGLE.format(2, "1 1 2 9 1 1 2\n2 2 2 5 1 1 2 2\n"), [], 1, "", "refused with 15"),
+    ("unknown region", TRIANGLE.format(1, "1 2 2 5 1 1 2 3\n"), ["--region", "6"], 2, "", "no element has the physical tag 6"),
+    ("dimension 4", TRIANGLE.format(1, "1 2 2 5 1 1 2 3\n"), ["--dimension", "4"], 2, "", "dimension 0 to 3"),
+    ("plain", TRIANGLE.format(1, "1 2 2 5 1 1 2 3\n"), ["--plain"], 2, "", "--plain"),
+    ("many groups", TRIANGLE.format(1002, "1 2 2 5 1 1 2 3\n" + "".join(f"{i} 1 2 {i} 1 1 2\n" for i in range(10, 1011))), [], 1, "",
+     "1001 groups are more than are judged at once"),
+]
+
+
+def compare_faults(command):
+    """How many named faults are told otherwise."""
+    wrong = 0
+    for name, text, words, status, said, told in FAULTS:
+        found = run(command, ["-", *words], text)
+        if found[0] != status or said not in found[1] or told not in found[2] or (told == "") != (found[2] == ""):
+            wrong += 1
+            print(f"{name}: status {found[0]}, {found[1]!r}, {found[2]!r}")
+    return wrong
+
+
+GMSH = [
+    ("copper_ring_loops", [], 0, "together: a basis of the free loops\n"),
+    ("ring_in_air_loops", ["--region", "2"], 0, "together: a basis of the free loops\n"),
+    ("ring_in_air_loops", ["--region", "2", "--dimension", "2"], 0, "together: a basis of the free cavities\n"),
+    ("projective_plane_loops", [], 1, "  group 3 is twisted: it has no free part\n"),
+    ("projective_plane_loops", ["4", "--dimension", "2"], 1, "no cycle: its boundary has"),
+    ("klein_bottle_loops", [], 1, " is twisted: it has no free part\n"),
+]
+
+
+def compare_gmsh(command, folder):
+    """How many of Gmsh's own loops, in a folder of files, are judged otherwise."""
+    wrong = 0
+    for name, words, status, said in GMSH:
+        found = run(command, [Path(folder) / f"{name}.msh", *words])
+        if found[0] != status or said not in found[1] or found[2]:
+            wrong += 1
+            print(f"{name} of {folder}: status {found[0]}, {found[1]}{found[2]}")
+    return wrong
+
+
+def main():
+    parser = argparse.ArgumentParser(description=__doc__, formatter_class=argparse.RawDescriptionHelpFormatter)
+    parser.add_argument("--command", type=Path, default=COMMAND)
+    parser.add_argument("--count", type=int, default=250)
+    parser.add_argument("--seed", type=int, default=9)
+    options = parser.parse_args()
+    wrong, met = compare_random(options.command, options.count, options.seed)
+    unmet = [kind for kind in ("a basis", "index", "dependent", "multiple", "outside", "open", "bounds", "twisted", "free") if not met[kind]]
+    wrong += compare_faults(options.command) + compare_gmsh(options.command, MESHES)
+    with tempfile.TemporaryDirectory() as folder:
+        subprocess.run(["bash", MESHES / "make", folder], check=True, capture_output=True)
+        wrong += compare_gmsh(options.command, folder)
+    print(", ".join(f"{number} {kind}" for kind, number in met.items()))
+    print(f"{len(FAULTS)} named faults, {2 * len(GMSH)} judgements of Gmsh's own loops, {wrong} differ; kinds that did not come: {unmet}")
+    return 1 if wrong or unmet else 0
+
+
+if __name__ == "__main__":
+    sys.exit(main())

@@ -1,0 +1,27 @@
+/* The table of commands. */
+#include "commands.h"
+
+#include <string.h>
+
+#include "import.h"
+#include "judge.h"
+#include "report.h"
+
+static const struct command COMMANDS[] = {
+    {"report", "the components, loops and cavities of a mesh or a sheet", REPORT_HELP, "a mesh or a sheet",
+     OPTION_DIMENSION | OPTION_FORM | OPTION_REGION | OPTION_LIMIT | OPTION_GROUPS | OPTION_VIEW, report_text},
+    {"judge", "whether physical groups of a mesh are a basis of its free loops", JUDGE_HELP, "a mesh",
+     OPTION_DIMENSION | OPTION_FORM | OPTION_REGION | OPTION_TAGS, judge_text},
+    {"import", "the sheet of a mesh, for the proved calls", IMPORT_HELP, "a mesh", OPTION_OUTPUT | OPTION_REGION | OPTION_LIMIT, import_text},
+};
+
+enum { COMMAND_TOTAL = sizeof COMMANDS / sizeof *COMMANDS };
+
+const struct command *command_at(size_t place) { return place < COMMAND_TOTAL ? &COMMANDS[place] : NULL; }
+
+const struct command *command_find(const char *name) {
+    for (size_t i = 0; i < COMMAND_TOTAL; i++)
+        if (strcmp(name, COMMANDS[i].name) == 0)
+            return &COMMANDS[i];
+    return NULL;
+}

@@ -1,0 +1,64 @@
+/* The files of --groups and --view. */
+#include "exports.h"
+
+#include <errno.h>
+#include <string.h>
+
+#include "output.h"
+#include "view.h"
+
+enum { DIMENSION = 1 };
+
+uint32_t exports_dimension(const struct options *options) { return options->has_dimension ? options->dimension : DIMENSION; }
+
+static int misused(const char *why, FILE *err) {
+    fprintf(err, "fildwuk: %s\n", why);
+    return STATUS_FAILED;
+}
+
+/* Writes the file of --groups, whose numbers are found. */
+static int write_groups(const struct options *options, const struct source *source, const struct mesh *mesh, const struct homology *homology,
+                        const struct groups *groups, FILE *err) {
+    struct output output;
+    if (!output_begin(&output, options->groups, options->input, err))
+        return STATUS_FAILED;
+    groups_write(output.file, source->text, mesh, source->sheet.bytes, homology, &options->region, groups);
+    return output_end(&output, err) ? STATUS_DONE : STATUS_FAILED;
+}
+
+static int write_view(const struct options *options, const struct source *source, const struct mesh *mesh, const struct homology *homology, FILE *err) {
+    struct output output;
+    if (!output_begin(&output, options->view, options->input, err))
+        return STATUS_FAILED;
+    if (view_write(output.file, source->text, mesh, source->sheet.bytes, homology, &options->region, err))
+        return output_end(&output, err) ? STATUS_DONE : STATUS_FAILED;
+    output_drop(&output);
+    return STATUS_REFUSED;
+}
+
+/* Writes the view first, which may be refused for a coordinate, and then the groups, whose numbers are found before either. */
+static int write_both(const struct options *options, const struct source *source, const struct mesh *mesh, const struct homology *homology,
+                      struct groups *groups, FILE *err) {
+    if (options->groups != NULL && !groups_plan(source->text, mesh, source->sheet.bytes, homology, groups, err))
+        return STATUS_REFUSED;
+    int status = options->view == NULL ? STATUS_DONE : write_view(options, source, mesh, homology, err);
+    return status != STATUS_DONE || options->groups == NULL ? status : write_groups(options, source, mesh, homology, groups, err);
+}
+
+int exports_write(const struct options *options, const struct source *source, const struct homology *homology, struct groups *groups,
+                  const struct console *console) {
+    struct mesh mesh;
+    struct mesh_fault fault;
+    *groups = (struct groups){0, 0, 0, 0};
+    if (options->groups == NULL && options->view == NULL)
+        return STATUS_DONE;
+    if (!source->is_mesh)
+        return misused("--groups and --view are for a mesh, and the input is a sheet, which has no coordinates", console->err);
+    if (options->groups != NULL && options->view != NULL && strcmp(options->groups, options->view) == 0)
+        return misused("--groups and --view name the same file", console->err);
+    if (mesh_read(source->text, &mesh, &fault) != MESH_READ)
+        return misused(strerror(ENOMEM), console->err);
+    int status = write_both(options, source, &mesh, homology, groups, console->err);
+    mesh_free(&mesh);
+    return status;
+}

@@ -1,0 +1,112 @@
+/* The report as one JSON object. */
+#include "json.h"
+
+#include <inttypes.h>
+#include <stdlib.h>
+
+#include "fildwuk.h"
+#include "sheet.h"
+#include "version.h"
+#include "words.h"
+
+void json_string(const char *text, FILE *file) {
+    fputc('"', file);
+    for (; *text != 0; text++) {
+        unsigned char byte = (unsigned char)*text;
+        if (byte < 32)
+            fprintf(file, "\\u%04x", byte);
+        else
+            fprintf(file, byte == '"' || byte == '\\' ? "\\%c" : "%c", byte);
+    }
+    fputc('"', file);
+}
+
+/* Writes where the fault stands as a string, or null where it is not told. */
+static void write_where(const struct refusal *refusal, FILE *file) {
+    char *bytes = NULL;
+    size_t length = 0;
+    FILE *where = open_memstream(&bytes, &length);
+    if (where != NULL)
+        refusal_where(refusal, where);
+    if (where != NULL && fclose(where) == 0 && length > 0)
+        json_string(bytes, file);
+    else
+        fputs("null", file);
+    free(bytes);
+}
+
+/* Writes what every object starts with. */
+static void write_head(enum limit limit, FILE *file) {
+    fputs("{\"fildwuk\": ", file);
+    json_string(FILDWUK_VERSION, file);
+    fprintf(file, ", \"limit\": %zu", limit_cells(limit));
+}
+
+void json_refusal(const struct refusal *refusal, FILE *file) {
+    write_head(refusal->options->limit, file);
+    fprintf(file, ", \"refusal\": %u, \"meaning\": ", (unsigned)refusal->number);
+    json_string(refusal_meaning(refusal->number), file);
+    fputs(", \"where\": ", file);
+    write_where(refusal, file);
+    fputs("}\n", file);
+}
+
+void json_begin(const uint8_t *sheet, enum limit limit, FILE *file) {
+    write_head(limit, file);
+    fputs(", \"refusal\": 0, \"counts\": [", file);
+    for (uint32_t p = 0; p < SHEET_DIMENSIONS; p++)
+        fprintf(file, "%s%zu", p == 0 ? "" : ", ", sheet_count(sheet, p));
+    fputs("], \"dimensions\": [", file);
+}
+
+/* Writes a cell as a list of its vertices. */
+static void write_cell(const uint8_t *sheet, uint32_t dimension, size_t i, FILE *file) {
+    uint16_t vertices[SHEET_DIMENSIONS];
+    sheet_cell(sheet, dimension, i, vertices);
+    for (uint32_t k = 0; k <= dimension; k++)
+        fprintf(file, "%s%u", k == 0 ? "[" : ", ", (unsigned)vertices[k]);
+    fputc(']', file);
+}
+
+/* Writes generator k: its order, 0 where it is free, the tag of its group, and its chain as pairs of a coefficient and a cell. */
+static void write_generator(const uint8_t *sheet, const struct homology *homology, const struct groups *groups, size_t k, FILE *file) {
+    const int64_t *coefficients = homology_generator(homology, k);
+    const char *before = "";
+    fprintf(file, "{\"order\": %" PRId64, homology_order(homology, k));
+    if (groups != NULL)
+        fprintf(file, ", \"tag\": %zu", groups->first_tag + k);
+    fputs(", \"chain\": [", file);
+    for (size_t i = 0; i < homology->cells; i++) {
+        if (coefficients[i] == 0)
+            continue;
+        fprintf(file, "%s[%" PRId64 ", ", before, coefficients[i]);
+        write_cell(sheet, homology->dimension, i, file);
+        fputc(']', file);
+        before = ", ";
+    }
+    fputs("]}", file);
+}
+
+/* Writes the free rank, the orders, the generators and the headroom. */
+static void write_report(const uint8_t *sheet, const struct homology *homology, const struct groups *groups, FILE *file) {
+    fprintf(file, ", \"free\": %zu, \"orders\": [", homology->rank);
+    for (size_t k = 0; k < homology->order_total; k++)
+        fprintf(file, "%s%" PRId64, k == 0 ? "" : ", ", homology_order(homology, k));
+    fputs("], \"generators\": [", file);
+    for (size_t k = 0; k < homology_generators(homology); k++) {
+        fputs(k == 0 ? "" : ", ", file);
+        write_generator(sheet, homology, groups, k, file);
+    }
+    fputc(']', file);
+    if (homology->has_peak)
+        fprintf(file, ", \"peak\": %" PRIu64 ", \"bits\": %u", homology->peak, (unsigned)homology->bits);
+}
+
+void json_dimension(const uint8_t *sheet, const struct homology *homology, const struct groups *groups, int first, FILE *file) {
+    fprintf(file, "%s\n{\"dimension\": %u, \"refusal\": %u", first ? "" : ",", (unsigned)homology->dimension, (unsigned)homology->answer);
+    if (homology->answer == FILDWUK_DONE)
+        write_report(sheet, homology, groups, file);
+    fputc('}', file);
+}
+
+void json_end(FILE *file) { fputs("]}\n", file); }

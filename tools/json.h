@@ -1,0 +1,27 @@
+/* The report as one JSON object. docs/COMMAND.md describes it. */
+#ifndef JSON_H
+#define JSON_H
+
+#include <stdio.h>
+
+#include "groups.h"
+#include "homology.h"
+#include "refusal.h"
+
+/* Writes text as a JSON string: bytes below 32, quotes and backslashes escaped. The text is UTF-8. */
+void json_string(const char *text, FILE *file);
+
+/* Writes the object of an input that is refused as a whole. */
+void json_refusal(const struct refusal *refusal, FILE *file);
+
+/* Writes the start of the object of a report, with the limit and the counts of the sheet. */
+void json_begin(const uint8_t *sheet, enum limit limit, FILE *file);
+
+/* Writes a dimension, also one that is refused; `first` is 1 for the first of them. `groups` has the tags of its generators, null where they have
+ * none. */
+void json_dimension(const uint8_t *sheet, const struct homology *homology, const struct groups *groups, int first, FILE *file);
+
+/* Writes the end of the object. */
+void json_end(FILE *file);
+
+#endif

@@ -1,0 +1,211 @@
+/* The command `judge`. */
+#include "judge.h"
+
+#include <errno.h>
+#include <inttypes.h>
+#include <stdlib.h>
+#include <string.h>
+
+#include "chosen.h"
+#include "escape.h"
+#include "fildwuk.h"
+#include "homology.h"
+#include "json.h"
+#include "judge_words.h"
+#include "judgement.h"
+#include "mesh.h"
+#include "physical.h"
+#include "refusal.h"
+#include "source.h"
+
+enum { DIMENSION = 1, TAGS_SHOWN = 20 };
+
+const char JUDGE_HELP[] =
+    "usage: fildwuk judge FILE.msh [TAG ..] [--dimension P] [--region TAG ..]\n"
+    "                     [--json]\n"
+    "\n"
+    "Holds what a mesh file tells as loops to the proved coordinates. Each physical\n"
+    "group of lines, or each of the tags named, is taken as a chain: the sum of its\n"
+    "lines, each from its first node to its second. Told of each: whether it is a\n"
+    "cycle of the region, its coordinates, whether it bounds, is twisted of an order,\n"
+    "is free, is a number times another; and of all together: whether they are a basis\n"
+    "of the free loops, else their index, and how they depend on each other.\n"
+    "\n"
+    "  --region TAG ..  the region is the elements with these physical tags; without\n"
+    "                   it, all elements but those of the groups judged\n"
+    "  --dimension P    judge groups of points (0), lines (1, as without it),\n"
+    "                   triangles (2, as cavities) or tetrahedra (3)\n"
+    "  --json           one object for a script\n"
+    "\n"
+    "Exit status: 0 where all groups are cycles of the region and together a basis of\n"
+    "its free loops, twisted parts aside; 1 where they are not, or the mesh is\n"
+    "refused; 2 where a file cannot be read, or a tag is none of a group.\n";
+
+static int failed(const char *why, FILE *err) {
+    fprintf(err, "fildwuk: %s\n", why);
+    return STATUS_FAILED;
+}
+
+/* The mesh to be judged, the tags of the groups, and their dimension. */
+struct docket {
+    const struct options *options;
+    const struct text *text;
+    const struct mesh *mesh;
+    struct tags tags;
+    uint32_t dimension;
+};
+
+/* Says that a tag is none of a group, and which are. */
+static int unknown(const struct docket *docket, const struct tags *all, uint32_t tag, FILE *err) {
+    fprintf(err, "fildwuk: no group of %s has the tag %" PRIu32, physical_element_name(docket->dimension, 2), tag);
+    for (size_t i = 0; i < all->total && i < TAGS_SHOWN; i++)
+        fprintf(err, "%s%" PRIu32, i == 0 ? "; the tags are " : ", ", all->list[i]);
+    fputs(all->total > TAGS_SHOWN ? ", ..\n" : "\n", err);
+    return STATUS_FAILED;
+}
+
+/* Puts the tags named, each once, in place of all. */
+static int name_tags(struct docket *docket, struct tags *all, FILE *err) {
+    const struct tags *named = &docket->options->tags;
+    docket->tags = (struct tags){calloc(named->total + 1, sizeof *docket->tags.list), 0};
+    if (docket->tags.list == NULL)
+        return failed(strerror(ENOMEM), err);
+    for (size_t i = 0; i < named->total; i++) {
+        if (!tags_have(all, named->list[i]))
+            return unknown(docket, all, named->list[i], err);
+        if (!tags_have(&docket->tags, named->list[i]))
+            docket->tags.list[docket->tags.total++] = named->list[i];
+    }
+    return STATUS_DONE;
+}
+
+/* Finds the tags to judge: those named, else all but those of the region. */
+static int find_tags(struct docket *docket, FILE *err) {
+    static const struct tags NONE = {NULL, 0};
+    struct tags all;
+    int named = docket->options->tags.total > 0;
+    if (!physical_tags(docket->mesh, docket->dimension, named ? &NONE : &docket->options->region, &all))
+        return failed(strerror(ENOMEM), err);
+    int status = STATUS_DONE;
+    if (named) {
+        status = name_tags(docket, &all, err);
+        free(all.list);
+    } else {
+        docket->tags = all;
+    }
+    if (status == STATUS_DONE && docket->tags.total > JUDGEMENT_MOST) {
+        fprintf(err, "fildwuk: %zu groups are more than are judged at once, which are %d: name their tags\n", docket->tags.total, JUDGEMENT_MOST);
+        return STATUS_REFUSED;
+    }
+    return status;
+}
+
+/* Marks the elements that are not of the groups judged. */
+static uint8_t *mark_others(const struct docket *docket) {
+    uint8_t *keep = calloc(docket->mesh->element_total + 1, 1);
+    for (size_t i = 0; keep != NULL && i < docket->mesh->element_total; i++) {
+        const struct mesh_element *element = &docket->mesh->elements[i];
+        int judged = element->kind == physical_kind(docket->dimension) && element->has_physical && tags_have(&docket->tags, element->physical);
+        keep[i] = !judged;
+    }
+    return keep;
+}
+
+/* Finds the text of the region: of the elements that are not of the groups judged, where --region is not given. Answers 0 where there is no memory. */
+static int find_region(const struct docket *docket, struct text *chosen) {
+    uint8_t *keep = mark_others(docket);
+    int done = keep != NULL && chosen_text(docket->text, docket->mesh, keep, chosen);
+    free(keep);
+    return done;
+}
+
+/* Says a refusal, as an object too where that is asked for. */
+static int refuse(const struct refusal *refusal, const struct console *console) {
+    if (refusal->options->form == FORM_JSON)
+        json_refusal(refusal, console->out);
+    return refusal_tell(refusal, console->err);
+}
+
+/* Says a refusal of the region. Where an element is at fault, its line is looked for in the whole text, which is refused too. */
+static int refuse_region(const struct docket *docket, const struct source *region, const struct homology *homology, const struct console *console) {
+    struct source source = *region;
+    uint32_t number = homology == NULL ? region->answer : homology->answer;
+    if (number != FILDWUK_SHEET_TOO_LONG)
+        source.text = docket->text;
+    struct refusal refusal = {number, docket->options, &source, homology != NULL, docket->dimension};
+    return refuse(&refusal, console);
+}
+
+/* Judges the groups on the region's sheet, and writes what is found. */
+static int judge_sheet(const struct docket *docket, const struct source *region, const struct homology *homology, const struct console *console) {
+    struct judgement judgement;
+    enum judgement_answer answer = judgement_make(docket->mesh, region->sheet.bytes, region->sheet.length, homology, &docket->tags, &judgement);
+    int status = STATUS_FAILED;
+    if (answer == JUDGEMENT_DONE) {
+        status = judgement.together == TOGETHER_BASIS ? STATUS_DONE : STATUS_REFUSED;
+        (docket->options->form == FORM_JSON ? judge_write_json : judge_write_words)(console->out, docket->text, region->sheet.bytes, &judgement);
+    } else {
+        failed(answer == JUDGEMENT_NO_MEMORY ? strerror(ENOMEM) : "an error in this program: the proved call does not agree with the chains", console->err);
+    }
+    judgement_free(&judgement);
+    return status;
+}
+
+static int judge_region(const struct docket *docket, const struct source *region, const struct console *console) {
+    struct homology homology;
+    if (region->answer != FILDWUK_DONE)
+        return refuse_region(docket, region, NULL, console);
+    if (!homology_of(region->sheet.bytes, region->sheet.length, docket->dimension, LIMIT_LIBRARY, &homology))
+        return failed(strerror(ENOMEM), console->err);
+    int status = homology.answer != FILDWUK_DONE ? refuse_region(docket, region, &homology, console)
+                                                 : judge_sheet(docket, region, &homology, console);
+    homology_free(&homology);
+    return status;
+}
+
+/* Judges the groups of a text that has been read. */
+static int judge_mesh(struct docket *docket, const struct console *console) {
+    struct text chosen = {NULL, 0};
+    struct source region;
+    int status = find_tags(docket, console->err), all = docket->options->region.total == 0;
+    if (status == STATUS_DONE && all && !find_region(docket, &chosen))
+        status = failed(strerror(ENOMEM), console->err);
+    if (status == STATUS_DONE && !source_import(docket->options, all ? &chosen : docket->text, &region, console->err))
+        status = STATUS_FAILED;
+    else if (status == STATUS_DONE) {
+        status = judge_region(docket, &region, console);
+        source_free(&region);
+    }
+    input_free(&chosen);
+    free(docket->tags.list);
+    return status;
+}
+
+/* Says why a text is refused that is not of the form. */
+static int refuse_text(const struct options *options, const struct text *text, const struct console *console) {
+    struct source source;
+    if (!source_import(options, text, &source, console->err))
+        return STATUS_FAILED;
+    struct refusal refusal = {source.answer, options, &source, 0, 0};
+    int status = refuse(&refusal, console);
+    source_free(&source);
+    return status;
+}
+
+int judge_text(const struct options *options, const struct text *text, const struct console *console) {
+    struct mesh mesh;
+    struct mesh_fault fault;
+    struct docket docket = {options, text, &mesh, {NULL, 0}, options->has_dimension ? options->dimension : DIMENSION};
+    if (docket.dimension >= SHEET_DIMENSIONS)
+        return failed("groups have dimension 0 to 3 (fildwuk judge --help)", console->err);
+    if (options->form == FORM_PLAIN)
+        return failed("judge has no --plain (fildwuk judge --help)", console->err);
+    enum mesh_answer answer = mesh_read(text, &mesh, &fault);
+    if (answer == MESH_NO_MEMORY)
+        return failed(strerror(ENOMEM), console->err);
+    if (answer == MESH_MALFORMED)
+        return refuse_text(options, text, console);
+    int status = judge_mesh(&docket, console);
+    mesh_free(&mesh);
+    return status;
+}

@@ -1,0 +1,34 @@
+/* The physical groups of one dimension in a mesh text, and the chains that they are. */
+#ifndef PHYSICAL_H
+#define PHYSICAL_H
+
+#include <stddef.h>
+#include <stdint.h>
+#include <stdio.h>
+
+#include "input.h"
+#include "mesh.h"
+#include "options.h"
+#include "sheet.h"
+
+/* The kind of the elements of a dimension, 0 to 3. */
+uint32_t physical_kind(uint32_t dimension);
+
+/* `point`, `line`, `triangle`, `tetrahedron`, or their plural where the number is not 1. */
+const char *physical_element_name(uint32_t dimension, size_t number);
+
+/* Lists the tags of the groups of a dimension, rising: those of its elements and of its names, but for 0 and the tags of the region. Answers 0 where
+ * there is no memory. The list is to be given to free. */
+int physical_tags(const struct mesh *mesh, uint32_t dimension, const struct tags *region, struct tags *found);
+
+/* The name of a group, null where it has none. */
+const struct mesh_name *physical_name(const struct mesh *mesh, uint32_t dimension, uint32_t tag);
+
+/* Whether an element belongs to a group. */
+int physical_has(const struct mesh_element *element, uint32_t dimension, uint32_t tag);
+
+/* Adds an element to a chain of a sheet: 1 at its cell where its nodes are an even permutation of the rising ones, -1 where they are an odd one. Answers
+ * 0 where the element is no cell of the sheet. */
+int physical_add(const struct mesh *mesh, const struct mesh_element *element, const uint8_t *sheet, uint32_t dimension, int64_t *chain);
+
+#endif

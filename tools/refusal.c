@@ -1,0 +1,81 @@
+/* What is said of a refusal. */
+#include "refusal.h"
+
+#include <stdlib.h>
+
+#include "command.h"
+#include "escape.h"
+#include "fildwuk.h"
+#include "hint.h"
+#include "homology.h"
+#include "where_mesh.h"
+#include "where_sheet.h"
+
+enum { FIRST_OF_MESH = FILDWUK_MESH_MALFORMED };
+
+const char *refusal_meaning(uint32_t number) {
+    static const char *const MEANINGS[] = {
+        "done",
+        "the sheet has fewer than 16 bytes",
+        "a count exceeds the limit",
+        "an offset differs from the one required",
+        "the length differs from the one required",
+        "in some cell the vertices do not rise strictly",
+        "in some section the cells do not rise strictly",
+        "a face is missing",
+        "the dimension exceeds 3",
+        "a lent slice is too short",
+        "the chain has another length than its dimension asks for",
+        "a coefficient lies outside -32767 to 32767",
+        "the chain has a boundary",
+        "the reduction makes an entry beyond 1048575",
+        "the text is not MSH 2.2 ASCII in the form that is read, or a node number exceeds 65535",
+        "an element has another kind, another number of nodes than its kind, a node that is not listed, or a node twice",
+        "the mesh has too many cells in a dimension, the faces of its elements counted",
+    };
+    return number < sizeof MEANINGS / sizeof *MEANINGS ? MEANINGS[number] : "a refusal that this command does not know";
+}
+
+void refusal_where(const struct refusal *refusal, FILE *file) {
+    if (refusal->number >= FIRST_OF_MESH)
+        where_mesh(refusal->source->text, refusal->options, refusal->number, file);
+    else
+        where_sheet(&refusal->source->sheet, limit_cells(refusal->options->limit), refusal->number, file);
+}
+
+/* Writes what helps against a refusal, as a sentence without a line feed; nothing where nothing is known. */
+static void write_help(const struct refusal *refusal, FILE *file) {
+    uint32_t number = refusal->number;
+    if (number <= FILDWUK_LENGTH_DIFFERS || number == FILDWUK_MESH_MALFORMED)
+        hint_format(refusal->source->text, file);
+    if (number == FILDWUK_ELEMENT_FAULTY)
+        fputs("Elements are points, lines, triangles and tetrahedra of first order: mesh without Recombine and Mesh.ElementOrder", file);
+    if (number == FILDWUK_SHEET_TOO_LONG || number == FILDWUK_COUNT_EXCEEDS_LIMIT)
+        fputs(refusal->options->limit == LIMIT_HOST ? "Without --limit host the limit is 256" : "", file);
+    if (number == FILDWUK_SHEET_TOO_LONG && refusal->options->limit == LIMIT_LIBRARY)
+        fputs("Mesh more coarsely (`gmsh -clscale 30`, or -clmin with a length), or take a part (--region TAG)", file);
+}
+
+/* Writes a part of a message as a line of its own, where it is not empty. */
+static void write_line(const struct refusal *refusal, void (*write)(const struct refusal *, FILE *), FILE *err) {
+    char *bytes = NULL;
+    size_t length = 0;
+    FILE *part = open_memstream(&bytes, &length);
+    if (part == NULL)
+        return;
+    write(refusal, part);
+    if (fclose(part) == 0 && length > 0)
+        fprintf(err, "%s.\n", bytes);
+    free(bytes);
+}
+
+int refusal_tell(const struct refusal *refusal, FILE *err) {
+    fputs("fildwuk: ", err);
+    write_name(err, input_name(refusal->options->input));
+    if (refusal->has_dimension)
+        fprintf(err, ", dimension %u,", (unsigned)refusal->dimension);
+    fprintf(err, " is refused with %u: %s.\n", (unsigned)refusal->number, refusal_meaning(refusal->number));
+    write_line(refusal, refusal_where, err);
+    write_line(refusal, write_help, err);
+    return STATUS_REFUSED;
+}

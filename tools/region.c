@@ -1,0 +1,108 @@
+/* The elements of a mesh text that --region names. */
+#include "region.h"
+
+#include <errno.h>
+#include <stdlib.h>
+#include <string.h>
+
+#include "chosen.h"
+#include "escape.h"
+
+enum { NAME_SHOWN = 40, TAGS_SHOWN = 20 };
+
+int region_has(const struct tags *region, const struct mesh_element *element) {
+    return region->total == 0 || (element->has_physical && tags_have(region, element->physical));
+}
+
+static int no_memory(FILE *err) {
+    fprintf(err, "fildwuk: %s\n", strerror(ENOMEM));
+    return 0;
+}
+
+/* Makes the text with the elements of the region alone. Answers 0 where there is no memory. */
+static int choose(const struct text *text, const struct mesh *mesh, const struct tags *region, struct text *chosen) {
+    uint8_t *keep = malloc(mesh->element_total + 1);
+    for (size_t i = 0; keep != NULL && i < mesh->element_total; i++)
+        keep[i] = (uint8_t)region_has(region, &mesh->elements[i]);
+    int done = keep != NULL && chosen_text(text, mesh, keep, chosen);
+    free(keep);
+    return done;
+}
+
+/* Copies a text. Answers 0 where there is no memory. */
+static int copy(const struct text *text, struct text *chosen) {
+    *chosen = (struct text){malloc(text->length + 1), text->length};
+    if (chosen->bytes != NULL && text->length > 0)
+        memcpy(chosen->bytes, text->bytes, text->length);
+    return chosen->bytes != NULL;
+}
+
+/* Whether an element has this tag. */
+static int is_met(const struct mesh *mesh, uint32_t tag) {
+    for (size_t i = 0; i < mesh->element_total; i++)
+        if (mesh->elements[i].has_physical && mesh->elements[i].physical == tag)
+            return 1;
+    return 0;
+}
+
+/* The least tag of an element that is greater than the last one told; 0 where there is none. */
+static int next_tag(const struct mesh *mesh, const uint32_t *last, uint32_t *next) {
+    int found = 0;
+    for (size_t i = 0; i < mesh->element_total; i++) {
+        const struct mesh_element *element = &mesh->elements[i];
+        if (!element->has_physical || (last != NULL && element->physical <= *last) || (found && element->physical >= *next))
+            continue;
+        *next = element->physical;
+        found = 1;
+    }
+    return found;
+}
+
+/* Writes the names of a tag, each in quotes. */
+static void write_names(const struct text *text, const struct mesh *mesh, uint32_t tag, FILE *err) {
+    for (size_t i = 0; i < mesh->name_total; i++)
+        if (mesh->names_list[i].tag == tag) {
+            struct range name = mesh->names_list[i].name;
+            fputs(" \"", err);
+            write_escaped(err, text->bytes + name.start, name.end - name.start, NAME_SHOWN);
+            fputc('"', err);
+        }
+}
+
+/* Says that no element has a tag, and which tags there are. */
+static int missing(const struct text *text, const struct mesh *mesh, uint32_t tag, FILE *err) {
+    uint32_t last = 0, next = 0;
+    fprintf(err, "fildwuk: no element has the physical tag %u", (unsigned)tag);
+    for (int told = 0; next_tag(mesh, told == 0 ? NULL : &last, &next); told++, last = next) {
+        if (told == TAGS_SHOWN) {
+            fputs(", ..", err);
+            break;
+        }
+        fprintf(err, "%s%u", told == 0 ? "; the tags are " : ", ", (unsigned)next);
+        write_names(text, mesh, next, err);
+    }
+    fputs("\n", err);
+    return 0;
+}
+
+/* Holds that every tag is that of an element. Tags are few beside elements: each is looked for by itself. */
+static int all_met(const struct text *text, const struct mesh *mesh, const struct tags *region, FILE *err) {
+    for (size_t i = 0; i < region->total; i++)
+        if (!is_met(mesh, region->list[i]))
+            return missing(text, mesh, region->list[i], err);
+    return 1;
+}
+
+int region_choose(const struct text *text, const struct tags *region, struct text *chosen, FILE *err) {
+    struct mesh mesh;
+    struct mesh_fault fault;
+    enum mesh_answer answer = mesh_read(text, &mesh, &fault);
+    *chosen = (struct text){NULL, 0};
+    if (answer == MESH_MALFORMED)
+        return copy(text, chosen) || no_memory(err);
+    if (answer == MESH_NO_MEMORY)
+        return no_memory(err);
+    int met = all_met(text, &mesh, region, err), done = met && choose(text, &mesh, region, chosen);
+    mesh_free(&mesh);
+    return done || (met && no_memory(err));
+}
