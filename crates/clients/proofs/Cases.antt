@@ -7,7 +7,7 @@ use lib.ListN.{length, take, drop}
 use lib.Seq.{take-length, take-append-seam}
 use lib.IntN.{ℤ}
 use Rattle.limits.specs.Limits.{libraryLimit}
-use Rattle.lists.specs.Same.{every}
+use Rattle.lists.specs.Same.{every, both as bothTrue}
 use Rattle.lists.specs.Splice.{splice}
 use Rattle.trials.specs.Trial.{Answer, Called}
 use Rattle.sheet_format.specs.Starred.{hollowTriangle}

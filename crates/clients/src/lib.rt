@@ -6,10 +6,10 @@ use calls::answer::Answer;
 use fildwuk::fildwuk_coordinate_lists;
 use fildwuk::fildwuk_coordinates;
 use fildwuk::fildwuk_report;
-use library_host::library_coordinate_lists;
-use library_host::library_coordinates;
-use library_host::library_headroom;
-use library_host::library_report;
+use library_host::fildwuk_library_coordinate_lists;
+use library_host::fildwuk_library_coordinates;
+use library_host::fildwuk_library_headroom;
+use library_host::fildwuk_library_report;
 use printer::print_input;
 use printer::room::INPUT_ROOM;
 use printer::room::TEXT_ROOM;
@@ -68,7 +68,7 @@ pub fn use_library_report(sheet: &[u8], dimension: u32, report: &mut [i64], work
         ReportUsed (Numbers r left work-left) (now (sheet .entry)) dimension (now (report .entry)) (now (work .entry))
         ⌝ }
 {
-    library_report(sheet, dimension, report, work)
+    fildwuk_library_report(sheet, dimension, report, work)
 }
 
 // The library's report with its headroom for C.
@@ -89,7 +89,7 @@ pub fn use_library_headroom(
         × HeadroomUsed (now (sheet .entry)) dimension (now (report .entry)) (now (work .entry)) (now (peak .entry)) peak-left (now (bits .entry)) bits-left
         ⌝ }
 {
-    library_headroom(sheet, dimension, report, work, peak, bits)
+    fildwuk_library_headroom(sheet, dimension, report, work, peak, bits)
 }
 
 // The library's coordinates for C.
@@ -106,7 +106,7 @@ pub fn use_library_coordinates(
         CoordinatesUsed (Numbers r left work-left) (now (sheet .entry)) dimension (now (coordinates .entry)) (now (work .entry)) (now (chain .entry))
         ⌝ }
 {
-    library_coordinates(sheet, dimension, chain, coordinates, work)
+    fildwuk_library_coordinates(sheet, dimension, chain, coordinates, work)
 }
 
 // The library's coordinate lists for C.
@@ -124,7 +124,7 @@ pub fn use_library_lists(
         ListsUsed (Numbers r left work-left) (now (sheet .entry)) dimension (now (coordinates .entry)) (now (work .entry)) number (now (chains .entry))
         ⌝ }
 {
-    library_coordinate_lists(sheet, dimension, number, chains, coordinates, work)
+    fildwuk_library_coordinate_lists(sheet, dimension, number, chains, coordinates, work)
 }
 
 // The host's report.
