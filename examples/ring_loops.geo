@@ -1,0 +1,2 @@
+Merge "copper_ring.geo";
+Homology {{1},{}};
