@@ -151,12 +151,18 @@ static void write_dependence(FILE *file, const struct judgement *judgement, size
     write_side(file, judgement, i, 1);
     fputs(" = ", file);
     write_side(file, judgement, i, 0);
-    fputs(", twisted parts aside\n", file);
+    fputs(judgement->homology->order_total > 0 ? ", twisted parts aside\n" : "\n", file);
 }
 
-/* Says what the span lacks. */
+/* Says what the span lacks, or that it is not known. */
 static void write_span(FILE *file, const struct judgement *judgement) {
     size_t due = judgement->homology->rank, rank = judgement->span.rank;
+    if (!judgement->has_span) {
+        if (judgement->total != due)
+            fprintf(file, "  they are %zu, and a basis of the free %s has %zu\n", judgement->total, thing(judgement, 2), due);
+        fputs("  their numbers exceed 128 bits, so that nothing is said of what they span; judge fewer at once\n", file);
+        return;
+    }
     if (rank < due)
         fprintf(file, "  they have rank %zu, the free %s have rank %zu\n", rank, thing(judgement, 2), due);
     if (judgement->span.index != 1) {
@@ -174,10 +180,7 @@ static void write_reasons(FILE *file, const struct judgement *judgement) {
         else if (judgement->has_span && !judgement->span.independent[i])
             write_dependence(file, judgement, i);
     }
-    if (judgement->has_span)
-        write_span(file, judgement);
-    else
-        fputs("  their numbers exceed 128 bits, so that nothing is said of what they span; judge fewer at once\n", file);
+    write_span(file, judgement);
 }
 
 void judge_write_words(FILE *file, const struct text *text, const uint8_t *sheet, const struct judgement *judgement) {
