@@ -1,16 +1,25 @@
-/* Fildwuk: verified homology of conductor meshes. The host calls of documents 01 and 02.
+/* Fildwuk: verified homology of conductor meshes. The host calls of documents 01 and 02, and helpers to read and write what they take and give.
+ * fildwuk_library.h has the same calls for larger sheets. docs/SOLVER.md says what the numbers mean for a solver, docs/FORMAT.md has the formats.
  *
- * Link with libfildwuk.a: `pkg-config --cflags --libs fildwuk` after `bash install PREFIX`, or target/staticlib/ after `rt staticlib fildwuk`.
+ * Link with libfildwuk.a: `pkg-config --cflags --libs fildwuk`, or the target fildwuk::fildwuk of find_package(fildwuk) in CMake; or with the shared
+ * library, libfildwuk.so. Both have the calls of both headers, and need nothing but memcpy and memset.
  *
  * Every pointer is lent for the time of the call and not kept. A call reads `text`, `sheet` and `chain` or `chains`, and writes nothing but its
  * output: the report, the coordinates, or the sheet of an import. The output must not overlap what the call reads, and nobody else may write to any
- * of them while the call runs. No pointer may be null, also where its length is 0. The calls keep no state: they may run at the same time on several
+ * of them while the call runs. A pointer may be null where its length is 0. The calls keep no state: they may run at the same time on several
  * threads, each with its own output. They always return.
  *
  * Each call has its own work arrays on the caller's stack. 256 KiB of stack are enough for any sheet or text: how deep the calls go is bounded by
  * proof, whatever they are given, and with the frames of the library as built they take about 60 KiB. docs/SOLVER.md, "Stack", has the figures.
  *
  * Numbers stand in bytes, low byte first: 4 bytes for a coefficient of a chain, 8 for a number of a report and for a coordinate, all signed.
+ *
+ * Cells and coefficients. The cells of a dimension stand in the sheet in rising order, by their first vertex, then the next. A chain has one
+ * coefficient for each cell of its dimension, in that order, and so has a generator of a report. A cell with the vertices v0 < v1 < .. < vp is
+ * oriented in this order, and its boundary is the sum of (-1)^i times the face without vi: +1 for the face without an even-placed vertex, -1 for the
+ * face without an odd-placed one. The boundary of the edge (a, b) is b - a, that of the triangle (a, b, c) is (b, c) - (a, c) + (a, b).
+ *
+ * Orders. Each order divides the next. Twists of order 2 and 3 therefore read as one order 6: t is the number of orders, and does not count twists.
  */
 #ifndef FILDWUK_H
 #define FILDWUK_H
@@ -22,26 +31,43 @@
 extern "C" {
 #endif
 
-/* What a call answers. A refusal leaves the output untouched. The refusals are tried in the order of their numbers, save that 11 and 12 are
- * tried chain by chain. 1 to 13 are told by the calls on a sheet, 14 to 16 by the import. */
+/* The release. docs/RELEASES.md names its pivot rule. */
+#define FILDWUK_VERSION_MAJOR 1
+#define FILDWUK_VERSION_MINOR 5
+#define FILDWUK_VERSION "1.5"
+
+/* What a call answers; fildwuk_answer_text has it in words. A refusal leaves the output untouched.
+ *
+ * The order of trial: 1 to 10 in the order of their numbers, each over the whole sheet before the next; then 11 and 12 chain by chain, in each chain
+ * 11 before 12; then 13, while the reduction runs. In an import 14 over the whole text, then 15 over all elements, then 16. The calls on a sheet
+ * tell 1 to 13, of which the reports have no 10 to 12; the imports tell 14 to 16 and no other.
+ *
+ * 13 says that this dimension of this sheet has no report under this release, and nothing against the sheet. The other dimensions may be done.
+ * What to do: ask for regions that do not touch apart, since orders without a common divisor are read as their product when they stand in one sheet;
+ * or number the nodes otherwise, since how wide a reduction goes depends on the order of the cells. Both were seen to help; neither always does: an
+ * order beyond 1048575 is refused under every numbering.
+ *
+ * 16 in fildwuk_import: a count would exceed FILDWUK_CELLS, or the slice is too short; where FILDWUK_SHEET_BYTES are lent it is the count, and
+ * fildwuk_library_import takes larger meshes. 16 there: a count would exceed FILDWUK_LIBRARY_CELLS, or the slice is too short; where
+ * FILDWUK_LIBRARY_SHEET_BYTES are lent it is the count, and the mesh has to be made more coarsely or saved in part. */
 enum fildwuk_answer {
     FILDWUK_DONE = 0,
     FILDWUK_SHEET_TOO_SHORT = 1,       /* the sheet has fewer than 16 bytes */
-    FILDWUK_COUNT_EXCEEDS_LIMIT = 2,   /* a count exceeds FILDWUK_CELLS */
+    FILDWUK_COUNT_EXCEEDS_LIMIT = 2,   /* a count exceeds FILDWUK_CELLS, in the library's calls FILDWUK_LIBRARY_CELLS */
     FILDWUK_OFFSET_DIFFERS = 3,        /* an offset differs from the one required */
     FILDWUK_LENGTH_DIFFERS = 4,        /* the sheet's length differs from the one required */
     FILDWUK_VERTICES_DO_NOT_RISE = 5,  /* in some cell the vertices do not rise strictly */
     FILDWUK_CELLS_DO_NOT_RISE = 6,     /* in some section the cells do not rise strictly */
     FILDWUK_FACE_MISSING = 7,          /* a face is missing */
     FILDWUK_DIMENSION_EXCEEDS_TOP = 8, /* the dimension exceeds 3 */
-    FILDWUK_SLICE_TOO_SHORT = 9,       /* the output is too short */
-    FILDWUK_CHAIN_LENGTH_DIFFERS = 10, /* the chain has other than 4 * n bytes, or the chains have other than 4 * number * n bytes */
+    FILDWUK_SLICE_TOO_SHORT = 9,       /* the output is too short, or the work slice of a library's call */
+    FILDWUK_CHAIN_LENGTH_DIFFERS = 10, /* the chain has other than n coefficients, or the chains have other than number * n */
     FILDWUK_COEFFICIENT_EXCEEDS = 11,  /* a coefficient lies outside -32767 to 32767 */
     FILDWUK_BOUNDARY_NOT_ZERO = 12,    /* a chain is no cycle */
     FILDWUK_TOO_WIDE = 13,             /* the reduction makes an entry beyond 1048575 */
     FILDWUK_MESH_MALFORMED = 14,       /* the text is no MSH 2.2 ASCII of the form that is read, or a node number exceeds 65535 */
     FILDWUK_ELEMENT_FAULTY = 15,       /* an element has another kind, another number of nodes than its kind, an unlisted node or a node twice */
-    FILDWUK_SHEET_TOO_LONG = 16        /* the slice for the sheet is too short, or a count would exceed FILDWUK_CELLS */
+    FILDWUK_SHEET_TOO_LONG = 16        /* a count of the sheet would exceed its limit, or the slice for the sheet is too short */
 };
 
 /* The most cells that a dimension may have. */
@@ -87,13 +113,122 @@ uint32_t fildwuk_coordinate_lists(const uint8_t *sheet, size_t sheet_len, uint32
  * were; fildwuk_sheet_length tells its length. */
 uint32_t fildwuk_import(const uint8_t *text, size_t text_len, uint8_t *sheet, size_t sheet_len);
 
-/* The length in bytes of a sheet that fildwuk_import has written, from its header: section 3 starts at its offset and has 8 bytes for each cell.
- * Ask it only after FILDWUK_DONE: it reads the header, which a refused import has not written. */
+/* The answer in words, without a full stop. The text is not to be freed. */
+static inline const char *fildwuk_answer_text(uint32_t answer)
+{
+    switch (answer) {
+    case FILDWUK_DONE: return "done";
+    case FILDWUK_SHEET_TOO_SHORT: return "the sheet has fewer than 16 bytes";
+    case FILDWUK_COUNT_EXCEEDS_LIMIT: return "a count of cells exceeds the limit";
+    case FILDWUK_OFFSET_DIFFERS: return "an offset differs from the one required";
+    case FILDWUK_LENGTH_DIFFERS: return "the length of the sheet differs from the one required";
+    case FILDWUK_VERTICES_DO_NOT_RISE: return "the vertices of a cell do not rise strictly";
+    case FILDWUK_CELLS_DO_NOT_RISE: return "the cells of a dimension do not rise strictly";
+    case FILDWUK_FACE_MISSING: return "a face of a cell is missing";
+    case FILDWUK_DIMENSION_EXCEEDS_TOP: return "the dimension exceeds 3";
+    case FILDWUK_SLICE_TOO_SHORT: return "a slice lent for the output or the work is too short";
+    case FILDWUK_CHAIN_LENGTH_DIFFERS: return "a chain does not have one coefficient for each cell";
+    case FILDWUK_COEFFICIENT_EXCEEDS: return "a coefficient lies outside -32767 to 32767";
+    case FILDWUK_BOUNDARY_NOT_ZERO: return "a chain is no cycle";
+    case FILDWUK_TOO_WIDE: return "the reduction makes an entry beyond 1048575";
+    case FILDWUK_MESH_MALFORMED: return "the text is no MSH 2.2 ASCII of the form that is read, or a node number exceeds 65535";
+    case FILDWUK_ELEMENT_FAULTY: return "an element has another kind, another number of nodes than its kind, an unlisted node or a node twice";
+    case FILDWUK_SHEET_TOO_LONG: return "a count of cells would exceed the limit, or the slice lent for the sheet is too short";
+    default: return "no answer of this release";
+    }
+}
+
+/* Number i of a report or of coordinates. */
+static inline int64_t fildwuk_get_number(const uint8_t *bytes, size_t i)
+{
+    uint64_t bits = 0;
+    int k;
+    for (k = 7; k >= 0; k--)
+        bits = bits << 8 | bytes[8 * i + (size_t)k];
+    return bits > INT64_MAX ? -(int64_t)~bits - 1 : (int64_t)bits;
+}
+
+static inline void fildwuk_put_number(uint8_t *bytes, size_t i, int64_t number)
+{
+    int k;
+    for (k = 0; k < 8; k++)
+        bytes[8 * i + (size_t)k] = (uint8_t)((uint64_t)number >> (8 * k) & 255);
+}
+
+/* Coefficient i of a chain, or of chains one after another. */
+static inline int32_t fildwuk_get_coefficient(const uint8_t *chain, size_t i)
+{
+    uint32_t bits = 0;
+    int k;
+    for (k = 3; k >= 0; k--)
+        bits = bits << 8 | chain[4 * i + (size_t)k];
+    return bits > INT32_MAX ? -(int32_t)~bits - 1 : (int32_t)bits;
+}
+
+static inline void fildwuk_put_coefficient(uint8_t *chain, size_t i, int32_t coefficient)
+{
+    int k;
+    for (k = 0; k < 4; k++)
+        chain[4 * i + (size_t)k] = (uint8_t)((uint32_t)coefficient >> (8 * k) & 255);
+}
+
+/* The helpers from here on read a sheet without looking for faults: ask them of a sheet that a call has not refused with 1 to 7, or that an import
+ * has written. Before that they may read outside it. */
+
+/* The 16-bit field at a byte of the sheet. */
+static inline uint16_t fildwuk_sheet_field(const uint8_t *sheet, size_t at)
+{
+    return (uint16_t)(sheet[at] | (unsigned)sheet[at + 1] << 8);
+}
+
+/* The number of cells of a dimension: 0 for a dimension that a sheet does not have, as 4, and (uint32_t)-1 below dimension 0. */
+static inline size_t fildwuk_cell_count(const uint8_t *sheet, uint32_t dimension)
+{
+    return dimension > 3 ? 0 : fildwuk_sheet_field(sheet, 4 * (size_t)dimension);
+}
+
+/* The length of the sheet in bytes: section 3 starts at its offset and has 8 bytes for each cell. */
 static inline size_t fildwuk_sheet_length(const uint8_t *sheet)
 {
-    size_t cells = sheet[12] + 256u * (size_t)sheet[13];
-    size_t offset = sheet[14] + 256u * (size_t)sheet[15];
-    return offset + 8 * cells;
+    return fildwuk_sheet_field(sheet, 14) + 8 * fildwuk_cell_count(sheet, 3);
+}
+
+/* The vertex at a place, 0 to `dimension`, of cell `cell`, 0 to the count less 1. Vertices rise with the place. */
+static inline uint16_t fildwuk_cell_vertex(const uint8_t *sheet, uint32_t dimension, size_t cell, uint32_t place)
+{
+    size_t section = fildwuk_sheet_field(sheet, 4 * (size_t)dimension + 2);
+    return fildwuk_sheet_field(sheet, section + 2 * (cell * ((size_t)dimension + 1) + place));
+}
+
+/* What fildwuk_cell_place answers where there is no such cell. */
+#define FILDWUK_NO_CELL ((size_t)-1)
+
+/* The cell, 0 to the count less 1, with `dimension` + 1 vertices, which rise; FILDWUK_NO_CELL where there is none. */
+static inline size_t fildwuk_cell_place(const uint8_t *sheet, uint32_t dimension, const uint16_t *vertices)
+{
+    size_t low = 0, high = fildwuk_cell_count(sheet, dimension);
+    while (low < high) {
+        size_t middle = low + (high - low) / 2;
+        uint32_t place = 0;
+        while (place < dimension && fildwuk_cell_vertex(sheet, dimension, middle, place) == vertices[place])
+            place++;
+        if (fildwuk_cell_vertex(sheet, dimension, middle, place) == vertices[place])
+            return middle;
+        if (fildwuk_cell_vertex(sheet, dimension, middle, place) < vertices[place])
+            low = middle + 1;
+        else
+            high = middle;
+    }
+    return FILDWUK_NO_CELL;
+}
+
+/* The edge between two nodes, in either order. An edge that is run from its higher node to its lower one counts with the opposite sign. */
+static inline size_t fildwuk_edge_place(const uint8_t *sheet, uint16_t from, uint16_t to)
+{
+    uint16_t vertices[2];
+    vertices[0] = from < to ? from : to;
+    vertices[1] = from < to ? to : from;
+    return fildwuk_cell_place(sheet, 1, vertices);
 }
 
 #ifdef __cplusplus

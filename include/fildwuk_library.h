@@ -4,10 +4,10 @@
  * Slices are of numbers as the machine has them, aligned as their type asks: a coefficient is an int32_t, a number of a report or of coordinates an
  * int64_t. A length counts the elements of its slice; for a sheet and a text these are bytes.
  *
- * Who owns what: the caller owns every slice, lends it for the time of the call, and gets it back; a call keeps none. A call reads `sheet`, `chain` or
- * `chains` and `text`, and writes its output and `work` alone. What it writes must overlap nothing else that it is lent, and nobody else may use it
- * while the call runs. A pointer may be null where its length is 0; `peak` and `bits` may not. There is no state: calls may run at the same time on
- * several threads, each with its own output and work slice. They always return, use no heap, and take less stack than those of fildwuk.h.
+ * Who owns what: the caller owns every slice and lends it for the time of the call; a call keeps none. A call reads `sheet`, `chain` or `chains` and
+ * `text`, and writes its output and `work` alone. What it writes must overlap nothing else that it is lent, and nobody else may use it while the call
+ * runs. A pointer may be null where its length is 0; `peak` and `bits` may not. There is no state: calls may run at the same time on several threads,
+ * each with its own output and work slice. They always return, use no heap, and take no more stack than those of fildwuk.h.
  *
  * What is left in the slices:
  *

@@ -12,7 +12,8 @@ from model.sheet import PROGRAM_COUNT_LIMIT, from_facets
 ROOT = Path(__file__).resolve().parent.parent
 sys.dont_write_bytecode = True
 sys.path.insert(0, str(ROOT / "examples"))
-from sheet_tool import read_facets  # noqa: E402  (the path is set above)
+import write_msh  # noqa: E402  (the path is set above)
+from sheet_tool import read_facets  # noqa: E402
 
 
 def shown(document, text):
@@ -32,6 +33,9 @@ def facts():
     air = program_output((ROOT / "examples/air_ring.sheet").read_bytes())
     yield "README.md, the air round a ring", "\nH 1 1 0\n" in air and "\nH 2 1 0\n" in air
     yield "README.md, the twisted sector", "\nH 1 1 1 2\n" in program_output((ROOT / "examples/twisted_sector.sheet").read_bytes())
+    yield "docs/FORMAT.md, the hollow triangle", shown("docs/FORMAT.md", program_output(from_facets(meshes.hollow_triangle())))
+    plane = write_msh.text(meshes.projective_plane())
+    yield "examples/projective_plane.msh", (ROOT / "examples/projective_plane.msh").read_text(encoding="ascii") == plane
     yield "docs/GMSH.md, the projective plane", shown("docs/GMSH.md", program_output(from_facets(meshes.projective_plane())))
 
 
