@@ -58,7 +58,7 @@ def words_fault(status, words, found):
 
 def fault_of(command, case):
     """What is wrong with the command on a case, None where nothing is, and what is due."""
-    due = judge(case.region, case.dimension, case.groups)
+    due = judge(case.region, case.dimension, case.groups, case.tags)
     status, output, _ = run(command, ["-", *case.words, "--json"], case.text)
     try:
         found = json.loads(output)

@@ -6,7 +6,6 @@
 
 #include "fildwuk.h"
 #include "sheet.h"
-#include "version.h"
 #include "words.h"
 
 void json_string(const char *text, FILE *file) {
@@ -54,12 +53,17 @@ void json_refusal(const struct refusal *refusal, FILE *file) {
     fputs("}\n", file);
 }
 
-void json_begin(const uint8_t *sheet, const struct options *options, FILE *file) {
+void json_start(const uint8_t *sheet, const struct options *options, FILE *file) {
     write_head(options, file);
     fputs(", \"refusal\": 0, \"counts\": [", file);
     for (uint32_t p = 0; p < SHEET_DIMENSIONS; p++)
         fprintf(file, "%s%zu", p == 0 ? "" : ", ", sheet_count(sheet, p));
-    fputs("], \"dimensions\": [", file);
+    fputc(']', file);
+}
+
+void json_begin(const uint8_t *sheet, const struct options *options, FILE *file) {
+    json_start(sheet, options, file);
+    fputs(", \"dimensions\": [", file);
 }
 
 /* Writes a cell as a list of its vertices. */

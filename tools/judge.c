@@ -143,7 +143,10 @@ static int judge_sheet(const struct docket *docket, const struct source *region,
     int status = STATUS_FAILED;
     if (answer == JUDGEMENT_DONE) {
         status = judgement.together == TOGETHER_BASIS ? STATUS_DONE : STATUS_REFUSED;
-        (docket->options->form == FORM_JSON ? judge_write_json : judge_write_words)(console->out, docket->text, region->sheet.bytes, &judgement);
+        if (docket->options->form == FORM_JSON)
+            judge_write_json(console->out, docket->options, docket->text, region->sheet.bytes, &judgement);
+        else
+            judge_write_words(console->out, docket->text, region->sheet.bytes, &judgement);
     } else {
         failed(answer == JUDGEMENT_NO_MEMORY ? strerror(ENOMEM) : "an error in this program: the proved call does not agree with the chains", console->err);
     }

@@ -147,8 +147,8 @@ def add_multiples(groups, orders, said):
             break
 
 
-def judge(region, p, groups):
-    """What is said of the groups on the region with these facets."""
+def judge(region, p, groups, tags):
+    """What is said of the groups on the region with these facets and the tags of --region."""
     data = from_facets(region)
     sheet = parse(data, LIBRARY_COUNT_LIMIT)
     report = homology.report(data, p)
@@ -165,7 +165,7 @@ def judge(region, p, groups):
     index = smith_product(rows)
     basis = len(cycles) == len(groups) == report.rank == ranks[-1] and index == 1
     return {
-        "counts": [sheet.count(q) for q in range(4)], "dimension": p, "free": report.rank, "orders": report.orders,
+        "region": tags, "refusal": 0, "counts": [sheet.count(q) for q in range(4)], "dimension": p, "free": report.rank, "orders": report.orders,
         "groups": [{"tag": group.tag, "name": group.name, "elements": len(group.elements), "cycle": "coordinates" in one, **one}
                    for group, one in zip(groups, said)],
         "rank": ranks[-1], "index": index, "relations": relations, "basis": BASIS if basis else NO_BASIS,
