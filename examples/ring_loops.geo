@@ -1,2 +1,0 @@
-Merge "copper_ring.geo";
-Homology {{1},{}};
