@@ -13,14 +13,17 @@ from command.told import object_of
 from command.where import of_sheet, of_text
 from compare_gmsh import damaged, due_answers, stored
 from make_sheets import fault_sheets, random_sheets
-from model import mesh_cases, mesh_texts
+from model import mesh_cases, mesh_texts, meshes
 from model.mesh import import_mesh
-from model.sheet import LIBRARY_COUNT_LIMIT, PROGRAM_COUNT_LIMIT, longest, refusal
+from model.sheet import LIBRARY_COUNT_LIMIT, PROGRAM_COUNT_LIMIT, from_facets, longest, refusal
 
 LIMITS = {"library": LIBRARY_COUNT_LIMIT, "host": PROGRAM_COUNT_LIMIT}
 SAVE = "`gmsh FILE -save -format msh22 -o NEW.msh` writes it as MSH 2.2 ASCII"
 RING = Path("examples/copper_ring.msh").read_bytes()
 GROUPS = Path("tests/meshes/groups.msh").read_bytes()
+
+# A sheet with an order beyond the entry limit.
+TOO_WIDE = from_facets(meshes.tower(20))
 
 # The line that helps, by the first bytes of an input.
 STARTS = {
@@ -109,9 +112,9 @@ def refused_inputs(rng):
     """Inputs by name with a limit, a region and the refusal due; those that are accepted are left out."""
     texts = {name: text for name, (text, _) in mesh_cases.damaged(rng).items()}
     texts.update((f"random {i}", text) for i, (text, _) in enumerate(mesh_texts.random_texts(rng, 600)))
-    meshes = {line.name: stored(line.name) for line in due_answers()}
-    texts.update(meshes)
-    texts.update(rng.sample(list(damaged(rng, meshes)), 300))
+    kept = {line.name: stored(line.name) for line in due_answers()}
+    texts.update(kept)
+    texts.update(rng.sample(list(damaged(rng, kept)), 300))
     texts.update({**fault_sheets(), **random_sheets(rng, 100), "no bytes": b"", "15 bytes": bytes(15), "zeros": bytes(70000)})
     for name, data in texts.items():
         for limit, most in LIMITS.items():
@@ -186,12 +189,25 @@ def check_regions(driver):
         yield "a text that is not of the form tells 14", ran[2].lines()
 
 
+def check_too_wide(driver):
+    """Yields what differs in what is said of 13, in words and in the other forms, by name."""
+    head = "fildwuk: standard input, dimension 1, is refused with 13: the reduction makes an entry beyond 1048575."
+    advice = "Parts that do not touch, asked for apart (--region TAG), or another numbering of the nodes may stay within it."
+    forms = {"words": [], "plain": ["--plain"], "JSON": ["--json"]}
+    ran = in_process([(["report", "--dimension", "1", *words], TOO_WIDE) for words in forms.values()], driver)
+    for name, found in zip(forms, ran):
+        yield f"13 in {name}", None if found.status == REFUSED and found.lines() == [head, advice] else found
+    yield "13 told in words", None if ran[0].output.endswith(b".\nDimension 1: refused with 13.\n") else ran[0].output
+    yield "13 told in JSON", None if object_of(ran[2].output)["dimensions"] == [{"dimension": 1, "refusal": 13}] else ran[2].output
+
+
 def main():
     """Exits with 1 where something differs."""
     parser = argparse.ArgumentParser(description=__doc__, formatter_class=argparse.RawDescriptionHelpFormatter)
     parser.add_argument("--driver", type=Path, default=DRIVER, metavar="FILE", help="the built driver (target/host/command_driver)")
     options = parser.parse_args()
-    found = [*check_where(random.Random(12), options.driver), *check_hints(options.driver), *check_regions(options.driver)]
+    found = [*check_where(random.Random(12), options.driver), *check_hints(options.driver), *check_regions(options.driver),
+             *check_too_wide(options.driver)]
     faults = [(name, fault) for name, fault in found if fault is not None]
     for name, fault in faults[:40]:
         print(f"not as due: {name}: {fault}")
