@@ -146,7 +146,7 @@ static int judge_sheet(const struct docket *docket, const struct source *region,
         if (docket->options->form == FORM_JSON)
             judge_write_json(console->out, docket->options, docket->text, region->sheet.bytes, &judgement);
         else
-            judge_write_words(console->out, docket->text, region->sheet.bytes, &judgement);
+            judge_write_words(console->out, docket->options, docket->text, region->sheet.bytes, &judgement);
     } else {
         failed(answer == JUDGEMENT_NO_MEMORY ? strerror(ENOMEM) : "an error in this program: the proved call does not agree with the chains", console->err);
     }

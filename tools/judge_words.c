@@ -183,7 +183,17 @@ static void write_reasons(FILE *file, const struct judgement *judgement) {
     write_span(file, judgement);
 }
 
-void judge_write_words(FILE *file, const struct text *text, const uint8_t *sheet, const struct judgement *judgement) {
+/* Says what helps where a group is not in the region and the region was not named: without a name it is what is not judged. */
+static void write_hint(FILE *file, const struct options *options, const struct judgement *judgement) {
+    int outside = 0;
+    for (size_t i = 0; i < judgement->total; i++)
+        outside |= judgement->groups[i].verdict == VERDICT_OUTSIDE;
+    if (outside && options->region.total == 0)
+        fprintf(file, "the region is all elements but those of the groups judged: name %sthe region by --region\n",
+                options->tags.total == 0 ? "the groups by their tags, or " : "");
+}
+
+void judge_write_words(FILE *file, const struct options *options, const struct text *text, const uint8_t *sheet, const struct judgement *judgement) {
     write_region(file, sheet, judgement);
     for (size_t i = 0; i < judgement->total; i++) {
         write_group(file, text, judgement, &judgement->groups[i]);
@@ -195,4 +205,5 @@ void judge_write_words(FILE *file, const struct text *text, const uint8_t *sheet
     }
     fprintf(file, "together: %s the free %s\n", judgement->together == TOGETHER_NO_BASIS ? "no basis of" : "not settled whether a basis of", thing(judgement, 2));
     write_reasons(file, judgement);
+    write_hint(file, options, judgement);
 }
