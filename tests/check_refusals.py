@@ -1,6 +1,6 @@
 #!/usr/bin/env python3
-"""Holds what fildwuk says of a refusal to the model: where the fault stands, on texts and sheets with planted faults and on damaged ones, what helps, and
-the same in JSON. Runs in process, built with sanitizers."""
+"""Holds what fildwuk says of a refusal to the model: where the fault stands, on texts and sheets with planted faults and on damaged ones, what helps,
+and the same in JSON. Runs in process, built with sanitizers."""
 
 import argparse
 import random
@@ -8,7 +8,7 @@ import re
 from collections import Counter
 from pathlib import Path
 
-from command.runs import DONE, DRIVER, FAILED, REFUSED, in_process
+from command.runs import DONE, DRIVER, FAILED, REFUSED, in_process, is_mesh
 from command.told import object_of
 from command.where import of_sheet, of_text
 from compare_gmsh import damaged, due_answers, stored
@@ -93,7 +93,7 @@ def agrees(parts, line):
 
 def wrong(name, data, limit, region, ran, as_json):
     """What differs from what is due for a refused input."""
-    lines, mesh = ran.lines(), data[:1] == b"$"
+    lines, mesh = ran.lines(), is_mesh(data)
     number = object_of(as_json.output)["refusal"]
     parts = of_text(data, number, LIMITS[limit], region) if mesh else (of_sheet(data, number, LIMITS[limit]),)
     if ran.status != REFUSED or not lines[0].startswith(f"fildwuk: standard input is refused with {number}: "):
@@ -118,7 +118,7 @@ def refused_inputs(rng):
     texts.update({**fault_sheets(), **random_sheets(rng, 100), "no bytes": b"", "15 bytes": bytes(15), "zeros": bytes(70000)})
     for name, data in texts.items():
         for limit, most in LIMITS.items():
-            number = import_mesh(data, most, longest(most))[0] if data[:1] == b"$" else refusal(data, most)
+            number = import_mesh(data, most, longest(most))[0] if is_mesh(data) else refusal(data, most)
             if number:
                 yield name, data, limit, (), number
 
@@ -129,6 +129,7 @@ def regions(rng):
     sound, faulty = [b"2 2 7 0", ring], [b"2 2 8 0", [(1, 2, 9999)]]
     for name, first, second, region, number in (
             ("a fault in the region", sound, faulty, (8,), 15), ("a fault in both", faulty, faulty, (7, 8), 15),
+            ("faults in the region and outside", [b"2 2 7 0", [(1, 2, 9998)] * 9], faulty, (8,), 15),
             ("a fault outside", sound, faulty, (7,), 0), ("too many in the region", sound, [b"2 2 8 0", large], (8,), 16),
             ("too many outside", sound, [b"2 2 8 0", large], (7,), 0), ("too many in both", [b"2 2 7 0", large], [b"2 2 8 0", ring], (7, 8), 16)):
         lines = [(tags, cell) for tags, cells in (first, second) for cell in cells]

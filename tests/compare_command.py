@@ -1,13 +1,13 @@
 #!/usr/bin/env python3
-"""Holds `fildwuk report` to the model and to the program: on sheets and mesh texts, sound and damaged, at both limits, as plain lines, which are those of
-the program byte for byte, as JSON and in words. Runs in process, built with sanitizers."""
+"""Holds `fildwuk report` to the model and to the program: on sheets and mesh texts, sound and damaged, on regions, at both limits, as plain lines, which
+are those of the program byte for byte, as JSON and in words. Runs in process, built with sanitizers."""
 
 import argparse
 import random
 import subprocess
 from pathlib import Path
 
-from command.runs import DONE, DRIVER, REFUSED, in_process
+from command.runs import DONE, DRIVER, REFUSED, in_process, is_mesh
 from command.told import Dimension, from_json, from_words, head, object_of
 from command.where import Fault, fault_of, first_tag, read_text
 from compare_gmsh import due_answers, stored
@@ -30,7 +30,7 @@ TOO_WIDE = from_facets(meshes.tower(20))
 
 def sheet_of(data, limit, region):
     """The answer of the import to a mesh text, 0 for a sheet, and the sheet."""
-    if data[:1] != b"$":
+    if not is_mesh(data):
         return 0, data
     return region_of(data, limit, region) if region else import_mesh(data, limit, longest(limit))
 
@@ -115,7 +115,8 @@ class Case:
         if any(f"{NAME} is refused with {number}: " not in ran.lines()[0] for ran in (plain, as_json, words)):
             yield "message of a refusal"
         found = object_of(as_json.output)
-        if (found["refusal"], found["limit"]) != (number, LIMITS[self.limit]) or set(found) != {"fildwuk", "limit", "region", "refusal", "meaning", "where"}:
+        names = {"fildwuk", "limit", "region", "refusal", "meaning", "where"}
+        if (found["refusal"], found["limit"]) != (number, LIMITS[self.limit]) or set(found) != names:
             yield "object of a refusal"
 
     def wrong_json(self, sheet, due, ran):
@@ -124,7 +125,8 @@ class Case:
         if set(found) != {"fildwuk", "limit", "region", "refusal", "counts", "dimensions"}:
             return ["names of the object"]
         right = (found["limit"], found["region"], found["refusal"], found["counts"]) == (LIMITS[self.limit], self.region, 0, counts)
-        return ([] if right else ["head of the object"]) + ([] if [from_json(part) for part in found["dimensions"]] == due else ["dimensions of the object"])
+        same = [from_json(part) for part in found["dimensions"]] == due
+        return ([] if right else ["head of the object"]) + ([] if same else ["dimensions of the object"])
 
     def wrong_words(self, sheet, due, ran):
         """What differs in the words."""
@@ -152,6 +154,7 @@ def sheets(rng, count):
     found.update(list(fault_sheets().items())[::3])
     found.update(random_sheets(rng, count))
     found.update({"no bytes": b"", "a byte": b"\0", "zeros": bytes(70000)})
+    found.update({f"{count} vertices": from_facets([(v,) for v in range(count)]) for count in (35, 36, 37)})
     return {name: data for name, data in found.items() if quick(data)}
 
 
@@ -160,7 +163,7 @@ def texts(rng, count):
     found = {line.name: stored(line.name) for line in due_answers()}
     found.update((name, text) for name, (text, _) in rng.sample(list(mesh_cases.damaged(rng).items()), 60))
     found.update((f"random text {i}", text) for i, (text, _) in enumerate(mesh_texts.random_texts(rng, count)))
-    return {name: text for name, text in found.items() if text[:1] == b"$"}
+    return {name: text for name, text in found.items() if is_mesh(text)}
 
 
 def cases(rng, inputs):
@@ -169,7 +172,7 @@ def cases(rng, inputs):
         for limit in LIMITS:
             yield Case(name, data, limit)
         yield Case(name, data, rng.choice(list(LIMITS)), rng.randrange(DIMENSIONS))
-        tags = tags_of(data) if data[:1] == b"$" else []
+        tags = tags_of(data) if is_mesh(data) else []
         if tags:
             yield Case(name, data, "library", region=rng.sample(tags, rng.randint(1, min(3, len(tags)))))
     yield Case("tower 20", TOO_WIDE, "library", 1)
@@ -206,9 +209,8 @@ def main():
         for fault in faults:
             print(f"{case.name}, limit {case.limit}, dimensions {list(case.dimensions)}, region {case.region}: {fault}")
     wrong += count_beside_program(tried, options.driver, options.program)
-    print(f"{sum(bool(case.region) for case in made)} regions")
     lost = {0, 1, 2, 3, 4, 5, 6, 7, 13, 14, 15, 16} - told
-    print(f"{len(made)} cases, {len(tried)} sheets beside the program, {wrong} differ" + (f", never due: {lost}" if lost else ""))
+    print(f"{len(made)} cases, {sum(bool(case.region) for case in made)} with a region, {len(tried)} sheets beside the program, {wrong} differ" + (f", never due: {lost}" if lost else ""))
     raise SystemExit(1 if wrong or lost else 0)
 
 

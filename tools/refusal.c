@@ -15,7 +15,9 @@ enum { FIRST_OF_MESH = FILDWUK_MESH_MALFORMED };
 
 /* The header speaks of slices in 16, which the command always lends long enough. */
 const char *refusal_meaning(uint32_t number) {
-    return number == FILDWUK_SHEET_TOO_LONG ? "a count of cells would exceed the limit, the faces of the elements counted" : fildwuk_answer_text(number);
+    if (number == FILDWUK_SHEET_TOO_LONG)
+        return "a count of cells would exceed the limit, the faces of the elements counted";
+    return fildwuk_answer_text(number);
 }
 
 void refusal_where(const struct refusal *refusal, FILE *file) {

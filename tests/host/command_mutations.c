@@ -72,7 +72,8 @@ static void change_bytes(struct text *text) {
 
 /* Puts another number in place of a word of digits. */
 static void change_number(struct text *text) {
-    static const char *const NUMBERS[] = {"0", "1", "2", "3", "4", "5", "7", "15", "256", "65535", "65536", "999999999", "1000000000", "007", "-1", "1e3"};
+    static const char *const NUMBERS[] = {"0",   "1",     "2",     "3",         "4",          "5",   "7",  "15",
+                                          "256", "65535", "65536", "999999999", "1000000000", "007", "-1", "1e3"};
     size_t at = below(text->length + 1);
     while (at < text->length && (text->bytes[at] < '0' || text->bytes[at] > '9'))
         at++;
@@ -219,8 +220,8 @@ static void hold_import(const struct text *text) {
     answers[answer]++;
     struct ran ran = run(command_find("import"), 1, words, text);
     hold_reader(text, answer);
-    if (answer == FILDWUK_DONE ? ran.status != STATUS_DONE || ran.out_length != fildwuk_sheet_length(sheet) || memcmp(ran.out, sheet, ran.out_length) != 0
-                               : ran.status != STATUS_REFUSED || ran.out_length != 0)
+    size_t due = answer == FILDWUK_DONE ? fildwuk_sheet_length(sheet) : 0;
+    if (ran.status != (answer == FILDWUK_DONE ? STATUS_DONE : STATUS_REFUSED) || ran.out_length != due || memcmp(ran.out, sheet, due) != 0)
         fail(text, "import differs from the proved import");
     if ((answer == FILDWUK_MESH_MALFORMED || answer == FILDWUK_ELEMENT_FAULTY) && !says(&ran, "\nLine ") && !says(&ran, "\nThe "))
         fail(text, "14 or 15 does not say where");
