@@ -10,7 +10,7 @@ from pathlib import Path
 
 from command.runs import DONE, DRIVER, FAILED, REFUSED, in_process, is_mesh
 from command.told import object_of
-from command.where import of_sheet, of_text
+from command.where import escaped, of_sheet, of_text
 from compare_gmsh import damaged, due_answers, stored
 from make_sheets import fault_sheets, random_sheets
 from model import mesh_cases, mesh_texts, meshes
@@ -56,6 +56,13 @@ QUIET = [b"solidarity", b"\x1f", b"$MeshFormat", b"$MeshFormat\n", b"$MeshFormat
          b"$MeshFormat\n4.1\x1b[2J 0 8\n", b"$MeshFormat\n2.20 0 8\n", b"$MeshFormat\n4.1 2 8\n", b"$MeshFormat\n2.2 2 8\n", b"$NOD",
          b"$MeshFormat\n2.2 0 8\n$Nodes\n$ParametricNodes\n", RING + b"$NodeData\n", RING[:-1], b"x" + RING, b" $MeshFormat\n4.1 0 8\n",
          RING.replace(b"\n1 4 2", b"\n1 4 x", 1)]
+
+# Bytes that are shown or not: letters of two to four bytes, control characters in UTF-8, letters that are written too long or cut, surrogates, beyond the
+# last character, and characters that turn the direction or are not seen.
+ODD = [b"\xc3\xbc", b"\xe4\xb8\xad", b"\xf0\x9f\x98\x80", b"\xf4\x8f\xbf\xbd", b"\xc2\x9b", b"\xc2\x80", b"\xc2\xa0", b"\xc0\x80", b"\xc1\xbf",
+       b"\xe0\x80\x9b", b"\xe0\x9f\xbf", b"\xf0\x80\x80\x9b", b"\xf0\x8f\xbf\xbf", b"\xc3", b"\xe4\xb8", b"\xf0\x9f\x98", b"\xed\xa0\x80", b"\xed\x9f\xbf",
+       b"\xee\x80\x80", b"\xf4\x90\x80\x80", b"\xf5\x80\x80\x80", b"\xe2\x80\xae", b"\xe2\x80\x8b", b"\xe2\x80\x90", b"\xe2\x81\xa6", b"\xe2\x80\xa8",
+       b"\xd8\x9c", b"\xef\xbb\xbf", b"\x7f", b"\x1b[2J", b"\\x1b"]
 
 FIRST_ORDER = "Elements are points, lines, triangles and tetrahedra of first order: mesh without Recombine and Mesh.ElementOrder"
 COARSER = "Mesh more coarsely (`gmsh -clscale 30`, or -clmin with a length), or take a part (--region TAG)"
@@ -190,6 +197,16 @@ def check_regions(driver):
         yield "a text that is not of the form tells 14", ran[2].lines()
 
 
+def check_escapes(rng, driver):
+    """Yields what differs in how odd bytes of a line are shown: control characters, what is no UTF-8, and long lines."""
+    lines = [bytes([byte]) for byte in range(256) if byte not in b"\n\r"] + ODD
+    lines += [b"".join(rng.choice([b"a", *ODD]) for _ in range(rng.randint(1, 40))) for _ in range(300)]
+    ran = in_process([(["import"], b"$MeshFormat\n" + line + b"\n") for line in lines], driver)
+    for line, found in zip(lines, ran):
+        due = f"Line 2 is not of the form (wanted: 2.2 0 and a number): {escaped(line)}."
+        yield f"the line {line!r}", None if found.lines()[1:2] == [due] else found.lines()
+
+
 def check_too_wide(driver):
     """Yields what differs in what is said of 13, in words and in the other forms, by name."""
     head = "fildwuk: standard input, dimension 1, is refused with 13: the reduction makes an entry beyond 1048575."
@@ -208,7 +225,7 @@ def main():
     parser.add_argument("--driver", type=Path, default=DRIVER, metavar="FILE", help="the built driver (target/host/command_driver)")
     options = parser.parse_args()
     found = [*check_where(random.Random(12), options.driver), *check_hints(options.driver), *check_regions(options.driver),
-             *check_too_wide(options.driver)]
+             *check_too_wide(options.driver), *check_escapes(random.Random(13), options.driver)]
     faults = [(name, fault) for name, fault in found if fault is not None]
     for name, fault in faults[:40]:
         print(f"not as due: {name}: {fault}")
