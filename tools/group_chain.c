@@ -1,25 +1,34 @@
 /* The chain that a physical group is on a region. */
 #include "group_chain.h"
 
+#include <stdlib.h>
 #include <string.h>
 
 #include "physical.h"
 
-/* Finds the chain of a group. Answers 0 where an element is no cell, with the first such line. */
-static int sum_elements(struct chain_region region, struct judged *judged, int64_t *chain) {
-    int within = 1;
-    memset(chain, 0, region.cells * sizeof *chain);
+/* Adds an element to the chain of its group. */
+static void add_element(struct chain_region region, const struct mesh_element *element, struct judged *judged, int64_t *sum) {
+    judged->elements++;
+    if (physical_add(region.mesh, element, region.sheet, region.dimension, sum) || judged->verdict == VERDICT_OUTSIDE)
+        return;
+    judged->verdict = VERDICT_OUTSIDE;
+    judged->line = element->line;
+}
+
+int chain_sum(struct chain_region region, const struct tags *tags, struct judged *groups, int64_t *sums) {
+    struct physical_index index;
+    if (!physical_index(tags, &index))
+        return 0;
+    for (size_t i = 0; i < tags->total; i++)
+        groups[i].verdict = VERDICT_BOUNDS;
     for (size_t i = 0; i < region.mesh->element_total; i++) {
         const struct mesh_element *element = &region.mesh->elements[i];
-        if (!physical_has(element, region.dimension, judged->tag))
-            continue;
-        judged->elements++;
-        if (physical_add(region.mesh, element, region.sheet, region.dimension, chain) || !within)
-            continue;
-        judged->line = element->line;
-        within = 0;
+        size_t place = physical_group(&index, element, region.dimension);
+        if (place != SIZE_MAX)
+            add_element(region, element, &groups[place], sums + place * region.cells);
     }
-    return within;
+    free(index.places);
+    return 1;
 }
 
 /* Tells the first cell of a dimension where a number is beyond the limit either way. Answers 0 where there is none. */
@@ -57,17 +66,15 @@ static int is_closed(struct chain_region region, const int64_t *chain, int64_t *
     return !find_beyond(region, region.dimension - 1, boundary, 0, cell);
 }
 
-void chain_find(struct chain_region region, struct judged *judged, int64_t *room, int32_t *chain) {
-    int64_t *boundary = room + FILDWUK_LIBRARY_CELLS;
-    if (!sum_elements(region, judged, room)) {
-        judged->verdict = VERDICT_OUTSIDE;
+void chain_settle(struct chain_region region, struct judged *judged, const int64_t *sum, int64_t *boundary, int32_t *chain) {
+    if (judged->verdict == VERDICT_OUTSIDE)
         return;
-    }
-    if (find_beyond(region, region.dimension, room, CHAIN_COEFFICIENT_MOST, &judged->cell)) {
+    if (find_beyond(region, region.dimension, sum, CHAIN_COEFFICIENT_MOST, &judged->cell)) {
         judged->verdict = VERDICT_LARGE;
         return;
     }
     for (size_t i = 0; i < region.cells; i++)
-        chain[i] = (int32_t)room[i];
-    judged->verdict = is_closed(region, room, boundary, &judged->cell) ? VERDICT_BOUNDS : VERDICT_OPEN;
+        chain[i] = (int32_t)sum[i];
+    if (!is_closed(region, sum, boundary, &judged->cell))
+        judged->verdict = VERDICT_OPEN;
 }

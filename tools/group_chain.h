@@ -5,15 +5,12 @@
 #include <stddef.h>
 #include <stdint.h>
 
-#include "fildwuk_library.h"
 #include "judgement.h"
 #include "mesh.h"
+#include "options.h"
 
 /* The greatest absolute value of a coefficient that the proved calls take. */
 #define CHAIN_COEFFICIENT_MOST 32767
-
-/* The slots that chain_find uses: a chain and its boundary. */
-#define CHAIN_ROOM (2 * FILDWUK_LIBRARY_CELLS)
 
 /* What groups are judged on: the mesh that has them, the sheet of the region and its length, the dimension and its number of cells. */
 struct chain_region {
@@ -23,8 +20,13 @@ struct chain_region {
     uint32_t dimension;
 };
 
-/* Finds the chain of the group with judged->tag, how many elements it has, and the verdict: VERDICT_OUTSIDE, VERDICT_LARGE, VERDICT_OPEN, each with its
- * place, or VERDICT_BOUNDS for any cycle. `room` has CHAIN_ROOM slots; the chain has `cells` and is written after the last two verdicts. */
-void chain_find(struct chain_region region, struct judged *judged, int64_t *room, int32_t *chain);
+/* Adds up the elements of the groups with these tags, in one pass over the mesh: `sums` has a chain of `cells` slots, all 0, for each group. Each group
+ * gets its number of elements, and its verdict: VERDICT_OUTSIDE with the line of its first element that is no cell, else VERDICT_BOUNDS. Answers 0 where
+ * there is no memory. */
+int chain_sum(struct chain_region region, const struct tags *tags, struct judged *groups, int64_t *sums);
+
+/* Settles whether a chain within the region is a cycle: VERDICT_LARGE or VERDICT_OPEN, each with its place, else the verdict stays. The coefficients are
+ * put into `chain` where they are not too large. `boundary` has FILDWUK_LIBRARY_CELLS slots. */
+void chain_settle(struct chain_region region, struct judged *judged, const int64_t *sum, int64_t *boundary, int32_t *chain);
 
 #endif

@@ -100,21 +100,15 @@ static int find_tags(struct docket *docket, FILE *err) {
     return status;
 }
 
-/* Marks the elements that are not of the groups judged. */
-static uint8_t *mark_others(const struct docket *docket) {
-    uint8_t *keep = calloc(docket->mesh->element_total + 1, 1);
-    for (size_t i = 0; keep != NULL && i < docket->mesh->element_total; i++) {
-        const struct mesh_element *element = &docket->mesh->elements[i];
-        int judged = element->kind == physical_kind(docket->dimension) && element->has_physical && tags_have(&docket->tags, element->physical);
-        keep[i] = !judged;
-    }
-    return keep;
-}
-
-/* Finds the text of the region: of the elements that are not of the groups judged, where --region is not given. Answers 0 where there is no memory. */
+/* Finds the text of the region where --region is not given: with the elements that are not of the groups judged. Answers 0 where there is no memory. */
 static int find_region(const struct docket *docket, struct text *chosen) {
-    uint8_t *keep = mark_others(docket);
-    int done = keep != NULL && chosen_text(docket->text, docket->mesh, keep, chosen);
+    struct physical_index index = {NULL, 0};
+    uint8_t *keep = calloc(docket->mesh->element_total + 1, 1);
+    int done = keep != NULL && physical_index(&docket->tags, &index);
+    for (size_t i = 0; done && i < docket->mesh->element_total; i++)
+        keep[i] = physical_group(&index, &docket->mesh->elements[i], docket->dimension) == SIZE_MAX;
+    done = done && chosen_text(docket->text, docket->mesh, keep, chosen);
+    free(index.places);
     free(keep);
     return done;
 }

@@ -158,18 +158,25 @@ static int lend(const struct tags *tags, size_t cells, struct judgement *judgeme
     return judgement->groups != NULL && judgement->chains != NULL && judgement->coordinates != NULL && judgement->span.independent != NULL;
 }
 
+/* Finds the chains of the groups, and which are cycles. Answers 0 where there is no memory. */
+static int find_chains(struct chain_region region, const struct tags *tags, struct judgement *judgement) {
+    int64_t boundary[FILDWUK_LIBRARY_CELLS], *sums = calloc(tags->total * region.cells + 1, sizeof *sums);
+    int done = sums != NULL && chain_sum(region, tags, judgement->groups, sums);
+    for (size_t i = 0; done && i < tags->total; i++) {
+        judgement->groups[i].tag = tags->list[i];
+        judgement->groups[i].name = physical_name(region.mesh, region.dimension, tags->list[i]);
+        chain_settle(region, &judgement->groups[i], sums + i * region.cells, boundary, judgement->chains + i * region.cells);
+    }
+    free(sums);
+    return done;
+}
+
 enum judgement_answer judgement_make(const struct mesh *mesh, const uint8_t *sheet, size_t length, const struct homology *homology,
                                      const struct tags *tags, struct judgement *judgement) {
     struct chain_region region = {mesh, sheet, length, homology->cells, homology->dimension};
-    int64_t room[CHAIN_ROOM];
     *judgement = (struct judgement){.homology = homology};
-    if (!lend(tags, region.cells, judgement))
+    if (!lend(tags, region.cells, judgement) || !find_chains(region, tags, judgement))
         return JUDGEMENT_NO_MEMORY;
-    for (size_t i = 0; i < tags->total; i++) {
-        judgement->groups[i].tag = tags->list[i];
-        judgement->groups[i].name = physical_name(mesh, region.dimension, tags->list[i]);
-        chain_find(region, &judgement->groups[i], room, judgement->chains + i * region.cells);
-    }
     enum judgement_answer answer = find_coordinates(region, judgement);
     if (answer != JUDGEMENT_DONE)
         return answer;
