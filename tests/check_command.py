@@ -114,6 +114,8 @@ def word_facts(command):
     yield "a file named as a command", command.run("./import", "--plain").output.startswith(b"H 0 1 0\n")
     yield "tags before the file", done(command.run("import", "--region", "1", RING), COARSE_RING)
     yield "tags twice", done(command.run("import", RING, "--region", "1", "--region", "1"), COARSE_RING)
+    plain, grouped = command.run(RING, "--plain"), command.run(RING, "--plain", "--groups", "groups.msh")
+    yield "plain lines with groups", plain.output == grouped.output and grouped.errors.startswith(b'group 2 "H_1{0}1": ') and grouped.status == 0
     yield "a dimension beyond 3", command.run("report", RING, "--dimension", "4").errors.endswith(b" is refused with 8: the dimension exceeds 3.\n")
 
 
