@@ -204,6 +204,10 @@ def replacing_facts(command):
     new.write_bytes(OLD)
     written = done(command.run("import", RING, "-o", "link.sheet"), b"")
     yield "a link stays a link", written and (command.folder / "link.sheet").is_symlink() and new.read_bytes() == COARSE_RING
+    (command.folder / "lost.sheet").symlink_to("found.sheet")
+    written = done(command.run("import", RING, "-o", "lost.sheet"), b"")
+    yield "a link to nothing stays a link", written and (command.folder / "found.sheet").read_bytes() == COARSE_RING and os.path.islink(
+        command.folder / "lost.sheet")
     yield "no temporary file is left", not any(".sheet." in name for name in command.names())
 
 
