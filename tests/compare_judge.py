@@ -21,6 +21,8 @@ from model.sheet import closure
 
 ROOT = Path(__file__).resolve().parent.parent
 COMMAND = ROOT / "target/host/fildwuk"
+KINDS = ("a basis", "index", "dependent", "multiple", "multiple up to a twisted part", "divisible", "divisible up to a twisted part", "outside", "open",
+         "bounds", "twisted", "free")
 MESHES = ROOT / "tests/meshes"
 
 
@@ -35,10 +37,22 @@ def too_many(facets):
     return any(len(section) > 256 for section in closure(facets))
 
 
+def multiple_due(group, thing):
+    """The words on what a group is a multiple of, none where it is none."""
+    if "times" in group:
+        times = {1: "the same as", -1: "the opposite of"}.get(group["times"], f"{group['times']} times")
+        return f"free, {times} group {group['of']}{'' if group['exactly'] else ' up to a twisted part'}"
+    if group.get("divisor", 0) > 1:
+        end = "" if group["divides"] else " up to a twisted part"
+        return f"free, {group['divisor']} times a {thing}{end}"
+    return ""
+
+
 def words_fault(status, words, found):
     """What is wrong with the words, None where they say what the object says."""
     lines = words.splitlines()
     basis = [line for line in lines if line.startswith("together: a basis")]
+    thing = ["component", "loop", "cavity", "closed volume"][found["dimension"]]
     if status != (0 if found["basis"] else 1) or len(basis) != found["basis"]:
         return "status or basis"
     for group, line in zip(found["groups"], lines[1:]):
@@ -47,7 +61,7 @@ def words_fault(status, words, found):
         name = "" if group["name"] is None else f' "{group["name"]}"'
         if not line.startswith(f"group {group['tag']}{name}, {group['elements']} ") or said not in line:
             return "verdict"
-        if "times" in group and abs(group["times"]) > 1 and f"{group['times']} times group {group['of']}" not in line:
+        if multiple_due(group, thing) not in line:
             return "multiple"
     if not found["basis"] and found["index"] > 1 and f"  they have index {found['index']} " not in words:
         return "index"
@@ -87,6 +101,9 @@ def compare_random(command, count, seed):
         for group in due["groups"]:
             met[group["verdict"]] += 1
             met["multiple"] += "times" in group
+            met["multiple up to a twisted part"] += not group.get("exactly", True)
+            met["divisible"] += group.get("divisor", 0) > 1 and "times" not in group
+            met["divisible up to a twisted part"] += group.get("divisor", 0) > 1 and not group["divides"] and "times" not in group
         if fault:
             wrong += 1
             print(f"case {i}: {fault}; words {case.words}")
@@ -176,7 +193,7 @@ def main():
     parser.add_argument("--seed", type=int, default=9)
     options = parser.parse_args()
     wrong, met = compare_random(options.command, options.count, options.seed)
-    unmet = [kind for kind in ("a basis", "index", "dependent", "multiple", "outside", "open", "bounds", "twisted", "free") if not met[kind]]
+    unmet = [kind for kind in KINDS if not met[kind]]
     wrong += compare_faults(options.command) + compare_gmsh(options.command, MESHES)
     with tempfile.TemporaryDirectory() as folder:
         subprocess.run(["bash", MESHES / "make", folder], check=True, capture_output=True)

@@ -48,6 +48,8 @@ static void write_cycle(FILE *file, const struct judgement *judgement, size_t i)
     write_wide(file, judged->order);
     fputs(", \"divisor\": ", file);
     write_wide(file, judged->divisor);
+    if (judged->verdict == VERDICT_FREE)
+        fprintf(file, ", \"divides\": %s", judged->divides ? "true" : "false");
     if (judged->verdict == VERDICT_FREE && judged->like != i)
         fprintf(file, ", \"times\": %" PRId64 ", \"of\": %" PRIu32 ", \"exactly\": %s", judged->times, judgement->groups[judged->like].tag,
                 judged->exactly ? "true" : "false");

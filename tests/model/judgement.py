@@ -129,7 +129,9 @@ def said_of_cycle(orders, numbers):
     residues, free = numbers[:len(orders)], numbers[len(orders):]
     order = lcm(1, *(d // gcd(r, d) for r, d in zip(residues, orders)))
     verdict = "free" if any(free) else "twisted" if order > 1 else "bounds"
-    return {"verdict": verdict, "coordinates": numbers, "order": order, "divisor": gcd(*free)}
+    divisor = gcd(*free)
+    divides = {"divides": all(r % gcd(divisor, d) == 0 for r, d in zip(residues, orders))} if verdict == "free" else {}
+    return {"verdict": verdict, "coordinates": numbers, "order": order, "divisor": divisor, **divides}
 
 
 def add_multiples(groups, orders, said):
