@@ -186,15 +186,16 @@ def check_regions(driver):
     cases = {
         "a tag that is missing": (["report", "--region", "7", "17"], GROUPS, FAILED,
                                   'fildwuk: no element has the physical tag 17; the tags are 1 "wall", 7 "air, outside", 8 "coil $Nodes", 9 "all"'),
+        "odd names": (["report", "--region", "17"], GROUPS.replace(b'7 "air', b"7 air").replace(b'8 "coil $Nodes"', b'8  "coil"  ').replace(
+            b'9 "all"', b'9 "'), FAILED, 'fildwuk: no element has the physical tag 17; the tags are 1 "wall", 7, 8 "coil", 9'),
         "no tags": (["import", "--region", "1"], RING.replace(b"4 2 1", b"4 2 x"), FAILED, "fildwuk: no element has the physical tag 1"),
         "a text that is not of the form": (["import", "--region", "99"], GROUPS[:-2], REFUSED, None),
         "a sheet": (["report", "--region", "1"], bytes(16), FAILED, "fildwuk: --region is for a mesh, and the input is a sheet, which has no tags"),
     }
     ran = in_process([(words, data) for words, data, _, _ in cases.values()], driver)
     for (name, (_, _, status, said)), found in zip(cases.items(), ran):
-        yield name, None if found.status == status and (said is None or found.lines() == [said]) and found.output == b"" else found
-    if "14" not in ran[2].lines()[0]:
-        yield "a text that is not of the form tells 14", ran[2].lines()
+        right = " is refused with 14: " in found.lines()[0] if said is None else found.lines() == [said]
+        yield name, None if found.status == status and right and found.output == b"" else found
 
 
 def check_escapes(rng, driver):
@@ -215,6 +216,9 @@ def check_too_wide(driver):
     ran = in_process([(["report", "--dimension", "1", *words], TOO_WIDE) for words in forms.values()], driver)
     for name, found in zip(forms, ran):
         yield f"13 in {name}", None if found.status == REFUSED and found.lines() == [head, advice] else found
+    (all_dimensions,) = in_process([(["report", "--plain"], TOO_WIDE)], driver)
+    starts = [line[:4] for line in all_dimensions.output.decode().splitlines() if not line.startswith("G")]
+    yield "13 in some dimensions", None if all_dimensions.status == REFUSED and starts == ["H 0 ", "R 13", "R 13", "H 3 "] else all_dimensions
     yield "13 told in words", None if ran[0].output.endswith(b".\nDimension 1: refused with 13.\n") else ran[0].output
     yield "13 told in JSON", None if object_of(ran[2].output)["dimensions"] == [{"dimension": 1, "refusal": 13}] else ran[2].output
 
