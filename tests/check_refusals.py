@@ -69,10 +69,10 @@ COARSER = "Mesh more coarsely (`gmsh -clscale 30`, or -clmin with a length), or 
 NOT_HOST = "Without --limit host the limit is 256"
 
 
-def due_help(data, number, limit):
+def due_help(data, number, limit, parts):
     """The last line of a message, None where there is none. The stored and the damaged inputs are of no other format, but for those that start so."""
     if number == 15:
-        return FIRST_ORDER
+        return FIRST_ORDER if " is no point (15), " in parts[0] else None
     if number in (2, 16) and limit == "host":
         return NOT_HOST
     if number == 16:
@@ -109,7 +109,7 @@ def wrong(name, data, limit, region, ran, as_json):
         return f"{lines[1:2]}, due {parts}"
     if object_of(as_json.output)["where"] != lines[1][:-1]:
         return "where in JSON"
-    said = due_help(data, number, limit)
+    said = due_help(data, number, limit, parts)
     if lines[2:] != ([] if said is None else [said + "."]):
         return f"{lines[2:]}, due {said}"
     return None

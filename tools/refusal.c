@@ -34,7 +34,7 @@ static void write_help(const struct refusal *refusal, FILE *file) {
         hint_format(refusal->source->text, file);
     if (number == FILDWUK_TOO_WIDE)
         fputs("Parts that do not touch, asked for apart (--region TAG), or another numbering of the nodes may stay within it", file);
-    if (number == FILDWUK_ELEMENT_FAULTY)
+    if (number == FILDWUK_ELEMENT_FAULTY && where_mesh_other_kind(refusal->source->text, refusal->options))
         fputs("Elements are points, lines, triangles and tetrahedra of first order: mesh without Recombine and Mesh.ElementOrder", file);
     if (number == FILDWUK_SHEET_TOO_LONG || number == FILDWUK_COUNT_EXCEEDS_LIMIT)
         fputs(refusal->options->limit == LIMIT_HOST ? "Without --limit host the limit is 256" : "", file);
