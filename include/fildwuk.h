@@ -33,8 +33,8 @@ extern "C" {
 
 /* The release. docs/RELEASES.md names its pivot rule. */
 #define FILDWUK_VERSION_MAJOR 1
-#define FILDWUK_VERSION_MINOR 5
-#define FILDWUK_VERSION "1.5"
+#define FILDWUK_VERSION_MINOR 6
+#define FILDWUK_VERSION "1.6"
 
 /* What a call answers; fildwuk_answer_text has it in words. A refusal leaves the output untouched.
  *

@@ -177,8 +177,8 @@ def count_faults(history):
 
 
 def run_faults():
-    """Tests, by the form of their names, that neither tests/run nor tests/check_stored runs."""
-    listed = read(ROOT / "tests/run") + read(ROOT / "tests/check_stored")
+    """Tests, by the form of their names, that neither tests/run nor a script that it runs names."""
+    listed = read(ROOT / "tests/run") + read(ROOT / "tests/check_stored") + read(ROOT / "tests/check_install")
     for pattern in ("check_*", "compare_*", "host/check_*"):
         for path in sorted((ROOT / "tests").glob(pattern)):
             if not re.search(rf"\b{path.name}(?:\s|$)", listed, re.M):
