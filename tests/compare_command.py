@@ -210,7 +210,8 @@ def main():
             print(f"{case.name}, limit {case.limit}, dimensions {list(case.dimensions)}, region {case.region}: {fault}")
     wrong += count_beside_program(tried, options.driver, options.program)
     lost = {0, 1, 2, 3, 4, 5, 6, 7, 13, 14, 15, 16} - told
-    print(f"{len(made)} cases, {sum(bool(case.region) for case in made)} with a region, {len(tried)} sheets beside the program, {wrong} differ" + (f", never due: {lost}" if lost else ""))
+    regions = sum(bool(case.region) for case in made)
+    print(f"{len(made)} cases, {regions} with a region, {len(tried)} sheets beside the program, {wrong} differ" + (f", never due: {lost}" if lost else ""))
     raise SystemExit(1 if wrong or lost else 0)
 
 
