@@ -114,6 +114,8 @@ def word_facts(command):
     yield "a file named as a command", command.run("./import", "--plain").output.startswith(b"H 0 1 0\n")
     yield "tags before the file", done(command.run("import", "--region", "1", RING), COARSE_RING)
     yield "tags twice", done(command.run("import", RING, "--region", "1", "--region", "1"), COARSE_RING)
+    plain, grouped = command.run(RING, "--plain"), command.run(RING, "--plain", "--groups", "groups.msh")
+    yield "plain lines with groups", plain.output == grouped.output and grouped.errors.startswith(b'group 2 "H_1{0}1": ') and grouped.status == 0
     yield "a dimension beyond 3", command.run("report", RING, "--dimension", "4").errors.endswith(b" is refused with 8: the dimension exceeds 3.\n")
 
 
@@ -146,7 +148,7 @@ def in_pieces(command, data, *words):
 def little_memory(command):
     """Whether a text that does not fit into memory is told. The sanitizer, which refuses the memory, says so before."""
     little = {**os.environ, "ASAN_OPTIONS": "allocator_may_return_null=1:max_allocation_size_mb=4"}
-    ran = command.run("import", command.file(b"$" + bytes(8 * MEGABYTE)), env=little)
+    ran = command.run("import", command.file(b"$ " + bytes(8 * MEGABYTE)), env=little)
     return failed(Ran(ran.status, ran.output, ran.errors.splitlines(keepends=True)[-1]), b"Cannot allocate memory")
 
 
@@ -157,7 +159,8 @@ def output_facts(command):
     yield "closed output", failed(command.shell(f'"$0" {RING} >&-'), b"cannot write standard output: Bad file descriptor")
     yield "closed messages", command.shell('"$0" nothing.msh 2>&-') == Ran(FAILED, b"", b"")
     yield "full messages", command.shell('"$0" nothing.msh 2>/dev/full') == Ran(FAILED, b"", b"")
-    yield "full device", failed(command.run("import", RING, "-o", "/dev/full"), b"cannot write /dev/full: No space") and Path("/dev/full").is_char_device()
+    full = command.run("import", RING, "-o", "/dev/full")
+    yield "full device", failed(full, b"cannot write /dev/full: No space") and Path("/dev/full").is_char_device()
     yield "null device", done(command.run("import", RING, "-o", "/dev/null")) and Path("/dev/null").is_char_device()
     yield "missing folder", failed(command.run("import", RING, "-o", "none/a.sheet"), b"cannot write none/a.sheet: No such file")
     yield "folder for a sheet", failed(command.run("import", RING, "-o", "."), b"cannot write .: Is a directory")
@@ -201,6 +204,10 @@ def replacing_facts(command):
     new.write_bytes(OLD)
     written = done(command.run("import", RING, "-o", "link.sheet"), b"")
     yield "a link stays a link", written and (command.folder / "link.sheet").is_symlink() and new.read_bytes() == COARSE_RING
+    (command.folder / "lost.sheet").symlink_to("found.sheet")
+    written = done(command.run("import", RING, "-o", "lost.sheet"), b"")
+    yield "a link to nothing stays a link", written and (command.folder / "found.sheet").read_bytes() == COARSE_RING and os.path.islink(
+        command.folder / "lost.sheet")
     yield "no temporary file is left", not any(".sheet." in name for name in command.names())
 
 
@@ -253,7 +260,8 @@ def terminal_facts(command):
 def large_mesh(count):
     """A text with so many triangles, in a strip."""
     nodes = 60000
-    lines = [b"$MeshFormat\n2.2 0 8\n$EndMeshFormat\n$Nodes\n%d\n" % nodes, *(b"%d 0 0 0\n" % i for i in range(nodes)), b"$EndNodes\n$Elements\n%d\n" % count]
+    lines = [b"$MeshFormat\n2.2 0 8\n$EndMeshFormat\n$Nodes\n%d\n" % nodes, *(b"%d 0 0 0\n" % i for i in range(nodes))]
+    lines.append(b"$EndNodes\n$Elements\n%d\n" % count)
     lines += [b"%d 2 2 %d 1 %d %d %d\n" % (i, 1 if i < 20 else 2, i % 59000, i % 59000 + 1, i % 59000 + 2) for i in range(count)]
     return b"".join([*lines, b"$EndElements\n"])
 

@@ -1,6 +1,6 @@
 #!/usr/bin/env python3
-"""Holds what fildwuk says of a refusal to the model: where the fault stands, on texts and sheets with planted faults and on damaged ones, what helps, and
-the same in JSON. Runs in process, built with sanitizers."""
+"""Holds what fildwuk says of a refusal to the model: where the fault stands, on texts and sheets with planted faults and on damaged ones, what helps,
+and the same in JSON. Runs in process, built with sanitizers."""
 
 import argparse
 import random
@@ -8,19 +8,22 @@ import re
 from collections import Counter
 from pathlib import Path
 
-from command.runs import DONE, DRIVER, FAILED, REFUSED, in_process
+from command.runs import DONE, DRIVER, FAILED, REFUSED, in_process, is_mesh
 from command.told import object_of
-from command.where import of_sheet, of_text
+from command.where import escaped, of_sheet, of_text
 from compare_gmsh import damaged, due_answers, stored
 from make_sheets import fault_sheets, random_sheets
-from model import mesh_cases, mesh_texts
+from model import mesh_cases, mesh_texts, meshes
 from model.mesh import import_mesh
-from model.sheet import LIBRARY_COUNT_LIMIT, PROGRAM_COUNT_LIMIT, longest, refusal
+from model.sheet import LIBRARY_COUNT_LIMIT, PROGRAM_COUNT_LIMIT, from_facets, longest, refusal
 
 LIMITS = {"library": LIBRARY_COUNT_LIMIT, "host": PROGRAM_COUNT_LIMIT}
 SAVE = "`gmsh FILE -save -format msh22 -o NEW.msh` writes it as MSH 2.2 ASCII"
 RING = Path("examples/copper_ring.msh").read_bytes()
 GROUPS = Path("tests/meshes/groups.msh").read_bytes()
+
+# A sheet with an order beyond the entry limit.
+TOO_WIDE = from_facets(meshes.tower(20))
 
 # The line that helps, by the first bytes of an input.
 STARTS = {
@@ -54,15 +57,22 @@ QUIET = [b"solidarity", b"\x1f", b"$MeshFormat", b"$MeshFormat\n", b"$MeshFormat
          b"$MeshFormat\n2.2 0 8\n$Nodes\n$ParametricNodes\n", RING + b"$NodeData\n", RING[:-1], b"x" + RING, b" $MeshFormat\n4.1 0 8\n",
          RING.replace(b"\n1 4 2", b"\n1 4 x", 1)]
 
+# Bytes that are shown or not: letters of two to four bytes, control characters in UTF-8, letters that are written too long or cut, surrogates, beyond the
+# last character, and characters that turn the direction or are not seen.
+ODD = [b"\xc3\xbc", b"\xe4\xb8\xad", b"\xf0\x9f\x98\x80", b"\xf4\x8f\xbf\xbd", b"\xc2\x9b", b"\xc2\x80", b"\xc2\xa0", b"\xc0\x80", b"\xc1\xbf",
+       b"\xe0\x80\x9b", b"\xe0\x9f\xbf", b"\xf0\x80\x80\x9b", b"\xf0\x8f\xbf\xbf", b"\xc3", b"\xe4\xb8", b"\xf0\x9f\x98", b"\xed\xa0\x80", b"\xed\x9f\xbf",
+       b"\xee\x80\x80", b"\xf4\x90\x80\x80", b"\xf5\x80\x80\x80", b"\xe2\x80\xae", b"\xe2\x80\x8b", b"\xe2\x80\x90", b"\xe2\x81\xa6", b"\xe2\x80\xa8",
+       b"\xd8\x9c", b"\xef\xbb\xbf", b"\x7f", b"\x1b[2J", b"\\x1b"]
+
 FIRST_ORDER = "Elements are points, lines, triangles and tetrahedra of first order: mesh without Recombine and Mesh.ElementOrder"
 COARSER = "Mesh more coarsely (`gmsh -clscale 30`, or -clmin with a length), or take a part (--region TAG)"
 NOT_HOST = "Without --limit host the limit is 256"
 
 
-def due_help(data, number, limit):
+def due_help(data, number, limit, parts):
     """The last line of a message, None where there is none. The stored and the damaged inputs are of no other format, but for those that start so."""
     if number == 15:
-        return FIRST_ORDER
+        return FIRST_ORDER if " is no point (15), " in parts[0] else None
     if number in (2, 16) and limit == "host":
         return NOT_HOST
     if number == 16:
@@ -90,7 +100,7 @@ def agrees(parts, line):
 
 def wrong(name, data, limit, region, ran, as_json):
     """What differs from what is due for a refused input."""
-    lines, mesh = ran.lines(), data[:1] == b"$"
+    lines, mesh = ran.lines(), is_mesh(data)
     number = object_of(as_json.output)["refusal"]
     parts = of_text(data, number, LIMITS[limit], region) if mesh else (of_sheet(data, number, LIMITS[limit]),)
     if ran.status != REFUSED or not lines[0].startswith(f"fildwuk: standard input is refused with {number}: "):
@@ -99,7 +109,7 @@ def wrong(name, data, limit, region, ran, as_json):
         return f"{lines[1:2]}, due {parts}"
     if object_of(as_json.output)["where"] != lines[1][:-1]:
         return "where in JSON"
-    said = due_help(data, number, limit)
+    said = due_help(data, number, limit, parts)
     if lines[2:] != ([] if said is None else [said + "."]):
         return f"{lines[2:]}, due {said}"
     return None
@@ -109,13 +119,13 @@ def refused_inputs(rng):
     """Inputs by name with a limit, a region and the refusal due; those that are accepted are left out."""
     texts = {name: text for name, (text, _) in mesh_cases.damaged(rng).items()}
     texts.update((f"random {i}", text) for i, (text, _) in enumerate(mesh_texts.random_texts(rng, 600)))
-    meshes = {line.name: stored(line.name) for line in due_answers()}
-    texts.update(meshes)
-    texts.update(rng.sample(list(damaged(rng, meshes)), 300))
+    kept = {line.name: stored(line.name) for line in due_answers()}
+    texts.update(kept)
+    texts.update(rng.sample(list(damaged(rng, kept)), 300))
     texts.update({**fault_sheets(), **random_sheets(rng, 100), "no bytes": b"", "15 bytes": bytes(15), "zeros": bytes(70000)})
     for name, data in texts.items():
         for limit, most in LIMITS.items():
-            number = import_mesh(data, most, longest(most))[0] if data[:1] == b"$" else refusal(data, most)
+            number = import_mesh(data, most, longest(most))[0] if is_mesh(data) else refusal(data, most)
             if number:
                 yield name, data, limit, (), number
 
@@ -126,6 +136,7 @@ def regions(rng):
     sound, faulty = [b"2 2 7 0", ring], [b"2 2 8 0", [(1, 2, 9999)]]
     for name, first, second, region, number in (
             ("a fault in the region", sound, faulty, (8,), 15), ("a fault in both", faulty, faulty, (7, 8), 15),
+            ("faults in the region and outside", [b"2 2 7 0", [(1, 2, 9998)] * 9], faulty, (8,), 15),
             ("a fault outside", sound, faulty, (7,), 0), ("too many in the region", sound, [b"2 2 8 0", large], (8,), 16),
             ("too many outside", sound, [b"2 2 8 0", large], (7,), 0), ("too many in both", [b"2 2 7 0", large], [b"2 2 8 0", ring], (7, 8), 16)):
         lines = [(tags, cell) for tags, cells in (first, second) for cell in cells]
@@ -175,15 +186,41 @@ def check_regions(driver):
     cases = {
         "a tag that is missing": (["report", "--region", "7", "17"], GROUPS, FAILED,
                                   'fildwuk: no element has the physical tag 17; the tags are 1 "wall", 7 "air, outside", 8 "coil $Nodes", 9 "all"'),
+        "odd names": (["report", "--region", "17"], GROUPS.replace(b'7 "air', b"7 air").replace(b'8 "coil $Nodes"', b'8  "coil"  ').replace(
+            b'9 "all"', b'9 "'), FAILED, 'fildwuk: no element has the physical tag 17; the tags are 1 "wall", 7, 8 "coil", 9'),
         "no tags": (["import", "--region", "1"], RING.replace(b"4 2 1", b"4 2 x"), FAILED, "fildwuk: no element has the physical tag 1"),
         "a text that is not of the form": (["import", "--region", "99"], GROUPS[:-2], REFUSED, None),
         "a sheet": (["report", "--region", "1"], bytes(16), FAILED, "fildwuk: --region is for a mesh, and the input is a sheet, which has no tags"),
     }
     ran = in_process([(words, data) for words, data, _, _ in cases.values()], driver)
     for (name, (_, _, status, said)), found in zip(cases.items(), ran):
-        yield name, None if found.status == status and (said is None or found.lines() == [said]) and found.output == b"" else found
-    if "14" not in ran[2].lines()[0]:
-        yield "a text that is not of the form tells 14", ran[2].lines()
+        right = " is refused with 14: " in found.lines()[0] if said is None else found.lines() == [said]
+        yield name, None if found.status == status and right and found.output == b"" else found
+
+
+def check_escapes(rng, driver):
+    """Yields what differs in how odd bytes of a line are shown: control characters, what is no UTF-8, and long lines."""
+    lines = [bytes([byte]) for byte in range(256) if byte not in b"\n\r"] + ODD
+    lines += [b"".join(rng.choice([b"a", *ODD]) for _ in range(rng.randint(1, 40))) for _ in range(300)]
+    ran = in_process([(["import"], b"$MeshFormat\n" + line + b"\n") for line in lines], driver)
+    for line, found in zip(lines, ran):
+        due = f"Line 2 is not of the form (wanted: 2.2 0 and a number): {escaped(line)}."
+        yield f"the line {line!r}", None if found.lines()[1:2] == [due] else found.lines()
+
+
+def check_too_wide(driver):
+    """Yields what differs in what is said of 13, in words and in the other forms, by name."""
+    head = "fildwuk: standard input, dimension 1, is refused with 13: the reduction makes an entry beyond 1048575."
+    advice = "Parts that do not touch, asked for apart (--region TAG), or another numbering of the nodes may stay within it."
+    forms = {"words": [], "plain": ["--plain"], "JSON": ["--json"]}
+    ran = in_process([(["report", "--dimension", "1", *words], TOO_WIDE) for words in forms.values()], driver)
+    for name, found in zip(forms, ran):
+        yield f"13 in {name}", None if found.status == REFUSED and found.lines() == [head, advice] else found
+    (all_dimensions,) = in_process([(["report", "--plain"], TOO_WIDE)], driver)
+    starts = [line[:4] for line in all_dimensions.output.decode().splitlines() if not line.startswith("G")]
+    yield "13 in some dimensions", None if all_dimensions.status == REFUSED and starts == ["H 0 ", "R 13", "R 13", "H 3 "] else all_dimensions
+    yield "13 told in words", None if ran[0].output.endswith(b".\nDimension 1: refused with 13.\n") else ran[0].output
+    yield "13 told in JSON", None if object_of(ran[2].output)["dimensions"] == [{"dimension": 1, "refusal": 13}] else ran[2].output
 
 
 def main():
@@ -191,7 +228,8 @@ def main():
     parser = argparse.ArgumentParser(description=__doc__, formatter_class=argparse.RawDescriptionHelpFormatter)
     parser.add_argument("--driver", type=Path, default=DRIVER, metavar="FILE", help="the built driver (target/host/command_driver)")
     options = parser.parse_args()
-    found = [*check_where(random.Random(12), options.driver), *check_hints(options.driver), *check_regions(options.driver)]
+    found = [*check_where(random.Random(12), options.driver), *check_hints(options.driver), *check_regions(options.driver),
+             *check_too_wide(options.driver), *check_escapes(random.Random(13), options.driver)]
     faults = [(name, fault) for name, fault in found if fault is not None]
     for name, fault in faults[:40]:
         print(f"not as due: {name}: {fault}")

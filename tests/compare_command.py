@@ -1,22 +1,23 @@
 #!/usr/bin/env python3
-"""Holds `fildwuk report` to the model and to the program: on sheets and mesh texts, sound and damaged, at both limits, as plain lines, which are those of
-the program byte for byte, as JSON and in words. Runs in process, built with sanitizers."""
+"""Holds `fildwuk report` to the model and to the program: on sheets and mesh texts, sound and damaged, on regions, at both limits, as plain lines, which
+are those of the program byte for byte, as JSON and in words. Runs in process, built with sanitizers."""
 
 import argparse
 import random
 import subprocess
 from pathlib import Path
 
-from command.runs import DONE, DRIVER, REFUSED, in_process
+from command.runs import DONE, DRIVER, REFUSED, in_process, is_mesh
 from command.told import Dimension, from_json, from_words, head, object_of
+from command.where import Fault, fault_of, first_tag, read_text
 from compare_gmsh import due_answers, stored
 from make_sheets import fault_sheets, known_sheets, random_sheets
 from model import homology, mesh_cases, mesh_texts, meshes
 from model.calls import dimension_lines
 from model.headroom import bits
-from model.mesh import import_mesh
+from model.mesh import ELEMENT_FAULTY, import_mesh, sheet_within
 from model.reduction import ENTRY_LIMIT
-from model.sheet import DIMENSIONS, LIBRARY_COUNT_LIMIT, PROGRAM_COUNT_LIMIT, Refused, from_facets, longest, parse, refusal
+from model.sheet import DIMENSIONS, LIBRARY_COUNT_LIMIT, PROGRAM_COUNT_LIMIT, Refused, closure, from_facets, longest, parse, refusal
 
 PROGRAM = Path("target/bin/homology")
 LIMITS = {"library": LIBRARY_COUNT_LIMIT, "host": PROGRAM_COUNT_LIMIT}
@@ -27,11 +28,31 @@ QUICK = 100
 TOO_WIDE = from_facets(meshes.tower(20))
 
 
-def sheet_of(data, limit):
+def sheet_of(data, limit, region):
     """The answer of the import to a mesh text, 0 for a sheet, and the sheet."""
-    if data[:1] != b"$":
+    if not is_mesh(data):
         return 0, data
-    return import_mesh(data, limit, longest(limit))
+    return region_of(data, limit, region) if region else import_mesh(data, limit, longest(limit))
+
+
+def region_of(text, limit, region):
+    """The same of the elements whose first tag is in the region, of a text of the form."""
+    nodes, elements = read_text(text)
+    chosen = [element for element, _, content in elements if first_tag(content) in region]
+    if any(fault_of(element, nodes) for element in chosen):
+        return ELEMENT_FAULTY, None
+    try:
+        return 0, sheet_within(closure(element.nodes for element in chosen), limit, longest(limit))
+    except Refused as refused:
+        return refused.number, None
+
+
+def tags_of(text):
+    """The physical tags of a text, none where it is not of the form."""
+    try:
+        return sorted({first_tag(content) for _, _, content in read_text(text)[1]} - {None})
+    except Fault:
+        return []
 
 
 def due_dimension(data, p, name):
@@ -56,13 +77,13 @@ def due_plain(data, dimensions, limit):
 
 
 class Case:
-    """An input under a limit and the dimensions to report on."""
+    """An input under a limit, the dimensions to report on, and the tags of a region, none for all elements."""
 
-    def __init__(self, name, data, limit, dimension=None):
-        self.name, self.data, self.limit = name, data, limit
+    def __init__(self, name, data, limit, dimension=None, region=()):
+        self.name, self.data, self.limit, self.region = name, data, limit, list(region)
         self.dimensions = range(DIMENSIONS) if dimension is None else [dimension]
         chosen = [] if dimension is None else ["--dimension", str(dimension)]
-        self.words = ["report", NAME, "--limit", limit, *chosen]
+        self.words = ["report", NAME, "--limit", limit, *chosen, *(["--region", *map(str, region)] if region else [])]
 
     def requests(self):
         """The runs as plain lines, as JSON and in words."""
@@ -70,7 +91,7 @@ class Case:
 
     def told(self):
         """The refusal of the input as a whole, 0 for none, and its sheet."""
-        number, sheet = sheet_of(self.data, LIMITS[self.limit])
+        number, sheet = sheet_of(self.data, LIMITS[self.limit], self.region)
         return number or refusal(sheet, LIMITS[self.limit]), sheet
 
     def wrong(self, plain, as_json, words):
@@ -94,22 +115,24 @@ class Case:
         if any(f"{NAME} is refused with {number}: " not in ran.lines()[0] for ran in (plain, as_json, words)):
             yield "message of a refusal"
         found = object_of(as_json.output)
-        if (found["refusal"], found["limit"]) != (number, LIMITS[self.limit]) or set(found) != {"fildwuk", "limit", "refusal", "meaning", "where"}:
+        names = {"fildwuk", "limit", "region", "refusal", "meaning", "where"}
+        if (found["refusal"], found["limit"]) != (number, LIMITS[self.limit]) or set(found) != names:
             yield "object of a refusal"
 
     def wrong_json(self, sheet, due, ran):
         """What differs in the object."""
         found, counts = object_of(ran.output), [parse(sheet, LIMITS[self.limit]).count(p) for p in range(DIMENSIONS)]
-        if set(found) != {"fildwuk", "limit", "refusal", "counts", "dimensions"}:
+        if set(found) != {"fildwuk", "limit", "region", "refusal", "counts", "dimensions"}:
             return ["names of the object"]
-        right = found["limit"] == LIMITS[self.limit] and found["refusal"] == 0 and found["counts"] == counts
-        return ([] if right else ["head of the object"]) + ([] if [from_json(part) for part in found["dimensions"]] == due else ["dimensions of the object"])
+        right = (found["limit"], found["region"], found["refusal"], found["counts"]) == (LIMITS[self.limit], self.region, 0, counts)
+        same = [from_json(part) for part in found["dimensions"]] == due
+        return ([] if right else ["head of the object"]) + ([] if same else ["dimensions of the object"])
 
     def wrong_words(self, sheet, due, ran):
         """What differs in the words."""
         lines = ran.output.decode("ascii").splitlines()
         counts = [parse(sheet, LIMITS[self.limit]).count(p) for p in range(DIMENSIONS)]
-        if lines[0] != head(NAME, counts):
+        if lines[0] != head(NAME + (f", region {' '.join(map(str, self.region))}" if self.region else ""), counts):
             return ["first line"]
         at = 1
         for part in due:
@@ -131,6 +154,7 @@ def sheets(rng, count):
     found.update(list(fault_sheets().items())[::3])
     found.update(random_sheets(rng, count))
     found.update({"no bytes": b"", "a byte": b"\0", "zeros": bytes(70000)})
+    found.update({f"{count} vertices": from_facets([(v,) for v in range(count)]) for count in (35, 36, 37)})
     return {name: data for name, data in found.items() if quick(data)}
 
 
@@ -139,7 +163,7 @@ def texts(rng, count):
     found = {line.name: stored(line.name) for line in due_answers()}
     found.update((name, text) for name, (text, _) in rng.sample(list(mesh_cases.damaged(rng).items()), 60))
     found.update((f"random text {i}", text) for i, (text, _) in enumerate(mesh_texts.random_texts(rng, count)))
-    return {name: text for name, text in found.items() if text[:1] == b"$"}
+    return {name: text for name, text in found.items() if is_mesh(text)}
 
 
 def cases(rng, inputs):
@@ -148,6 +172,9 @@ def cases(rng, inputs):
         for limit in LIMITS:
             yield Case(name, data, limit)
         yield Case(name, data, rng.choice(list(LIMITS)), rng.randrange(DIMENSIONS))
+        tags = tags_of(data) if is_mesh(data) else []
+        if tags:
+            yield Case(name, data, "library", region=rng.sample(tags, rng.randint(1, min(3, len(tags)))))
     yield Case("tower 20", TOO_WIDE, "library", 1)
 
 
@@ -180,10 +207,10 @@ def main():
         faults = case.wrong(*ran[3 * i:3 * i + 3])
         wrong += bool(faults)
         for fault in faults:
-            print(f"{case.name}, limit {case.limit}, dimensions {list(case.dimensions)}: {fault}")
+            print(f"{case.name}, limit {case.limit}, dimensions {list(case.dimensions)}, region {case.region}: {fault}")
     wrong += count_beside_program(tried, options.driver, options.program)
     lost = {0, 1, 2, 3, 4, 5, 6, 7, 13, 14, 15, 16} - told
-    print(f"{len(made)} cases, {len(tried)} sheets beside the program, {wrong} differ" + (f", never due: {lost}" if lost else ""))
+    print(f"{len(made)} cases, {sum(bool(case.region) for case in made)} with a region, {len(tried)} sheets beside the program, {wrong} differ" + (f", never due: {lost}" if lost else ""))
     raise SystemExit(1 if wrong or lost else 0)
 
 

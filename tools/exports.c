@@ -30,10 +30,11 @@ static int write_view(const struct options *options, const struct source *source
     struct output output;
     if (!output_begin(&output, options->view, options->input, err))
         return STATUS_FAILED;
-    if (view_write(output.file, source->text, mesh, source->sheet.bytes, homology, &options->region, err))
+    int status = view_write(output.file, source->text, mesh, source->sheet.bytes, homology, &options->region, err);
+    if (status == STATUS_DONE)
         return output_end(&output, err) ? STATUS_DONE : STATUS_FAILED;
     output_drop(&output);
-    return STATUS_REFUSED;
+    return status;
 }
 
 /* Writes the view first, which may be refused for a coordinate, and then the groups, whose numbers are found before either. */

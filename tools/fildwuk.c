@@ -4,9 +4,9 @@
 
 #include "commands.h"
 #include "escape.h"
+#include "fildwuk.h"
 #include "input.h"
 #include "output.h"
-#include "version.h"
 
 static void write_help(FILE *out) {
     fputs("usage: fildwuk [COMMAND] [FILE] [OPTION ..]\n"

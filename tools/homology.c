@@ -2,7 +2,6 @@
 #include "homology.h"
 
 #include <stdlib.h>
-#include <string.h>
 
 #include "fildwuk.h"
 #include "fildwuk_library.h"
@@ -35,16 +34,6 @@ static int ask_library(const uint8_t *sheet, size_t length, struct homology *hom
     return 1;
 }
 
-/* A number that stands in 8 bytes, low byte first. */
-static int64_t number_at(const uint8_t *bytes) {
-    uint64_t number = 0;
-    for (int i = 7; i >= 0; i--)
-        number = number << 8 | bytes[i];
-    int64_t found;
-    memcpy(&found, &number, sizeof found);
-    return found;
-}
-
 /* Asks the host call, and reads its bytes into the report slice. Answers 0 where there is no memory. */
 static int ask_host(const uint8_t *sheet, size_t length, struct homology *homology, size_t slots) {
     uint8_t *bytes = calloc(slots, 8);
@@ -52,7 +41,7 @@ static int ask_host(const uint8_t *sheet, size_t length, struct homology *homolo
         return 0;
     homology->answer = fildwuk_report(sheet, length, homology->dimension, bytes, 8 * slots);
     for (size_t i = 0; i < slots; i++)
-        homology->numbers[i] = number_at(bytes + 8 * i);
+        homology->numbers[i] = fildwuk_get_number(bytes, i);
     free(bytes);
     return 1;
 }

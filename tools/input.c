@@ -14,7 +14,9 @@ int input_is_standard(const char *name) { return name == NULL || strcmp(name, "-
 
 const char *input_name(const char *name) { return input_is_standard(name) ? "standard input" : name; }
 
-int input_is_mesh(const struct text *text) { return text->length > 0 && text->bytes[0] == '$'; }
+int input_is_mesh(const struct text *text) {
+    return text->length > 0 && text->bytes[0] == '$' && (text->length == 1 || text->bytes[1] != 0);
+}
 
 void input_free(struct text *text) {
     free(text->bytes);

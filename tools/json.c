@@ -6,7 +6,6 @@
 
 #include "fildwuk.h"
 #include "sheet.h"
-#include "version.h"
 #include "words.h"
 
 void json_string(const char *text, FILE *file) {
@@ -36,14 +35,17 @@ static void write_where(const struct refusal *refusal, FILE *file) {
 }
 
 /* Writes what every object starts with. */
-static void write_head(enum limit limit, FILE *file) {
+static void write_head(const struct options *options, FILE *file) {
     fputs("{\"fildwuk\": ", file);
     json_string(FILDWUK_VERSION, file);
-    fprintf(file, ", \"limit\": %zu", limit_cells(limit));
+    fprintf(file, ", \"limit\": %zu, \"region\": [", limit_cells(options->limit));
+    for (size_t i = 0; i < options->region.total; i++)
+        fprintf(file, "%s%u", i == 0 ? "" : ", ", (unsigned)options->region.list[i]);
+    fputc(']', file);
 }
 
 void json_refusal(const struct refusal *refusal, FILE *file) {
-    write_head(refusal->options->limit, file);
+    write_head(refusal->options, file);
     fprintf(file, ", \"refusal\": %u, \"meaning\": ", (unsigned)refusal->number);
     json_string(refusal_meaning(refusal->number), file);
     fputs(", \"where\": ", file);
@@ -51,12 +53,17 @@ void json_refusal(const struct refusal *refusal, FILE *file) {
     fputs("}\n", file);
 }
 
-void json_begin(const uint8_t *sheet, enum limit limit, FILE *file) {
-    write_head(limit, file);
+void json_start(const uint8_t *sheet, const struct options *options, FILE *file) {
+    write_head(options, file);
     fputs(", \"refusal\": 0, \"counts\": [", file);
     for (uint32_t p = 0; p < SHEET_DIMENSIONS; p++)
         fprintf(file, "%s%zu", p == 0 ? "" : ", ", sheet_count(sheet, p));
-    fputs("], \"dimensions\": [", file);
+    fputc(']', file);
+}
+
+void json_begin(const uint8_t *sheet, const struct options *options, FILE *file) {
+    json_start(sheet, options, file);
+    fputs(", \"dimensions\": [", file);
 }
 
 /* Writes a cell as a list of its vertices. */

@@ -14,8 +14,11 @@ void json_string(const char *text, FILE *file);
 /* Writes the object of an input that is refused as a whole. */
 void json_refusal(const struct refusal *refusal, FILE *file);
 
-/* Writes the start of the object of a report, with the limit and the counts of the sheet. */
-void json_begin(const uint8_t *sheet, enum limit limit, FILE *file);
+/* Writes the start of an object on a sheet: the limit, the region and the counts. */
+void json_start(const uint8_t *sheet, const struct options *options, FILE *file);
+
+/* Writes the start of the object of a report, with the limit, the region and the counts of the sheet. */
+void json_begin(const uint8_t *sheet, const struct options *options, FILE *file);
 
 /* Writes a dimension, also one that is refused; `first` is 1 for the first of them. `groups` has the tags of its generators, null where they have
  * none. */

@@ -28,8 +28,8 @@ const char JUDGE_HELP[] =
     "group of lines, or each of the tags named, is taken as a chain: the sum of its\n"
     "lines, each from its first node to its second. Told of each: whether it is a\n"
     "cycle of the region, its coordinates, whether it bounds, is twisted of an order,\n"
-    "is free, is a number times another; and of all together: whether they are a basis\n"
-    "of the free loops, else their index, and how they depend on each other.\n"
+    "is free, is a number times another; and of all together: whether they are a\n"
+    "basis of the free loops, else their index, and how they depend on each other.\n"
     "\n"
     "  --region TAG ..  the region is the elements with these physical tags; without\n"
     "                   it, all elements but those of the groups judged\n"
@@ -100,21 +100,15 @@ static int find_tags(struct docket *docket, FILE *err) {
     return status;
 }
 
-/* Marks the elements that are not of the groups judged. */
-static uint8_t *mark_others(const struct docket *docket) {
-    uint8_t *keep = calloc(docket->mesh->element_total + 1, 1);
-    for (size_t i = 0; keep != NULL && i < docket->mesh->element_total; i++) {
-        const struct mesh_element *element = &docket->mesh->elements[i];
-        int judged = element->kind == physical_kind(docket->dimension) && element->has_physical && tags_have(&docket->tags, element->physical);
-        keep[i] = !judged;
-    }
-    return keep;
-}
-
-/* Finds the text of the region: of the elements that are not of the groups judged, where --region is not given. Answers 0 where there is no memory. */
+/* Finds the text of the region where --region is not given: with the elements that are not of the groups judged. Answers 0 where there is no memory. */
 static int find_region(const struct docket *docket, struct text *chosen) {
-    uint8_t *keep = mark_others(docket);
-    int done = keep != NULL && chosen_text(docket->text, docket->mesh, keep, chosen);
+    struct physical_index index = {NULL, 0};
+    uint8_t *keep = calloc(docket->mesh->element_total + 1, 1);
+    int done = keep != NULL && physical_index(&docket->tags, &index);
+    for (size_t i = 0; done && i < docket->mesh->element_total; i++)
+        keep[i] = physical_group(&index, &docket->mesh->elements[i], docket->dimension) == SIZE_MAX;
+    done = done && chosen_text(docket->text, docket->mesh, keep, chosen);
+    free(index.places);
     free(keep);
     return done;
 }
@@ -143,7 +137,10 @@ static int judge_sheet(const struct docket *docket, const struct source *region,
     int status = STATUS_FAILED;
     if (answer == JUDGEMENT_DONE) {
         status = judgement.together == TOGETHER_BASIS ? STATUS_DONE : STATUS_REFUSED;
-        (docket->options->form == FORM_JSON ? judge_write_json : judge_write_words)(console->out, docket->text, region->sheet.bytes, &judgement);
+        if (docket->options->form == FORM_JSON)
+            judge_write_json(console->out, docket->options, docket->text, region->sheet.bytes, &judgement);
+        else
+            judge_write_words(console->out, docket->options, docket->text, region->sheet.bytes, &judgement);
     } else {
         failed(answer == JUDGEMENT_NO_MEMORY ? strerror(ENOMEM) : "an error in this program: the proved call does not agree with the chains", console->err);
     }

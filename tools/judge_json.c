@@ -3,10 +3,8 @@
 #include <stdlib.h>
 
 #include "escape.h"
-#include "fildwuk_library.h"
 #include "json.h"
 #include "judge_words.h"
-#include "version.h"
 
 enum { NAME_MOST = 1000 };
 
@@ -50,6 +48,8 @@ static void write_cycle(FILE *file, const struct judgement *judgement, size_t i)
     write_wide(file, judged->order);
     fputs(", \"divisor\": ", file);
     write_wide(file, judged->divisor);
+    if (judged->verdict == VERDICT_FREE)
+        fprintf(file, ", \"divides\": %s", judged->divides ? "true" : "false");
     if (judged->verdict == VERDICT_FREE && judged->like != i)
         fprintf(file, ", \"times\": %" PRId64 ", \"of\": %" PRIu32 ", \"exactly\": %s", judged->times, judgement->groups[judged->like].tag,
                 judged->exactly ? "true" : "false");
@@ -116,12 +116,10 @@ static void write_together(FILE *file, const struct judgement *judgement) {
     fprintf(file, ", \"basis\": %s}\n", BASIS[judgement->together]);
 }
 
-void judge_write_json(FILE *file, const struct text *text, const uint8_t *sheet, const struct judgement *judgement) {
+void judge_write_json(FILE *file, const struct options *options, const struct text *text, const uint8_t *sheet, const struct judgement *judgement) {
     const struct homology *homology = judgement->homology;
-    fprintf(file, "{\"fildwuk\": \"%s\", \"limit\": %d, \"refusal\": 0, \"counts\": [", FILDWUK_VERSION, FILDWUK_LIBRARY_CELLS);
-    for (uint32_t p = 0; p < SHEET_DIMENSIONS; p++)
-        fprintf(file, "%s%zu", p == 0 ? "" : ", ", sheet_count(sheet, p));
-    fprintf(file, "], \"dimension\": %u, \"free\": %zu, \"orders\": [", (unsigned)homology->dimension, homology->rank);
+    json_start(sheet, options, file);
+    fprintf(file, ", \"dimension\": %u, \"free\": %zu, \"orders\": [", (unsigned)homology->dimension, homology->rank);
     for (size_t k = 0; k < homology->order_total; k++)
         fprintf(file, "%s%" PRId64, k == 0 ? "" : ", ", homology_order(homology, k));
     fputs("], \"groups\": [", file);

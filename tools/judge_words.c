@@ -151,12 +151,18 @@ static void write_dependence(FILE *file, const struct judgement *judgement, size
     write_side(file, judgement, i, 1);
     fputs(" = ", file);
     write_side(file, judgement, i, 0);
-    fputs(", twisted parts aside\n", file);
+    fputs(judgement->homology->order_total > 0 ? ", twisted parts aside\n" : "\n", file);
 }
 
-/* Says what the span lacks. */
+/* Says what the span lacks, or that it is not known. */
 static void write_span(FILE *file, const struct judgement *judgement) {
     size_t due = judgement->homology->rank, rank = judgement->span.rank;
+    if (!judgement->has_span) {
+        if (judgement->total != due)
+            fprintf(file, "  they are %zu, and a basis of the free %s has %zu\n", judgement->total, thing(judgement, 2), due);
+        fputs("  their numbers exceed 128 bits, so that nothing is said of what they span; judge fewer at once\n", file);
+        return;
+    }
     if (rank < due)
         fprintf(file, "  they have rank %zu, the free %s have rank %zu\n", rank, thing(judgement, 2), due);
     if (judgement->span.index != 1) {
@@ -174,13 +180,20 @@ static void write_reasons(FILE *file, const struct judgement *judgement) {
         else if (judgement->has_span && !judgement->span.independent[i])
             write_dependence(file, judgement, i);
     }
-    if (judgement->has_span)
-        write_span(file, judgement);
-    else
-        fputs("  their numbers exceed 128 bits, so that nothing is said of what they span; judge fewer at once\n", file);
+    write_span(file, judgement);
 }
 
-void judge_write_words(FILE *file, const struct text *text, const uint8_t *sheet, const struct judgement *judgement) {
+/* Says what helps where a group is not in the region and the region was not named: without a name it is what is not judged. */
+static void write_hint(FILE *file, const struct options *options, const struct judgement *judgement) {
+    int outside = 0;
+    for (size_t i = 0; i < judgement->total; i++)
+        outside |= judgement->groups[i].verdict == VERDICT_OUTSIDE;
+    if (outside && options->region.total == 0)
+        fprintf(file, "the region is all elements but those of the groups judged: name %sthe region by --region\n",
+                options->tags.total == 0 ? "the groups by their tags, or " : "");
+}
+
+void judge_write_words(FILE *file, const struct options *options, const struct text *text, const uint8_t *sheet, const struct judgement *judgement) {
     write_region(file, sheet, judgement);
     for (size_t i = 0; i < judgement->total; i++) {
         write_group(file, text, judgement, &judgement->groups[i]);
@@ -192,4 +205,5 @@ void judge_write_words(FILE *file, const struct text *text, const uint8_t *sheet
     }
     fprintf(file, "together: %s the free %s\n", judgement->together == TOGETHER_NO_BASIS ? "no basis of" : "not settled whether a basis of", thing(judgement, 2));
     write_reasons(file, judgement);
+    write_hint(file, options, judgement);
 }

@@ -6,18 +6,8 @@
 
 #include "fildwuk.h"
 #include "fildwuk_library.h"
+#include "group_chain.h"
 #include "physical.h"
-
-/* The greatest absolute value of a coefficient that the proved calls take. */
-enum { COEFFICIENT_MOST = 32767 };
-
-/* What the groups are judged on. */
-struct region {
-    const struct mesh *mesh;
-    const uint8_t *sheet;
-    size_t length, cells;
-    uint32_t dimension;
-};
 
 int judged_is_cycle(const struct judged *judged) { return judged->verdict >= VERDICT_BOUNDS; }
 
@@ -30,76 +20,8 @@ size_t judgement_cycles(const struct judgement *judgement) {
 
 wide judgement_relation(const struct judgement *judgement, size_t i, size_t j) { return judgement->relations[i * judgement->total + j]; }
 
-/* Finds the chain of a group. Answers 0 where an element is no cell, with the first such line. */
-static int sum_elements(struct region region, struct judged *judged, int64_t *chain) {
-    int within = 1;
-    memset(chain, 0, region.cells * sizeof *chain);
-    for (size_t i = 0; i < region.mesh->element_total; i++) {
-        const struct mesh_element *element = &region.mesh->elements[i];
-        if (!physical_has(element, region.dimension, judged->tag))
-            continue;
-        judged->elements++;
-        if (physical_add(region.mesh, element, region.sheet, region.dimension, chain) || !within)
-            continue;
-        judged->line = element->line;
-        within = 0;
-    }
-    return within;
-}
-
-/* Tells the first cell of a dimension where a number is beyond the limit either way. Answers 0 where there is none. */
-static int find_beyond(struct region region, uint32_t dimension, const int64_t *numbers, int64_t limit, struct judged_cell *cell) {
-    for (size_t i = 0; i < sheet_count(region.sheet, dimension); i++)
-        if (numbers[i] > limit || numbers[i] < -limit) {
-            cell->dimension = dimension;
-            cell->number = numbers[i];
-            sheet_cell(region.sheet, dimension, i, cell->vertices);
-            return 1;
-        }
-    return 0;
-}
-
-/* Adds to the boundary the faces of a cell, with signs that take turns, times its coefficient. */
-static void add_faces(struct region region, size_t i, int64_t coefficient, int64_t *boundary) {
-    uint16_t vertices[SHEET_DIMENSIONS];
-    sheet_cell(region.sheet, region.dimension, i, vertices);
-    for (uint32_t left_out = 0; left_out <= region.dimension; left_out++) {
-        uint16_t face[SHEET_DIMENSIONS] = {0, 0, 0, 0};
-        for (uint32_t k = 0; k < region.dimension; k++)
-            face[k] = vertices[k < left_out ? k : k + 1];
-        boundary[sheet_find(region.sheet, region.dimension - 1, face)] += left_out % 2 == 0 ? coefficient : -coefficient;
-    }
-}
-
-/* Whether the chain's boundary is zero; where it is not, its first cell. */
-static int is_closed(struct region region, const int64_t *chain, int64_t *boundary, struct judged_cell *cell) {
-    if (region.dimension == 0)
-        return 1;
-    memset(boundary, 0, sheet_count(region.sheet, region.dimension - 1) * sizeof *boundary);
-    for (size_t i = 0; i < region.cells; i++)
-        if (chain[i] != 0)
-            add_faces(region, i, chain[i], boundary);
-    return !find_beyond(region, region.dimension - 1, boundary, 0, cell);
-}
-
-/* Finds a group's chain and whether it is a cycle; `room` is for two chains of any dimension. */
-static void find_chain(struct region region, struct judged *judged, int64_t *room, int32_t *chain) {
-    int64_t *boundary = room + FILDWUK_LIBRARY_CELLS;
-    if (!sum_elements(region, judged, room)) {
-        judged->verdict = VERDICT_OUTSIDE;
-        return;
-    }
-    if (find_beyond(region, region.dimension, room, COEFFICIENT_MOST, &judged->cell)) {
-        judged->verdict = VERDICT_LARGE;
-        return;
-    }
-    for (size_t i = 0; i < region.cells; i++)
-        chain[i] = (int32_t)room[i];
-    judged->verdict = is_closed(region, room, boundary, &judged->cell) ? VERDICT_BOUNDS : VERDICT_OPEN;
-}
-
 /* Asks the proved call for the lists of chains, and 12 of each chain that is not closed. */
-static int ask(struct region region, const struct judgement *judgement, int32_t *cycles, int32_t *work, size_t slots) {
+static int ask(struct chain_region region, const struct judgement *judgement, int32_t *cycles, int32_t *work, size_t slots) {
     size_t number = 0, cells = region.cells;
     for (size_t i = 0; i < judgement->total; i++) {
         const int32_t *chain = judgement->chains + i * cells;
@@ -118,7 +40,7 @@ static int ask(struct region region, const struct judgement *judgement, int32_t 
                                             number * cells, work, slots) == FILDWUK_DONE;
 }
 
-static enum judgement_answer find_coordinates(struct region region, struct judgement *judgement) {
+static enum judgement_answer find_coordinates(struct chain_region region, struct judgement *judgement) {
     size_t slots = homology_work_slots(region.sheet, region.length, region.dimension), next = 0;
     int32_t *work = calloc(slots + 1, sizeof *work), *cycles = calloc(judgement->total * region.cells + 1, sizeof *cycles);
     enum judgement_answer answer = JUDGEMENT_NO_MEMORY;
@@ -236,18 +158,25 @@ static int lend(const struct tags *tags, size_t cells, struct judgement *judgeme
     return judgement->groups != NULL && judgement->chains != NULL && judgement->coordinates != NULL && judgement->span.independent != NULL;
 }
 
+/* Finds the chains of the groups, and which are cycles. Answers 0 where there is no memory. */
+static int find_chains(struct chain_region region, const struct tags *tags, struct judgement *judgement) {
+    int64_t boundary[FILDWUK_LIBRARY_CELLS], *sums = calloc(tags->total * region.cells + 1, sizeof *sums);
+    int done = sums != NULL && chain_sum(region, tags, judgement->groups, sums);
+    for (size_t i = 0; done && i < tags->total; i++) {
+        judgement->groups[i].tag = tags->list[i];
+        judgement->groups[i].name = physical_name(region.mesh, region.dimension, tags->list[i]);
+        chain_settle(region, &judgement->groups[i], sums + i * region.cells, boundary, judgement->chains + i * region.cells);
+    }
+    free(sums);
+    return done;
+}
+
 enum judgement_answer judgement_make(const struct mesh *mesh, const uint8_t *sheet, size_t length, const struct homology *homology,
                                      const struct tags *tags, struct judgement *judgement) {
-    struct region region = {mesh, sheet, length, homology->cells, homology->dimension};
-    int64_t room[2 * FILDWUK_LIBRARY_CELLS];
+    struct chain_region region = {mesh, sheet, length, homology->cells, homology->dimension};
     *judgement = (struct judgement){.homology = homology};
-    if (!lend(tags, region.cells, judgement))
+    if (!lend(tags, region.cells, judgement) || !find_chains(region, tags, judgement))
         return JUDGEMENT_NO_MEMORY;
-    for (size_t i = 0; i < tags->total; i++) {
-        judgement->groups[i].tag = tags->list[i];
-        judgement->groups[i].name = physical_name(mesh, region.dimension, tags->list[i]);
-        find_chain(region, &judgement->groups[i], room, judgement->chains + i * region.cells);
-    }
     enum judgement_answer answer = find_coordinates(region, judgement);
     if (answer != JUDGEMENT_DONE)
         return answer;

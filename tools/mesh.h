@@ -1,9 +1,9 @@
 /* A mesh text, MSH 2.2 ASCII, found again in C beside the proved import: where its lines, nodes, elements and physical names stand.
  *
  * mesh_read takes exactly the texts that the proved import does not refuse with 14 (the tests hold the two to each other). Elements may still be
- * faulty, as the import refuses with 15: see element_fault_of (element.h). All places are bytes from the start of the text, and a range goes
- * from its first byte to before its end (struct range, lines.h). The mesh keeps no pointer into the text: give the same text to the functions that ask for it. Lines are
- * numbered from 1.
+ * faulty, as the import refuses with 15: element_first_fault (element.h) finds that. All places are bytes from the start of the text, and a range goes
+ * from its first byte to before its end (struct range, lines.h). The mesh keeps no pointer into the text: give the same text to the functions that ask
+ * for it. Lines are numbered from 1.
  *
  * To write a text again with elements and names added, copy
  *     [0, names.start)          and put a section of names here where has_names is 0, else copy

@@ -52,15 +52,6 @@ static int write_all(int descriptor, const char *bytes, size_t length) {
     return 1;
 }
 
-/* Writes all bytes and closes the file. Answers 0 where one of these fails, with the errno of the first. */
-static int write_and_close(int descriptor, const char *bytes, size_t length) {
-    int done = write_all(descriptor, bytes, length), why = errno;
-    if (close(descriptor) != 0 && done)
-        return 0;
-    errno = why;
-    return done;
-}
-
 /* The rights that a new file gets. */
 static mode_t usual_rights(void) {
     mode_t mask = umask(0);
@@ -68,14 +59,20 @@ static mode_t usual_rights(void) {
     return 0666 & ~mask;
 }
 
-/* Writes the bytes to a new file of this name, which ends in XXXXXX and is changed, and renames it. Answers 0 where that fails, with errno. */
+/* Writes the bytes to a new file, whose name ends in XXXXXX and is changed, and renames it. Answers 0 where that fails, with errno. */
 static int write_renamed(const struct output *output, char *temporary, const char *place, mode_t rights) {
     int descriptor = mkstemp(temporary);
     if (descriptor < 0)
         return 0;
-    int done = fchmod(descriptor, rights) == 0, why = errno;
-    done = write_and_close(descriptor, output->bytes, done ? output->length : 0) && done && rename(temporary, place) == 0;
-    why = done ? why : errno;
+    int done = fchmod(descriptor, rights) == 0 && write_all(descriptor, output->bytes, output->length), why = errno;
+    if (close(descriptor) != 0 && done) {
+        done = 0;
+        why = errno;
+    }
+    if (done && rename(temporary, place) != 0) {
+        done = 0;
+        why = errno;
+    }
     if (!done)
         unlink(temporary);
     errno = why;
@@ -107,8 +104,8 @@ static int write_over(const struct output *output, mode_t rights) {
     return done;
 }
 
-/* Writes to a device or a pipe. Answers 0 where that fails, with errno. */
-static int write_device(const struct output *output) {
+/* Writes to a device, a pipe, or the missing file that a link names. Answers 0 where that fails, with errno. */
+static int write_there(const struct output *output) {
     FILE *file = fopen(output->name, "wb");
     if (file == NULL)
         return 0;
@@ -124,8 +121,8 @@ static int write_named(const struct output *output) {
     if (is_standard(output->name))
         return write_all(STDOUT_FILENO, output->bytes, output->length);
     if (stat(output->name, &there) != 0)
-        return write_beside(output, output->name, usual_rights());
-    return S_ISREG(there.st_mode) ? write_over(output, there.st_mode & 07777) : write_device(output);
+        return lstat(output->name, &there) == 0 ? write_there(output) : write_beside(output, output->name, usual_rights());
+    return S_ISREG(there.st_mode) ? write_over(output, there.st_mode & 07777) : write_there(output);
 }
 
 int output_end(struct output *output, FILE *err) {

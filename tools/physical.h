@@ -24,8 +24,22 @@ int physical_tags(const struct mesh *mesh, uint32_t dimension, const struct tags
 /* The name of a group, null where it has none. */
 const struct mesh_name *physical_name(const struct mesh *mesh, uint32_t dimension, uint32_t tag);
 
-/* Whether an element belongs to a group. */
-int physical_has(const struct mesh_element *element, uint32_t dimension, uint32_t tag);
+/* Tags in rising order, each with its place in the list they come from, so that the group of an element is found quickly. */
+struct physical_place {
+    uint32_t tag;
+    size_t place;
+};
+
+struct physical_index {
+    struct physical_place *places;
+    size_t total;
+};
+
+/* Makes the index of a list in which no tag stands twice. Answers 0 where there is no memory. The places are to be given to free. */
+int physical_index(const struct tags *tags, struct physical_index *index);
+
+/* The place of the group that an element of the dimension belongs to; SIZE_MAX where it belongs to none. */
+size_t physical_group(const struct physical_index *index, const struct mesh_element *element, uint32_t dimension);
 
 /* Adds an element to a chain of a sheet: 1 at its cell where its nodes are an even permutation of the rising ones, -1 where they are an odd one. Answers
  * 0 where the element is no cell of the sheet. */

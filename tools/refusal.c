@@ -13,27 +13,11 @@
 
 enum { FIRST_OF_MESH = FILDWUK_MESH_MALFORMED };
 
+/* The header speaks of slices in 16, which the command always lends long enough. */
 const char *refusal_meaning(uint32_t number) {
-    static const char *const MEANINGS[] = {
-        "done",
-        "the sheet has fewer than 16 bytes",
-        "a count exceeds the limit",
-        "an offset differs from the one required",
-        "the length differs from the one required",
-        "in some cell the vertices do not rise strictly",
-        "in some section the cells do not rise strictly",
-        "a face is missing",
-        "the dimension exceeds 3",
-        "a lent slice is too short",
-        "the chain has another length than its dimension asks for",
-        "a coefficient lies outside -32767 to 32767",
-        "the chain has a boundary",
-        "the reduction makes an entry beyond 1048575",
-        "the text is not MSH 2.2 ASCII in the form that is read, or a node number exceeds 65535",
-        "an element has another kind, another number of nodes than its kind, a node that is not listed, or a node twice",
-        "the mesh has too many cells in a dimension, the faces of its elements counted",
-    };
-    return number < sizeof MEANINGS / sizeof *MEANINGS ? MEANINGS[number] : "a refusal that this command does not know";
+    if (number == FILDWUK_SHEET_TOO_LONG)
+        return "a count of cells would exceed the limit, the faces of the elements counted";
+    return fildwuk_answer_text(number);
 }
 
 void refusal_where(const struct refusal *refusal, FILE *file) {
@@ -48,7 +32,9 @@ static void write_help(const struct refusal *refusal, FILE *file) {
     uint32_t number = refusal->number;
     if (number <= FILDWUK_LENGTH_DIFFERS || number == FILDWUK_MESH_MALFORMED)
         hint_format(refusal->source->text, file);
-    if (number == FILDWUK_ELEMENT_FAULTY)
+    if (number == FILDWUK_TOO_WIDE)
+        fputs("Parts that do not touch, asked for apart (--region TAG), or another numbering of the nodes may stay within it", file);
+    if (number == FILDWUK_ELEMENT_FAULTY && where_mesh_other_kind(refusal->source->text, refusal->options))
         fputs("Elements are points, lines, triangles and tetrahedra of first order: mesh without Recombine and Mesh.ElementOrder", file);
     if (number == FILDWUK_SHEET_TOO_LONG || number == FILDWUK_COUNT_EXCEEDS_LIMIT)
         fputs(refusal->options->limit == LIMIT_HOST ? "Without --limit host the limit is 256" : "", file);

@@ -94,9 +94,11 @@ static int report_dimension(const struct job *job, const struct homology *homolo
 static void write_start(const struct job *job) {
     FILE *out = job->console->out;
     if (job->options->form == FORM_JSON)
-        json_begin(job->source->sheet.bytes, job->options->limit, out);
+        json_begin(job->source->sheet.bytes, job->options, out);
     if (job->options->form == FORM_WORDS) {
         write_name(out, input_name(job->options->input));
+        for (size_t i = 0; i < job->options->region.total; i++)
+            fprintf(out, "%s%u", i == 0 ? ", region " : " ", (unsigned)job->options->region.list[i]);
         fputs(": ", out);
         words_counts(job->source->sheet.bytes, out);
     }

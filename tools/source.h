@@ -1,4 +1,4 @@
-/* The sheet that a command works on: an input that starts with `$` is a mesh text and imported by the proved call, any other is the sheet itself. */
+/* The sheet that a command works on: an input that is a mesh text (input_is_mesh) is imported by the proved call, any other is the sheet itself. */
 #ifndef SOURCE_H
 #define SOURCE_H
 

@@ -10,15 +10,10 @@
 
 enum { NODE_NUMBERS = 65536, WORD_SHOWN = 40, WORD_MOST = 100 };
 
-/* The line of each node by its number, null where there is none. */
+/* The line of each node by its number, null where there is none. The nodes of a sheet all have one: the proved import refuses others with 15. */
 struct places {
     const struct mesh_node **nodes;
 };
-
-static int failed(FILE *err, const char *why) {
-    fprintf(err, "fildwuk: %s\n", why);
-    return 0;
-}
 
 /* The number of digits at a place. */
 static size_t digits_at(const uint8_t *bytes, size_t length, size_t at) {
@@ -68,8 +63,6 @@ static int all_plain(const struct text *text, struct places places, const uint8_
     for (size_t i = 0; i < sheet_count(sheet, 0); i++) {
         uint16_t vertices[SHEET_DIMENSIONS];
         sheet_cell(sheet, 0, i, vertices);
-        if (places.nodes[vertices[0]] == NULL)
-            return failed(err, "no view is written: a node has no line");
         if (!is_plain(text, places.nodes[vertices[0]], err))
             return 0;
     }
@@ -109,8 +102,10 @@ static void write_generator(FILE *file, const struct text *text, struct places p
 int view_write(FILE *file, const struct text *text, const struct mesh *mesh, const uint8_t *sheet, const struct homology *homology,
                const struct tags *region, FILE *err) {
     struct places places = {calloc(NODE_NUMBERS, sizeof *places.nodes)};
-    if (places.nodes == NULL)
-        return failed(err, strerror(ENOMEM));
+    if (places.nodes == NULL) {
+        fprintf(err, "fildwuk: %s\n", strerror(ENOMEM));
+        return STATUS_FAILED;
+    }
     for (size_t i = 0; i < mesh->node_total; i++)
         places.nodes[mesh->nodes[i].number] = &mesh->nodes[i];
     int fits = generators_fit(sheet, homology, err) && all_plain(text, places, sheet, err);
@@ -122,5 +117,5 @@ int view_write(FILE *file, const struct text *text, const struct mesh *mesh, con
         fputs("};\n", file);
     }
     free(places.nodes);
-    return fits;
+    return fits ? STATUS_DONE : STATUS_REFUSED;
 }

@@ -98,3 +98,14 @@ void where_mesh(const struct text *text, const struct options *options, uint32_t
         write_counts(&mesh, options, file);
     mesh_free(&mesh);
 }
+
+int where_mesh_other_kind(const struct text *text, const struct options *options) {
+    struct mesh mesh;
+    struct mesh_fault fault;
+    struct element_found found = {ELEMENT_SOUND, 0, 0};
+    if (mesh_read(text, &mesh, &fault) != MESH_READ)
+        return 0;
+    int known = element_first_fault(&mesh, &options->region, &found);
+    mesh_free(&mesh);
+    return known && found.fault == ELEMENT_OTHER_KIND;
+}

@@ -23,6 +23,11 @@ class Ran:
         return self.errors.decode("utf-8").splitlines()
 
 
+def is_mesh(data):
+    """Whether the command is to read an input as a mesh: a sheet with 36 vertices starts with a dollar sign too, and then a zero."""
+    return data[:1] == b"$" and data[1:2] != b"\0"
+
+
 def counted(data):
     """The bytes with their length before them."""
     return struct.pack("<I", len(data)) + data

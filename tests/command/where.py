@@ -126,7 +126,7 @@ def counts_beyond(start, counts, limit):
 
 def first_tag(content):
     """The first tag of an element's line, None where it has none or it is no number."""
-    words = content.split()
+    words = [word for word in content.split(b" ") if word]
     return int(words[3]) if int(words[2]) > 0 and words[3].isdigit() and len(words[3]) <= 9 else None
 
 

@@ -1,7 +1,7 @@
 /* Mutates mesh texts and sheets and runs every command of fildwuk on each, in process. Usage: command_mutations COUNT SEED FILE ..
  *
  * Each text is a file with one to four changes: of bytes, of numbers, of lines, of parts of other files. It is lent at its exact length, so that a
- * sanitizer sees a read beyond it. Held on each: a command answers 0, 1 or 2; it answers 0 where the proved calls do, which are asked again here; the
+ * sanitizer sees a read beyond it. Held on each: a command answers 0, 1 or 2; import and report answer as the proved calls do, asked again here; the
  * reader of tools/mesh.c takes a text exactly where the import does not say 14, and finds a faulty element exactly where it says 15; a refusal with 14,
  * 15 or 16 says where; and no message has a control byte but line feeds. The program ends with status 3 where one of these fails, after writing the
  * text to `failed_text` in the current folder. */
@@ -72,7 +72,8 @@ static void change_bytes(struct text *text) {
 
 /* Puts another number in place of a word of digits. */
 static void change_number(struct text *text) {
-    static const char *const NUMBERS[] = {"0", "1", "2", "3", "4", "5", "7", "15", "256", "65535", "65536", "999999999", "1000000000", "007", "-1", "1e3"};
+    static const char *const NUMBERS[] = {"0",   "1",     "2",     "3",         "4",          "5",   "7",  "15",
+                                          "256", "65535", "65536", "999999999", "1000000000", "007", "-1", "1e3"};
     size_t at = below(text->length + 1);
     while (at < text->length && (text->bytes[at] < '0' || text->bytes[at] > '9'))
         at++;
@@ -219,13 +220,35 @@ static void hold_import(const struct text *text) {
     answers[answer]++;
     struct ran ran = run(command_find("import"), 1, words, text);
     hold_reader(text, answer);
-    if (answer == FILDWUK_DONE ? ran.status != STATUS_DONE || ran.out_length != fildwuk_sheet_length(sheet) || memcmp(ran.out, sheet, ran.out_length) != 0
-                               : ran.status != STATUS_REFUSED || ran.out_length != 0)
+    size_t due = answer == FILDWUK_DONE ? fildwuk_sheet_length(sheet) : 0;
+    if (ran.status != (answer == FILDWUK_DONE ? STATUS_DONE : STATUS_REFUSED) || ran.out_length != due || memcmp(ran.out, sheet, due) != 0)
         fail(text, "import differs from the proved import");
     if ((answer == FILDWUK_MESH_MALFORMED || answer == FILDWUK_ELEMENT_FAULTY) && !says(&ran, "\nLine ") && !says(&ran, "\nThe "))
         fail(text, "14 or 15 does not say where");
     if (answer == FILDWUK_SHEET_TOO_LONG && !says(&ran, ", the limit is 256"))
         fail(text, "16 does not say the counts");
+    release(ran);
+}
+
+/* What the proved calls answer to a text that is taken as a mesh or a sheet: the refusal of the whole, 0 where there is none. */
+static uint32_t refusal_of(const struct text *text) {
+    static uint8_t sheet[FILDWUK_LIBRARY_SHEET_BYTES];
+    static int64_t report[FILDWUK_LIBRARY_REPORT_SLOTS(FILDWUK_LIBRARY_CELLS)];
+    static int32_t work[FILDWUK_LIBRARY_WORK_SLOTS_MOST];
+    if (input_is_mesh(text))
+        return import(text, sheet);
+    return fildwuk_library_report(text->bytes, text->length, 3, report, sizeof report / sizeof *report, work, sizeof work / sizeof *work);
+}
+
+/* Holds the plain lines of the command `report` to the proved calls: one line with the refusal of the whole, or lines of each dimension. */
+static void hold_report(const struct text *text) {
+    char *words[] = {"a file", "--plain"}, due[16];
+    uint32_t refusal = refusal_of(text);
+    struct ran ran = run(command_find("report"), 2, words, text);
+    snprintf(due, sizeof due, "R %u\n", (unsigned)refusal);
+    if (refusal == FILDWUK_DONE ? ran.status != STATUS_DONE || ran.out_length < 2 || memcmp(ran.out, "H ", 2) != 0
+                                : ran.status != STATUS_REFUSED || ran.out_length != strlen(due) || memcmp(ran.out, due, ran.out_length) != 0)
+        fail(text, "report differs from the proved calls");
     release(ran);
 }
 
@@ -237,6 +260,7 @@ static void try(const struct text *text) {
     if (exact.length > 0)
         memcpy(exact.bytes, text->bytes, text->length);
     hold_import(&exact);
+    hold_report(&exact);
     for (size_t i = 0; command_at(i) != NULL; i++)
         run_any(command_at(i), &exact);
     free(exact.bytes);

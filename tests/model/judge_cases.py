@@ -46,13 +46,14 @@ class Element:
 
 @dataclass
 class Case:
-    """A text with the words after the file's name, the facets of the region, the dimension and the groups that are judged."""
+    """A text with the words after the file's name, the facets of the region and its tags, the dimension and the groups that are judged."""
 
     text: str
     words: list
     region: list
     dimension: int
     groups: list = field(default_factory=list)
+    tags: list = field(default_factory=list)
 
 
 def spread(rng, chain, cells):
@@ -163,6 +164,7 @@ def choose(rng, case, elements, names, tags, own, named, by_region):
         judged = sorted([*judged, own])
     case.words = list(map(str, judged)) if named and there else []
     case.words += ["--dimension", str(p)] if p != 1 or rng.random() < 0.1 else []
+    case.tags = [own] if by_region else []
     case.words += ["--region", str(own)] if by_region else []
     inside = [e for e in elements if (e.tag == own if by_region else e.tag not in judged or len(e.nodes) != p + 1)]
     case.region = [e.nodes for e in inside]

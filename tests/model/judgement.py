@@ -129,7 +129,9 @@ def said_of_cycle(orders, numbers):
     residues, free = numbers[:len(orders)], numbers[len(orders):]
     order = lcm(1, *(d // gcd(r, d) for r, d in zip(residues, orders)))
     verdict = "free" if any(free) else "twisted" if order > 1 else "bounds"
-    return {"verdict": verdict, "coordinates": numbers, "order": order, "divisor": gcd(*free)}
+    divisor = gcd(*free)
+    divides = {"divides": all(r % gcd(divisor, d) == 0 for r, d in zip(residues, orders))} if verdict == "free" else {}
+    return {"verdict": verdict, "coordinates": numbers, "order": order, "divisor": divisor, **divides}
 
 
 def add_multiples(groups, orders, said):
@@ -147,8 +149,8 @@ def add_multiples(groups, orders, said):
             break
 
 
-def judge(region, p, groups):
-    """What is said of the groups on the region with these facets."""
+def judge(region, p, groups, tags):
+    """What is said of the groups on the region with these facets and the tags of --region."""
     data = from_facets(region)
     sheet = parse(data, LIBRARY_COUNT_LIMIT)
     report = homology.report(data, p)
@@ -165,7 +167,7 @@ def judge(region, p, groups):
     index = smith_product(rows)
     basis = len(cycles) == len(groups) == report.rank == ranks[-1] and index == 1
     return {
-        "counts": [sheet.count(q) for q in range(4)], "dimension": p, "free": report.rank, "orders": report.orders,
+        "region": tags, "refusal": 0, "counts": [sheet.count(q) for q in range(4)], "dimension": p, "free": report.rank, "orders": report.orders,
         "groups": [{"tag": group.tag, "name": group.name, "elements": len(group.elements), "cycle": "coordinates" in one, **one}
                    for group, one in zip(groups, said)],
         "rank": ranks[-1], "index": index, "relations": relations, "basis": BASIS if basis else NO_BASIS,
