@@ -14,12 +14,12 @@ import tempfile
 from pathlib import Path
 
 # The name of a file with one of the endings that the sources have, and a path in one of their folders.
-NAMED = re.compile(r"(?<![\w<$./-])(?:[\w.-]+/)*[\w-]+\.(?:md|c|h|py|antt|rt|txt|msh|sheet|a|so|pc|cmake|1)\b(?!>)")
+NAMED = re.compile(r"(?<![\w<$./-])(?:[\w.-]+/)*[\w-]+\.(?:md|c|h|py|antt|rt|txt|msh|sheet|a|so|pc|cmake|(?<=[a-z]\.)1)\b(?!>)")
 FOLDERS = ("crates", "tests", "bench", "tools", "docs", "examples", "target", "package", "include")
 IN_FOLDERS = re.compile(rf"(?<![\w/])(?:{'|'.join(FOLDERS)})/[\w./-]*\w")
 
 # Names of files that the reader has or makes.
-OTHERS = {"solver.c", "FILE.msh", "FILE.sheet", "OUT.msh", "ring.msh", "plane_and_loops.msh"}
+OTHERS = {"solver.c", "FILE.msh", "FILE.sheet", "OUT.msh", "NEW.msh", "ring.msh", "ring.sheet", "plane_and_loops.msh"}
 
 
 def code(page):
