@@ -1,5 +1,5 @@
--- A matrix that is written into a slice keeps a peak of the slice that bounds the matrix too: `filled-holds`.
-use mathlib.Core.Path.{_≡_, sym, ap, subst, _∙_}
+-- A matrix that is written into a slice keeps a peak of the slice that bounds the matrix too: `filled-under`, `filled-holds`.
+use mathlib.Core.Path.{_≡_, refl, sym, ap, subst, _∙_}
 use mathlib.Core.Logic.{_⊎_, inl, inr, ⊎-elim}
 use mathlib.Core.List.{List}
 use Prim.Native.Nat.{ℕ, _+_, _-_, _*_, _/_, _%_, _<_, _≤_}
@@ -8,12 +8,14 @@ use native.Mathlib.Omega.{arith}
 use native.Mathlib.Decide.{decLt, decLe}
 use lib.IntN.{ℤ, natAbs}
 use Rattle.matrices.specs.Matrix as theory
-use Rattle.lines.specs.Slice.{at, lineAt, Under}
-use Rattle.lines.specs.Matrices.{end, Off, Holds}
+use Rattle.lines.specs.Slice.{at, lineAt, Under, Bounded, Covered}
+use Rattle.lines.specs.Matrices.{end, Off, everywhere, Holds}
 use Rattle.lines.specs.declared.matrix.Matrix.{Matrix}
-use Rattle.lines.proofs.Peaks.{written}
-use Rattle.lines.proofs.Holding.{EntriesWithin}
 use Rattle.boundaries.specs.Filled.{MatrixFilled}
+
+-- every entry of A lies within L
+abbrev EntriesWithin : Matrix → theory.Matrix → ℕ → Type 0
+EntriesWithin M A L = (i j : ℕ) → i < M .lines → j < M .width → natAbs (A i j) ≤ L
 
 -- place k is that of entry i, j
 record EntryAt (M : Matrix) (k : ℕ) : Type 0 where
@@ -52,12 +54,16 @@ module _ {M : Matrix} {w w′ : List ℤ} {A : theory.Matrix} (f : MatrixFilled 
       (λ o. subst (λ (z : ℤ). natAbs z ≤ L) (sym (f .off k o)) (old k))
       (entry-or-off M k)
 
-  pub filled-holds : {peak : ℕ} → Under peak w → EntriesWithin M A peak → Holds M w A peak (written peak) w′
+  pub filled-under : {peak : ℕ} → Under peak w → EntriesWithin M A peak → Under peak w′
+  filled-under {peak} u new = record { bound = filled-bound peak (u .bound) new; limit = u .limit }
+
+  pub filled-holds : {peak : ℕ} → Under peak w → EntriesWithin M A peak → Holds M w everywhere A peak peak w′
   filled-holds {peak} u new = record {
     same-length = f .same-length;
     on = f .on;
     off = f .off;
-    under = record { bound = filled-bound peak (u .bound) new; limit = u .limit };
+    bounded = record { bound = λ k. NatL.le-trans (filled-bound peak (u .bound) new k) (u .limit); limit = u .limit };
     above = NatL.le-refl peak;
-    least = λ L l a. l;
+    covered = record { entry = λ k. inr (filled-bound peak (u .bound) new k) };
+    wrote = inl refl;
   }

@@ -10,8 +10,8 @@ ghost use Rattle.complexes.specs.Boundary as spec;
 ghost use Rattle.complexes.specs.Boundary.{boundary};
 ghost use Rattle.sheet_format.specs.Layout.{top};
 ghost use Rattle.sheet_format.specs.Check.{sectionsOf};
-ghost use Rattle.lines.specs.Slice.{Small, Under, at};
-ghost use Rattle.lines.specs.Matrices.{Held, contents, end, Became};
+ghost use Rattle.lines.specs.Slice.{Small, Bounded, at, Under};
+ghost use Rattle.lines.specs.Matrices.{Held, contents, end, Became, everywhere};
 ghost use Rattle.faces.specs.Face.{Accepted};
 ghost use Rattle.boundaries.specs.Column.{atPlaces, ColumnBecame};
 use cells::face::FACES;
@@ -19,7 +19,6 @@ use faces::face::face_places;
 use faces::face::sign;
 use lines::absolute::absolute;
 use lines::line::Effect;
-use lines::line::Written;
 use lines::matrix::Matrix;
 
 // The sum of sign t times the entry at places[t] of a line, over t below `faces`. The loop has a constant length, so that the compiler
@@ -41,7 +40,8 @@ fn line_product(w: &[i32], line: usize, width: usize, places: [usize; FACES], fa
     total
 }
 
-// Column j of the product: the lines of q times a column that has sign t at places[t], for t below `faces`, and 0 elsewhere.
+// Column j of the product: the lines of q times a column that has sign t at places[t], for t below `faces`, and 0 elsewhere. It is handed the largest
+// absolute value of the columns before, and answers the largest with this one.
 fn multiply_column(
     q: Matrix,
     m: Matrix,
@@ -49,16 +49,16 @@ fn multiply_column(
     j: usize,
     places: [usize; FACES],
     faces: usize,
-    peak: u64,
+    before: u64,
 ) -> Effect
     requires { ⌜ (m .lines ≡ q .lines) × (j < m .width) × (faces ≤ suc top) ⌝ }
     requires { ⌜ ((t : ℕ) → t < faces → getD places t 0 < q .width) ⌝ }
-    requires { ⌜ Held (length (now w)) q × (end m ≤ q .at) × Under peak (now w) ⌝ }
-    ensures { λ r. ⌜ ColumnBecame m (now (w .entry)) (atPlaces q (now (w .entry)) places faces) j peak r (now (w .exit)) ⌝ }
+    requires { ⌜ Held (length (now w)) q × (end m ≤ q .at) × Bounded before (now w) ⌝ }
+    ensures { λ r. ⌜ ColumnBecame m (now (w .entry)) (atPlaces q (now (w .entry)) places faces) j before r (now (w .exit)) ⌝ }
 {
     let lines = q.lines;
     let width = q.width;
-    let mut largest = peak;
+    let mut largest = before;
     let mut i: usize = 0;
     while i < lines {
         let v = line_product(w, q.line(i), width, places, faces);
@@ -73,22 +73,22 @@ fn multiply_column(
         w[at] = v as i32;
         i = i + 1;
     }
-    Effect::Done(Written { peak: largest })
+    Effect::Done(largest)
 }
 
-// Makes of m the product of q and the boundary matrix of dimension p + 1.
-pub fn multiply(s: &[u8], p: usize, q: Matrix, m: Matrix, w: &mut [i32], peak: u64) -> Effect
+// Makes of m the product of q and the boundary matrix of dimension p + 1. It answers the largest absolute value that it wrote.
+pub fn multiply(s: &[u8], p: usize, q: Matrix, m: Matrix, w: &mut [i32]) -> Effect
     requires { ⌜ Accepted (now s) ⌝ }
     requires { ⌜ (q .width ≡ count (sectionsOf (now s)) p) × (m .width ≡ count (sectionsOf (now s)) (suc p)) × (m .lines ≡ q .lines) ⌝ }
-    requires { ⌜ Held (length (now w)) q × (end m ≤ q .at) × Under peak (now w) ⌝ }
+    requires { ⌜ Held (length (now w)) q × (end m ≤ q .at) × Small (now w) ⌝ }
     ensures { λ r. ⌜
-        Became m (now (w .entry))
-        (mul (q .width) (contents q (now (w .entry))) (boundary (sectionsOf (now (s .entry))) (suc p))) peak r
+        Became m (now (w .entry)) everywhere
+        (mul (q .width) (contents q (now (w .entry))) (boundary (sectionsOf (now (s .entry))) (suc p))) 0 r
         (now (w .exit))
         ⌝ }
 {
     let mut places = [0usize; FACES];
-    let mut largest = peak;
+    let mut largest: u64 = 0;
     let mut j: usize = 0;
     let columns = m.width;
     while j < columns {
@@ -96,8 +96,8 @@ pub fn multiply(s: &[u8], p: usize, q: Matrix, m: Matrix, w: &mut [i32], peak: u
         let Effect::Done(written) = multiply_column(q, m, w, j, places, p + 2, largest) else {
             return Effect::TooWide;
         };
-        largest = written.peak;
+        largest = written;
         j = j + 1;
     }
-    Effect::Done(Written { peak: largest })
+    Effect::Done(largest)
 }

@@ -3,9 +3,10 @@
 -- goes beyond the limit: product-beyond.
 use mathlib.Core.Path.{_≡_, refl, sym, subst, _∙_, ap}
 use mathlib.Core.Bool.{true, false}
+use mathlib.Core.Logic.{_⊎_, inl, inr}
 use mathlib.Core.List.{List}
 use Prim.Native.Nat.{ℕ, suc, _+_, _*_, _-_, _≤_, _<_, max}
-use native.Mathlib.Nat.{add-mul, le-refl, le-trans, le-antisymm, le-max-left, le-max-right, max-le}
+use native.Mathlib.Nat.{add-mul, le-refl, le-of-eq, le-trans, le-antisymm, le-max-left, le-max-right, max-le}
 use native.Mathlib.Omega.{arith}
 use lib.IntN.{ℤ, pos, natAbs}
 use lib.ListN.{getD, drop}
@@ -22,10 +23,10 @@ use Rattle.reports.specs.Reductions.{noTransforms, firstSizes, secondSizes, sec
 use Rattle.requests.specs.Call.{workSlots}
 use Rattle.limits.specs.Limits.{entryLimit}
 use Rattle.answers.specs.Starts.{second-shaped, entry-drop}
-use Rattle.lines.specs.Slice.{lineAt}
-use Rattle.lines.specs.Matrices.{contents, Holds, Exceeds}
+use Rattle.lines.specs.Slice.{lineAt, Under}
+use Rattle.lines.specs.Matrices.{contents, everywhere, EntryOf, Holds, Exceeds}
+use Rattle.lines.proofs.Peaks.{under-covered}
 use Rattle.lines.specs.declared.matrix.Matrix.{Matrix}
-use Rattle.lines.specs.declared.line.Written.{Written}
 use Rattle.operations.specs.Laid.{Laid, linesOf, stateOf}
 use Rattle.operations.proofs.Regions.{lines-off, lines-on}
 use Rattle.operations.proofs.Operate.{largest-under}
@@ -74,7 +75,7 @@ module _ (K : Sections) (p n r : ℕ) (slots : workSlots K p ≤ n) (within : r 
   unfolding product
   product-is = table-ext (mul-ext Q-is (Eq-refl (count K p) (count K (suc p)) (boundary K (suc p))))
 
-  module _ {x : Written} {w′ : List ℤ} (h : Holds (secondLayoutOf K p r .matrix) w multiplied peak x w′) where
+  module _ (under : Under peak w) {x : ℕ} {w′ : List ℤ} (h : Holds (secondLayoutOf K p r .matrix) w everywhere multiplied 0 x w′) where
     -- before the peak takes in what stands there
     abbrev begun : ℕ → State
     begun top = record {
@@ -103,30 +104,36 @@ module _ (K : Sections) (p n r : ℕ) (slots : workSlots K p ≤ n) (within : r 
         end : ℕ
         end = secondLayoutOf K p r .«column_follower» .at
 
-    -- the peak that the product answers is the larger of the one before and the largest entry now
-    peak-is : x .peak ≡ max peak (largest (begun peak))
+    pub product-under : Under (max peak x) w′
+    product-under = under-covered under (h .covered) (h .bounded)
+
+    -- the larger one of the peak and what the product answers is the larger one of the peak and the largest entry now
+    peak-is : max peak x ≡ max peak (largest (begun peak))
     unfolding secondLayout
     peak-is =
-        le-antisymm
-        (h .least (max peak (largest (begun peak))) (le-max-left peak (largest (begun peak)))
-        (λ i j a b. le-trans (entry-product i j a b) (le-trans (matrix-largest (begun peak)) (le-max-right peak (largest (begun peak))))))
-        (max-le (h .above) (subst (λ (s : State). largest s ≤ x .peak) (tables peak) (largest-under (secondLayoutOf K p r) peak (h .under))))
+        le-antisymm (max-le (le-max-left peak (largest (begun peak))) (le-trans (answer (h .wrote)) (le-max-right peak (largest (begun peak)))))
+        (max-le (le-max-left peak x) (subst (λ (s : State). largest s ≤ max peak x) (tables peak) (largest-under (secondLayoutOf K p r) peak product-under)))
       where
         entry-product : (i j : ℕ) → i < count K p - r → j < count K (suc p) → natAbs (multiplied i j) ≤ tableLargest (begun peak .matrix)
         entry-product =
             tableLargest-table (tableLargest (begun peak .matrix)) (count K p - r) (count K (suc p)) multiplied .0
             (subst (λ (T : Table). tableLargest T ≤ tableLargest (begun peak .matrix)) (sym product-is) (le-refl (tableLargest (begun peak .matrix))))
 
-    pub second-state : stateOf (secondLayoutOf K p r) (x .peak) w′ ≡ secondStart noTransforms K p r (stateOf (firstLayoutOf K p) peak w)
+        answer : (x ≡ 0) ⊎ EntryOf (secondLayoutOf K p r .matrix) everywhere multiplied x → x ≤ largest (begun peak)
+        answer (inl e) = omega arith
+        answer (inr o) =
+            le-trans (le-of-eq (o .is)) (le-trans (entry-product (o .line) (o .place) (o .line-below) (o .place-below)) (matrix-largest (begun peak)))
+
+    pub second-state : stateOf (secondLayoutOf K p r) (max peak x) w′ ≡ secondStart noTransforms K p r (stateOf (firstLayoutOf K p) peak w)
     unfolding secondStart
-    second-state = tables (x .peak) ∙ ap begun peak-is
+    second-state = tables (max peak x) ∙ ap begun peak-is
 
     pub product-narrow : tableWithin entryLimit (product K p r (stateOf (firstLayoutOf K p) peak w)) ≡ true
     unfolding secondLayout
     product-narrow =
         rw (← product-is)
         (tableWithin-table entryLimit (count K p - r) (count K (suc p)) multiplied .1
-        (λ i j s t. subst (λ (x : ℤ). natAbs x ≤ entryLimit) (h .on .at i j s t) (le-trans (h .under .bound (lineAt 0 (count K (suc p)) i + j)) (h .under .limit))))
+        (λ i j s t. subst (λ (x : ℤ). natAbs x ≤ entryLimit) (h .on .at i j s t) (h .bounded .bound (lineAt 0 (count K (suc p)) i + j))))
 
   pub product-beyond : {w′ : List ℤ} → Exceeds (secondLayoutOf K p r .matrix) w multiplied w′
       → tableWithin entryLimit (product K p r (stateOf (firstLayoutOf K p) peak w)) ≡ false

@@ -18,15 +18,14 @@ use Rattle.reduction_laws.specs.Tables.{table-ext, tableLargest-table}
 use Rattle.reports.specs.Reductions.{noTransforms, firstStart, absent}
 use Rattle.requests.specs.Call.{workSlots}
 use Rattle.lines.specs.Slice.{entryLimit, lineAt, Under}
-use Rattle.lines.specs.Matrices.{contents, Held, Holds}
+use Rattle.lines.specs.Matrices.{contents, Held, everywhere, Holds}
 use Rattle.lines.specs.declared.matrix.Matrix.{Matrix}
-use Rattle.lines.proofs.Peaks.{written}
 use Rattle.operations.specs.Laid.{Laid, linesOf, stateOf}
 use Rattle.operations.specs.declared.layout.Layout.{Layout}
 use Rattle.operations.proofs.Regions.{disjoint-sym, contents-apart, lines-off, lines-on}
 use Rattle.operations.proofs.Operate.{largest-under}
 use Rattle.boundaries.specs.Filled.{MatrixFilled}
-use Rattle.boundaries.proofs.Filled.{filled-holds}
+use Rattle.boundaries.proofs.Filled.{filled-under, filled-holds}
 use Rattle.operations.specs.Layouts.{matrixAt, firstLayout}
 use Rattle.calls.specs.Slices.{firstLayoutOf, startPeak, Filled}
 use Rattle.calls.proofs.Places.{first-laid, held-column-follower, held-column-inverse, matrix-column-follower, matrix-column-inverse, column-follower-inverse}
@@ -102,17 +101,29 @@ module _ (K : Sections) (p n : ℕ) (slots : workSlots K p ≤ n) where
     zeros-under : Under start (replicate n (pos 0))
     zeros-under = record { bound = λ i. rw (zero-at n i) zero-le; limit = start-limit (count K p) }
 
-    matrix-holds : Holds (firstLayoutOf K p .matrix) (replicate n (pos 0)) (boundary K p) start (written start) w₁
+    matrix-holds : Holds (firstLayoutOf K p .matrix) (replicate n (pos 0)) everywhere (boundary K p) start start w₁
     unfolding firstLayout
     matrix-holds = filled-holds (h .matrix) zeros-under (λ i j a b. le-trans (small i j) (start-one (count K p) j b))
 
-    follower-holds : Holds (firstLayoutOf K p .«column_follower») w₁ identity start (written start) w₂
+    matrix-under : Under start w₁
     unfolding firstLayout
-    follower-holds = filled-holds (h .follower) (matrix-holds .under) (λ i j a b. le-trans (identity-small i j) (start-one (count K p) j b))
+    matrix-under = filled-under (h .matrix) zeros-under (λ i j a b. le-trans (small i j) (start-one (count K p) j b))
 
-    inverse-holds : Holds (firstLayoutOf K p .«column_inverse») w₂ identity start (written start) w₃
+    follower-holds : Holds (firstLayoutOf K p .«column_follower») w₁ everywhere identity start start w₂
     unfolding firstLayout
-    inverse-holds = filled-holds (h .inverse) (follower-holds .under) (λ i j a b. le-trans (identity-small i j) (start-one (count K p) j b))
+    follower-holds = filled-holds (h .follower) matrix-under (λ i j a b. le-trans (identity-small i j) (start-one (count K p) j b))
+
+    follower-under : Under start w₂
+    unfolding firstLayout
+    follower-under = filled-under (h .follower) matrix-under (λ i j a b. le-trans (identity-small i j) (start-one (count K p) j b))
+
+    inverse-holds : Holds (firstLayoutOf K p .«column_inverse») w₂ everywhere identity start start w₃
+    unfolding firstLayout
+    inverse-holds = filled-holds (h .inverse) follower-under (λ i j a b. le-trans (identity-small i j) (start-one (count K p) j b))
+
+    inverse-under : Under start w₃
+    unfolding firstLayout
+    inverse-under = filled-under (h .inverse) follower-under (λ i j a b. le-trans (identity-small i j) (start-one (count K p) j b))
 
     -- before the peak takes in what stands there
     abbrev begun : ℕ → State
@@ -158,7 +169,7 @@ module _ (K : Sections) (p n : ℕ) (slots : workSlots K p ≤ n) where
         start-is : start ≡ max 0 (largest (begun 0))
         start-is =
             le-antisymm (le-trans (reached (count K p) refl) (le-max-right 0 (largest (begun 0))))
-            (max-le zero-le (subst (λ (s : State). largest s ≤ start) (tables 0) (largest-under (firstLayoutOf K p) 0 (inverse-holds .under))))
+            (max-le zero-le (subst (λ (s : State). largest s ≤ start) (tables 0) (largest-under (firstLayoutOf K p) 0 inverse-under)))
 
   module _ (W : Layout) (is : W ≡ firstLayoutOf K p) where
     pub laid : Laid n W
@@ -178,7 +189,7 @@ module _ (K : Sections) (p n : ℕ) (slots : workSlots K p ≤ n) where
       state = first-state small (rw is at h);
       kept = record {
         same-length = h .inverse .same-length ∙ h .follower .same-length ∙ h .matrix .same-length ∙ length-replicate n (pos 0);
-        under = inverse-holds small (rw is at h) .under;
+        under = inverse-under small (rw is at h);
       };
     }
 

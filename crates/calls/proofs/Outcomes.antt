@@ -3,7 +3,7 @@
 use mathlib.Core.Path.{_≡_, refl, sym, subst, _∙_, ap}
 use mathlib.Core.Bool.{true}
 use mathlib.Core.List.{List}
-use Prim.Native.Nat.{ℕ, suc, _≤_}
+use Prim.Native.Nat.{ℕ, suc, _≤_, max}
 use native.Mathlib.Nat.{le-trans, min-le-right}
 use native.Mathlib.Omega.{arith}
 use lib.IntN.{ℤ, pos}
@@ -25,11 +25,11 @@ use Rattle.requests.specs.Call.{workSlots}
 use Rattle.reports.specs.Reductions.{reductionsOf}
 use Rattle.limits.specs.Limits.{entryLimit, libraryLimit}
 use Rattle.answers.specs.TwoReductions.{first-reduced, reductions-right}
-use Rattle.lines.specs.Matrices.{contents, Held, Holds, Exceeds, Became}
+use Rattle.lines.specs.Matrices.{contents, Held, Holds, Exceeds, Became, everywhere}
+use Rattle.lines.proofs.Peaks.{under-covered}
 use Rattle.lines.specs.declared.matrix.Matrix.{Matrix}
-use Rattle.lines.specs.declared.line.Written.{Written}
 use Rattle.lines.specs.declared.line.Effect.{Effect}
-use Rattle.lines.specs.declared.line.Effect.the-variants as written
+use Rattle.lines.specs.declared.line.Effect.the-variants as effect
 use Rattle.refusal.specs.declared.Refusal.{Refusal}
 use Rattle.refusal.specs.declared.Refusal.the-variants as refusal
 use Rattle.operations.specs.Laid.{Laid, stateOf}
@@ -61,12 +61,12 @@ module _ (W : Layout) {y : Machine} {n : ℕ} {w : List ℤ} (x : Reduction) whe
   pub reduces-refused : {z : Refusal} → x ≡ reduction.Refused z → Reduces W y n x w → ReductionRefused y n z w
   reduces-refused e h = subst (λ (z : Reduction). Reduces W y n z w) e h
 
-module _ {M : Matrix} {w w′ : List ℤ} {A : theory.Matrix} (peak : ℕ) (x : Effect) where
-  pub became-done : {a : Written} → x ≡ written.Done a → Became M w A peak x w′ → Holds M w A peak a w′
-  became-done e h = subst (λ (z : Effect). Became M w A peak z w′) e h
+module _ {M : Matrix} {w w′ : List ℤ} {A : theory.Matrix} (x : Effect) where
+  pub became-done : {a : ℕ} → x ≡ effect.Done a → Became M w everywhere A 0 x w′ → Holds M w everywhere A 0 a w′
+  became-done e h = subst (λ (z : Effect). Became M w everywhere A 0 z w′) e h
 
-  pub became-wide : x ≡ written.TooWide → Became M w A peak x w′ → Exceeds M w A w′
-  became-wide e h = subst (λ (z : Effect). Became M w A peak z w′) e h
+  pub became-wide : x ≡ effect.TooWide → Became M w everywhere A 0 x w′ → Exceeds M w A w′
+  became-wide e h = subst (λ (z : Effect). Became M w everywhere A 0 z w′) e h
 
 module _ {rule : Rule} (is-rule : IsRule rule) (K : Sections) (p n : ℕ) (chains : ChainComplex libraryLimit K) (slots : workSlots K p ≤ n) where
   -- the first reduction is done with rank r, and the slice holds the state that it leaves, with the peak
@@ -140,14 +140,15 @@ module _ {rule : Rule} (is-rule : IsRule rule) (K : Sections) (p n : ℕ) (chain
         product-wide noTransforms rule entryLimit K p r (stateOf (firstLayoutOf K p) peak w) (f .outcome)
         (product-beyond K p n r slots (f .rank-within) peak w (f .shaped) (rw is at h))
 
-    pub second-started : {x : Written} {w′ : List ℤ} → Holds (W .matrix) w asked peak x w′ → SecondStarted r peak w (x .peak) w′
+    -- the product answered x, and the second reduction starts with the larger one of that and the peak of the first
+    pub second-started : {x peak′ : ℕ} {w′ : List ℤ} → Holds (W .matrix) w everywhere asked 0 x w′ → peak′ ≡ max peak x → SecondStarted r peak w peak′ w′
     unfolding secondLayout
-    second-started {x} {w′} h = record {
+    second-started {x} {peak′} {w′} h e = subst (λ (m : ℕ). SecondStarted r peak w m w′) (sym e) (record {
       first = f;
-      state = second-state K p n r slots (f .rank-within) peak w (f .shaped) (rw is at h);
-      narrow = product-narrow K p n r slots (f .rank-within) peak w (f .shaped) (rw is at h);
-      kept = record { same-length = h .same-length ∙ f .kept .same-length; under = h .under };
-    }
+      state = second-state K p n r slots (f .rank-within) peak w (f .shaped) (f .kept .under) (rw is at h);
+      narrow = product-narrow K p n r slots (f .rank-within) peak w (f .shaped) (f .kept .under) (rw is at h);
+      kept = record { same-length = h .same-length ∙ f .kept .same-length; under = under-covered (f .kept .under) (h .covered) (h .bounded) };
+    })
 
   -- ---- the second reduction
 

@@ -15,6 +15,7 @@ use boundaries::fill::fill_boundary;
 use boundaries::fill::fill_identity;
 use boundaries::product::multiply;
 use fields::field::count;
+use lines::absolute::larger;
 use lines::line::Effect;
 use lines::line::clear;
 use operations::layout::Layout;
@@ -63,12 +64,12 @@ pub fn reduce_twice(s: &[u8], p: usize, sizes: Sizes, w: &mut [i32]) -> Reductio
         return Reductions::Refused(Refusal::TooWide);
     };
     let second = Layout::second(sizes.cells, sizes.rows, sizes.columns, rank);
-    let Effect::Done(product) = multiply(s, p, second.row_follower, second.matrix, w, halfway)
-    else {
+    let Effect::Done(product) = multiply(s, p, second.row_follower, second.matrix, w) else {
         clear(w);
         return Reductions::Refused(Refusal::TooWide);
     };
-    let Reduction::Done(last, peak) = reduce_matrix(second, w, product.peak) else {
+    let reached = larger(halfway, product);
+    let Reduction::Done(last, peak) = reduce_matrix(second, w, reached) else {
         return Reductions::Refused(Refusal::TooWide);
     };
     Reductions::Done(Reduced {

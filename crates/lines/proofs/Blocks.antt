@@ -2,34 +2,32 @@
 use mathlib.Core.Path.{_≡_, sym, ap, subst, _∙_}
 use mathlib.Core.Logic.{inl, inr, ⊎-elim}
 use mathlib.Core.List.{List}
-use Prim.Native.Nat.{ℕ, _+_, _-_, _<_, _≤_}
+use Prim.Native.Nat.{ℕ, _+_, _<_, _≤_}
 use native.Mathlib.Omega.{arith}
-use native.Mathlib.Decide.{decLt}
 use native.Mathlib.Nat as NatL
 use mir.Syntax.{w64}
 use lib.ListN.{length}
 use lib.IntN.{ℤ, natAbs}
-use Rattle.lines.specs.Slice.{entryLimit, at, Under, Apart, LineSet, Beyond, Subtracted, difference}
-use Rattle.lines.specs.declared.line.Written.{Written}
+use Rattle.lines.specs.Slice.{entryLimit, at, Bounded, Apart, LineSet, Beyond, Subtracted, difference}
 use Rattle.lines.specs.declared.line.Effect.{Effect}
 use Rattle.lines.specs.declared.line.Effect.the-variants.{Done, TooWide}
-use Rattle.lines.proofs.Peaks.{written}
+use Rattle.lines.proofs.Parts.{lineSet-part}
 use Rattle.lines.proofs.Store.{lineSet-none}
 use Rattle.words.specs.Read.{read, read-wide}
 
--- what a call asks, and what the slice holds; x has the peak so far
-pub record Partly (w₀ : List ℤ) (target source width : ℕ) (q : ℤ) (peak t : ℕ) (x : Written) (w : List ℤ) : Type 0 where
+-- what a call asks, and what the slice holds; x is the largest absolute value that was written so far
+pub record Partly (w₀ : List ℤ) (target source width : ℕ) (q : ℤ) (before t x : ℕ) (w : List ℤ) : Type 0 where
   pub below : t ≤ width
   pub target-inside : target + width ≤ length w₀
   pub source-inside : source + width ≤ length w₀
   pub apart : Apart target source width
   pub factor : natAbs q ≤ entryLimit
-  pub so-far : LineSet w₀ target t (difference w₀ target source q) peak x w
+  pub so-far : LineSet w₀ target t (difference w₀ target source q) before x w
 
 -- before the first place, for a number q that a word holds
 pub begun :
-    {w₀ : List ℤ} {target source width peak : ℕ} (q : ℤ) → (target + width ≤ length w₀) × (source + width ≤ length w₀) → Apart target source width
-    → Under peak w₀ → natAbs q ≤ entryLimit → Partly w₀ target source width (read w64 q) peak 0 (written peak) w₀
+    {w₀ : List ℤ} {target source width before : ℕ} (q : ℤ) → (target + width ≤ length w₀) × (source + width ≤ length w₀) → Apart target source width
+    → Bounded before w₀ → natAbs q ≤ entryLimit → Partly w₀ target source width (read w64 q) before 0 before w₀
 begun {w₀} {target} {source} {width} q inside apart under factor = record {
   below = omega arith;
   target-inside = inside .0;
@@ -40,15 +38,15 @@ begun {w₀} {target} {source} {width} q inside apart under factor = record {
 }
 
 -- after the last
-pub ended : {w₀ : List ℤ} {target source width : ℕ} {q : ℤ} {peak t : ℕ} {x : Written} {w : List ℤ} → Partly w₀ target source width q peak t x w
-    → width ≤ t → LineSet w₀ target width (difference w₀ target source q) peak x w
-ended {w₀} {target} {source} {width} {q} {peak} {t} {x} {w} partly done =
-    subst (λ (n : ℕ). LineSet w₀ target n (difference w₀ target source q) peak x w) (NatL.le-antisymm (partly .below) done) (partly .so-far)
+pub ended : {w₀ : List ℤ} {target source width : ℕ} {q : ℤ} {before t x : ℕ} {w : List ℤ} → Partly w₀ target source width q before t x w
+    → width ≤ t → LineSet w₀ target width (difference w₀ target source q) before x w
+ended {w₀} {target} {source} {width} {q} {before} {t} {x} {w} partly done =
+    subst (λ (n : ℕ). LineSet w₀ target n (difference w₀ target source q) before x w) (NatL.le-antisymm (partly .below) done) (partly .so-far)
 
 -- the next n places
-module _ {w₀ : List ℤ} {target source width : ℕ} {q : ℤ} {peak t : ℕ} {x : Written} {w : List ℤ}
-    (partly : Partly w₀ target source width q peak t x w) (n : ℕ) (inside : t + n ≤ width) where
-  so-far : LineSet w₀ target t (difference w₀ target source q) peak x w
+module _ {w₀ : List ℤ} {target source width : ℕ} {q : ℤ} {before t x : ℕ} {w : List ℤ}
+    (partly : Partly w₀ target source width q before t x w) (n : ℕ) (inside : t + n ≤ width) where
+  so-far : LineSet w₀ target t (difference w₀ target source q) before x w
   so-far = partly .so-far
 
   -- what a call on them asks
@@ -70,28 +68,13 @@ module _ {w₀ : List ℤ} {target source width : ℕ} {q : ℤ} {peak t : ℕ} 
           so-far .off (source + t + s) (⊎-elim (λ h. inr (omega arith)) (λ h. inl (omega arith)) (partly .apart)) ∙ ap (at w₀) (omega arith)
 
   part-set :
-      {y : Written} {w′ : List ℤ} → LineSet w (target + t) n (difference w (target + t) (source + t) q) (x .peak) y w′
-      → LineSet w₀ target (t + n) (difference w₀ target source q) peak y w′
-  part-set {y} {w′} h = record {
-    same-length = h .same-length ∙ so-far .same-length;
-    on = λ s l. pick s l (decLt s t);
-    off = λ i o. h .off i (⊎-elim (λ k. inl (omega arith)) (λ k. inr (omega arith)) o) ∙ so-far .off i (⊎-elim (λ k. inl k) (λ k. inr (omega arith)) o);
-    under = h .under;
-    above = NatL.le-trans (so-far .above) (h .above);
-    least = λ L p a.
-        h .least L (so-far .least L p (λ s l. a s (omega arith)))
-        (λ s l. subst (λ (z : ℤ). natAbs z ≤ L) (sym (next-same s l)) (a (t + s) (omega arith)));
-  }
-    where
-      pick : (s : ℕ) → s < t + n → Dec (s < t) → at w′ (target + s) ≡ difference w₀ target source q s
-      pick s l (yes k) = h .off (target + s) (inl (omega arith)) ∙ so-far .on s k
-      pick s l (no k) =
-          ap (at w′) (omega arith) ∙ h .on (s - t) (omega arith) ∙ next-same (s - t) (omega arith)
-          ∙ ap (difference w₀ target source q) (omega arith)
+      {y : ℕ} {w′ : List ℤ} → LineSet w (target + t) n (difference w (target + t) (source + t) q) x y w′
+      → LineSet w₀ target (t + n) (difference w₀ target source q) before y w′
+  part-set h = lineSet-part so-far h next-same
 
   pub part-done :
-      {y : Written} {w′ : List ℤ} → LineSet w (target + t) n (difference w (target + t) (source + t) q) (x .peak) y w′
-      → Partly w₀ target source width q peak (t + n) y w′
+      {y : ℕ} {w′ : List ℤ} → LineSet w (target + t) n (difference w (target + t) (source + t) q) x y w′
+      → Partly w₀ target source width q before (t + n) y w′
   part-done h = record {
     below = inside;
     target-inside = partly .target-inside;
@@ -112,13 +95,13 @@ module _ {w₀ : List ℤ} {target source width : ℕ} {q : ℤ} {peak t : ℕ} 
 
   -- a part that is the rest of the line
   pub part-last :
-      t + n ≡ width → (r : Effect) (w′ : List ℤ) → Subtracted w (target + t) (source + t) n q (x .peak) r w′
-      → Subtracted w₀ target source width q peak r w′
+      t + n ≡ width → (r : Effect) (w′ : List ℤ) → Subtracted w (target + t) (source + t) n q x r w′
+      → Subtracted w₀ target source width q before r w′
   part-last e (Done y) w′ h = ended (part-done h) (omega arith)
   part-last e TooWide w′ h = part-beyond h
 
 -- the factor is the number that the word holds
 pub factor-read :
-    (w₀ : List ℤ) (target source width : ℕ) (q : ℤ) → natAbs q ≤ entryLimit → (peak : ℕ) (r : Effect) (w : List ℤ)
-    → Subtracted w₀ target source width (read w64 q) peak r w → Subtracted w₀ target source width q peak r w
-factor-read w₀ target source width q small peak r w = subst (λ (k : ℤ). Subtracted w₀ target source width k peak r w) (read-wide q small)
+    (w₀ : List ℤ) (target source width : ℕ) (q : ℤ) → natAbs q ≤ entryLimit → (before : ℕ) (r : Effect) (w : List ℤ)
+    → Subtracted w₀ target source width (read w64 q) before r w → Subtracted w₀ target source width q before r w
+factor-read w₀ target source width q small before r w = subst (λ (k : ℤ). Subtracted w₀ target source width k before r w) (read-wide q small)

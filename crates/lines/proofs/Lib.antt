@@ -1,5 +1,7 @@
 -- What the proofs of the crate share.
 pub mod Peaks
+pub mod Casts
+pub mod Parts
 pub mod Store
 pub mod Blocks
 pub mod Zeros

@@ -6,10 +6,10 @@ use Prim.Native.Nat.{ℕ, _+_, _<_, _≤_}
 use lib.ListN.{length}
 use lib.IntN.{ℤ, natAbs}
 use mir.Syntax.{w64}
-use Rattle.matrices.specs.Operation.{subtract, onRows}
-use Rattle.lines.specs.Slice.{entryLimit, lineAt, Under, Apart, Subtracted}
-use Rattle.lines.specs.Matrices.{Held, contents, Became}
-use Rattle.lines.specs.Operations.{operationOf, Fits}
+use Rattle.matrices.specs.Operation.{subtract}
+use Rattle.lines.specs.Slice.{entryLimit, lineAt, Bounded, Apart, Subtracted}
+use Rattle.lines.specs.Matrices.{Held}
+use Rattle.lines.specs.Operations.{operationOf, Fits, OnLines}
 use Rattle.lines.specs.declared.matrix.Matrix.{Matrix}
 use Rattle.lines.specs.declared.line.Effect.{Effect}
 use Rattle.lines.specs.declared.operation.Operation.{Operation}
@@ -40,20 +40,20 @@ module _ {op : Operation} {i k : ℕ} {q : ℤ} (e : op ≡ Subtract i k q) (M :
     source = line-span M b k b-is taken-below
 
     pub subtraction-asks :
-        {w : List ℤ} {peak : ℕ} → Held (length w) M → Under peak w
-        → ((a + M .width ≤ length w) × (b + M .width ≤ length w)) × (Apart a b (M .width) × (Under peak w × (natAbs (read w64 q) ≤ entryLimit)))
-    subtraction-asks held under = (
+        {w : List ℤ} {before : ℕ} → Held (length w) M → Bounded before w
+        → ((a + M .width ≤ length w) × (b + M .width ≤ length w)) × (Apart a b (M .width) × (Bounded before w × (natAbs (read w64 q) ≤ entryLimit)))
+    subtraction-asks held bounded = (
       (span-inside target held, span-inside source held),
       (
         spans-apart target source (inl (subtract-fits .within .distinct)),
-        (under, subst (λ (x : ℤ). natAbs x ≤ entryLimit) (sym factor-is) (subtract-fits .factor)),
+        (bounded, subst (λ (x : ℤ). natAbs x ≤ entryLimit) (sym factor-is) (subtract-fits .factor)),
       ),
     )
 
     pub subtraction-came :
-        (w w′ : List ℤ) (peak : ℕ) (r : Effect) → Subtracted w a b (M .width) (read w64 q) peak r w′
-        → Became M w (onRows (operationOf op) (contents M w)) peak r w′
-    subtraction-came w w′ peak r h =
-        became-case e M w w′ peak r
-        (subst (λ (x : ℤ). Became M w (onRows (subtract i k x) (contents M w)) peak r w′) factor-is
-        (subtract-lines target source w w′ (read w64 q) peak r h))
+        (w w′ : List ℤ) (before : ℕ) (r : Effect) → Subtracted w a b (M .width) (read w64 q) before r w′
+        → OnLines M w (operationOf op) before r w′
+    subtraction-came w w′ before r h =
+        became-case e M w w′ before r
+        (subst (λ (x : ℤ). OnLines M w (subtract i k x) before r w′) factor-is
+        (subtract-lines target source w w′ (read w64 q) before r h))

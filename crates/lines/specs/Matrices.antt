@@ -7,9 +7,8 @@ use lib.ListN.{length}
 use lib.IntN.{ℤ, natAbs}
 use Rattle.matrices.specs.Matrix.{Eq}
 use Rattle.matrices.specs.Matrix as theory
-use Rattle.lines.specs.Slice.{entryLimit, at, lineAt, Under}
+use Rattle.lines.specs.Slice.{entryLimit, at, lineAt, Bounded, Covered}
 use Rattle.lines.specs.declared.matrix.Matrix.{Matrix}
-use Rattle.lines.specs.declared.line.Written.{Written}
 use Rattle.lines.specs.declared.line.Effect.{Effect}
 use Rattle.lines.specs.declared.line.Effect.the-variants.{Done, TooWide}
 
@@ -29,15 +28,33 @@ contents M w i j = at w (lineAt (M .at) (M .width) i + j)
 abbrev pub Off : Matrix → ℕ → Type 0
 Off M i = (i < M .at) ⊎ (end M ≤ i)
 
--- w′ holds A where the matrix stands, and is w elsewhere. The peak after it bounds every entry, and is no larger than the one before and the entries
--- of A make it.
-pub record Holds (M : Matrix) (w : List ℤ) (A : theory.Matrix) (peak : ℕ) (x : Written) (w′ : List ℤ) : Type 0 where
+-- some entries of a matrix
+abbrev pub Entries : Type 1
+Entries = ℕ → ℕ → Type 0
+
+-- all of them
+abbrev pub everywhere : Entries
+everywhere i j = Unit {0}
+
+-- n is the absolute value of an entry of A among these
+pub record EntryOf (M : Matrix) (among : Entries) (A : theory.Matrix) (n : ℕ) : Type 0 where
+  pub line : ℕ
+  pub place : ℕ
+  pub line-below : line < M .lines
+  pub place-below : place < M .width
+  pub chosen : among line place
+  pub is : n ≡ natAbs (A line place)
+
+-- w′ holds A where the matrix stands, and is w elsewhere. x is the largest absolute value that was written, with those entries: it covers every
+-- entry that differs, and is the one before or that of an entry among them.
+pub record Holds (M : Matrix) (w : List ℤ) (among : Entries) (A : theory.Matrix) (before x : ℕ) (w′ : List ℤ) : Type 0 where
   pub same-length : length w′ ≡ length w
   pub on : Eq (M .lines) (M .width) (contents M w′) A
   pub off : (i : ℕ) → Off M i → at w′ i ≡ at w i
-  pub under : Under (x .peak) w′
-  pub above : peak ≤ x .peak
-  pub least : (L : ℕ) → peak ≤ L → ((i j : ℕ) → i < M .lines → j < M .width → natAbs (A i j) ≤ L) → x .peak ≤ L
+  pub bounded : Bounded x w′
+  pub above : before ≤ x
+  pub covered : Covered w w′ x
+  pub wrote : (x ≡ before) ⊎ EntryOf M among A x
 
 -- some entry of A lies beyond the limit
 pub record Exceeds (M : Matrix) (w : List ℤ) (A : theory.Matrix) (w′ : List ℤ) : Type 0 where
@@ -48,10 +65,10 @@ pub record Exceeds (M : Matrix) (w : List ℤ) (A : theory.Matrix) (w′ : List 
   pub place-below : place < M .width
   pub beyond : entryLimit < natAbs (A line place)
 
--- what an operation that makes A of the matrix, handed the peak so far, answers and leaves
-abbrev pub Became : Matrix → List ℤ → theory.Matrix → ℕ → Effect → List ℤ → Type 0
-Became M w A peak (Done x) w′ = Holds M w A peak x w′
-Became M w A peak TooWide w′ = Exceeds M w A w′
+-- what an operation that makes A of the matrix, by writing some entries, answers and leaves
+abbrev pub Became : Matrix → List ℤ → Entries → theory.Matrix → ℕ → Effect → List ℤ → Type 0
+Became M w among A before (Done x) w′ = Holds M w among A before x w′
+Became M w among A before TooWide w′ = Exceeds M w A w′
 
 -- the places of line i, as a matrix of that many lines of one entry
 abbrev pub placesOf : Matrix → ℕ → Matrix

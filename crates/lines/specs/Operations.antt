@@ -1,14 +1,15 @@
 -- The elementary operations of the code, and what a call of one asks.
 use mathlib.Core.Path.{_≡_}
-use mathlib.Core.Logic.{_≢_}
+use mathlib.Core.Logic.{_⊎_, _≢_}
 use mathlib.Core.List.{List}
 use Prim.Native.Nat.{ℕ, _<_, _≤_}
 use lib.IntN.{ℤ, pos, natAbs}
 use Rattle.matrices.specs.Operation as theory
 use Rattle.matrices.specs.Within.{Within}
 use Rattle.lines.specs.Slice.{entryLimit}
-use Rattle.lines.specs.Matrices.{contents}
+use Rattle.lines.specs.Matrices.{contents, Became}
 use Rattle.lines.specs.declared.matrix.Matrix.{Matrix}
+use Rattle.lines.specs.declared.line.Effect.{Effect}
 use Rattle.lines.specs.declared.operation.Operation.{Operation}
 use Rattle.lines.specs.declared.operation.Operation.the-variants.{Subtract, Swap, Negate}
 
@@ -23,6 +24,19 @@ abbrev pub FactorWithin : theory.Operation → Type 0
 FactorWithin (theory.subtract i k q) = natAbs q ≤ entryLimit
 FactorWithin (theory.swap i k) = Unit {0}
 FactorWithin (theory.negate k) = Unit {0}
+
+-- the lines, or places, that it writes
+abbrev pub Writes : theory.Operation → ℕ → Type 0
+Writes (theory.subtract i k q) a = a ≡ i
+Writes (theory.swap i k) a = (a ≡ i) ⊎ (a ≡ k)
+Writes (theory.negate k) a = a ≡ k
+
+-- what it answers and leaves where it is done to the lines of a matrix, and to the places of every line
+abbrev pub OnLines : Matrix → List ℤ → theory.Operation → ℕ → Effect → List ℤ → Type 0
+OnLines M w op before r w′ = Became M w (λ i j. Writes op i) (theory.onRows op (contents M w)) before r w′
+
+abbrev pub OnPlaces : Matrix → List ℤ → theory.Operation → ℕ → Effect → List ℤ → Type 0
+OnPlaces M w op before r w′ = Became M w (λ i j. Writes op j) (theory.onColumns op (contents M w)) before r w′
 
 -- it is one of n lines or places
 pub record Fits (n : ℕ) (op : theory.Operation) : Type 0 where

@@ -7,7 +7,6 @@ use Prim.Native.Nat.{ℕ, _+_, _*_, _<_, _≤_}
 use lib.ListN.{length, getD}
 use lib.IntN.{ℤ, pos, negℤ, natAbs, _-ℤ_, _*ℤ_}
 pub use Rattle.limits.specs.Limits.{entryLimit}
-use Rattle.lines.specs.declared.line.Written.{Written}
 use Rattle.lines.specs.declared.line.Effect.{Effect}
 use Rattle.lines.specs.declared.line.Effect.the-variants.{Done, TooWide}
 
@@ -28,6 +27,15 @@ pub record Under (peak : ℕ) (w : List ℤ) : Type 0 where
   pub bound : (i : ℕ) → natAbs (at w i) ≤ peak
   pub limit : peak ≤ entryLimit
 
+-- every entry, and the largest absolute value that an operation wrote so far, lies within the limit
+pub record Bounded (largest : ℕ) (w : List ℤ) : Type 0 where
+  pub bound : (i : ℕ) → natAbs (at w i) ≤ entryLimit
+  pub limit : largest ≤ entryLimit
+
+-- an entry of w′ is as it was in w, or its absolute value is at most n
+pub record Covered (w w′ : List ℤ) (n : ℕ) : Type 0 where
+  pub entry : (i : ℕ) → (at w′ i ≡ at w i) ⊎ (natAbs (at w′ i) ≤ n)
+
 -- two lines share no place
 abbrev pub Apart : ℕ → ℕ → ℕ → Type 0
 Apart a b width = (a + width ≤ b) ⊎ (b + width ≤ a)
@@ -44,6 +52,10 @@ block = 8
 pub record ZerosTold (w : List ℤ) (a n : ℕ) (r : Bool) : Type 0 where
   pub zeros : r ≡ true → (t : ℕ) → t < n → at w (a + t) ≡ pos 0
 
+-- what a test for equality of the n entries from a on and from b on tells
+pub record SameTold (w : List ℤ) (a b n : ℕ) (r : Bool) : Type 0 where
+  pub same : r ≡ true → (t : ℕ) → t < n → at w (a + t) ≡ at w (b + t)
+
 -- the line at a is 0 from place `from` up to place r, which is at most its width
 pub record ZerosTo (w : List ℤ) (a from width r : ℕ) : Type 0 where
   pub begins : from ≤ r
@@ -55,15 +67,22 @@ pub record FirstNonzero (w : List ℤ) (a from width r : ℕ) : Type 0 where
   pub passed : ZerosTo w a from width r
   pub found : r < width → at w (a + r) ≢ pos 0
 
--- w′ is w but for the line at `target`, which now holds `line`. The peak after it bounds every entry, and is no larger than the one before and the
--- entries of the line make it.
-pub record LineSet (w : List ℤ) (target width : ℕ) (line : ℕ → ℤ) (peak : ℕ) (x : Written) (w′ : List ℤ) : Type 0 where
+-- n is the absolute value of one of these entries
+pub record OneOf (width : ℕ) (line : ℕ → ℤ) (n : ℕ) : Type 0 where
+  pub place : ℕ
+  pub below : place < width
+  pub is : n ≡ natAbs (line place)
+
+-- w′ is w but for the line at `target`, which now holds `line`. The largest absolute value that was written, with the entries of the line: x covers
+-- every entry that differs, and is the one before or that of an entry of the line.
+pub record LineSet (w : List ℤ) (target width : ℕ) (line : ℕ → ℤ) (before x : ℕ) (w′ : List ℤ) : Type 0 where
   pub same-length : length w′ ≡ length w
   pub on : (t : ℕ) → t < width → at w′ (target + t) ≡ line t
   pub off : (i : ℕ) → Off target width i → at w′ i ≡ at w i
-  pub under : Under (x .peak) w′
-  pub above : peak ≤ x .peak
-  pub least : (L : ℕ) → peak ≤ L → ((t : ℕ) → t < width → natAbs (line t) ≤ L) → x .peak ≤ L
+  pub bounded : Bounded x w′
+  pub above : before ≤ x
+  pub covered : Covered w w′ x
+  pub wrote : (x ≡ before) ⊎ OneOf width line x
 
 -- some entry of the line would lie beyond the limit
 pub record Beyond (w : List ℤ) (width : ℕ) (line : ℕ → ℤ) (w′ : List ℤ) : Type 0 where
@@ -78,22 +97,20 @@ difference w target source q t = at w (target + t) -ℤ q *ℤ at w (source + t)
 
 -- q times the line at `source` is taken from the line at `target`
 abbrev pub Subtracted : List ℤ → ℕ → ℕ → ℕ → ℤ → ℕ → Effect → List ℤ → Type 0
-Subtracted w target source width q peak (Done x) w′ = LineSet w target width (difference w target source q) peak x w′
-Subtracted w target source width q peak TooWide w′ = Beyond w width (difference w target source q) w′
+Subtracted w target source width q before (Done x) w′ = LineSet w target width (difference w target source q) before x w′
+Subtracted w target source width q before TooWide w′ = Beyond w width (difference w target source q) w′
 
--- the two lines have changed places; the peak stays
-pub record LinesSwapped (w : List ℤ) (first second width peak : ℕ) (x : Written) (w′ : List ℤ) : Type 0 where
+-- the two lines have changed places; x is the largest absolute value that was written, with their entries
+pub record LinesSwapped (w : List ℤ) (first second width before x : ℕ) (w′ : List ℤ) : Type 0 where
   pub same-length : length w′ ≡ length w
   pub on-first : (t : ℕ) → t < width → at w′ (first + t) ≡ at w (second + t)
   pub on-second : (t : ℕ) → t < width → at w′ (second + t) ≡ at w (first + t)
   pub off : (i : ℕ) → Off first width i → Off second width i → at w′ i ≡ at w i
-  pub under : Under peak w′
-  pub peak-is : x .peak ≡ peak
+  pub bounded : Bounded x w′
+  pub above : before ≤ x
+  pub covered : Covered w w′ x
+  pub wrote : (x ≡ before) ⊎ (OneOf width (λ t. at w (first + t)) x ⊎ OneOf width (λ t. at w (second + t)) x)
 
-abbrev pub Swapped : List ℤ → ℕ → ℕ → ℕ → ℕ → Effect → List ℤ → Type 0
-Swapped w first second width peak (Done x) w′ = LinesSwapped w first second width peak x w′
-Swapped w first second width peak TooWide w′ = ⊥
-
-abbrev pub Negated : List ℤ → ℕ → ℕ → ℕ → Effect → List ℤ → Type 0
-Negated w target width peak (Done x) w′ = LineSet w target width (λ t. negℤ (at w (target + t))) peak x w′
-Negated w target width peak TooWide w′ = ⊥
+-- the line at `target` is negated
+abbrev pub Negated : List ℤ → ℕ → ℕ → ℕ → ℕ → List ℤ → Type 0
+Negated w target width before x w′ = LineSet w target width (λ t. negℤ (at w (target + t))) before x w′

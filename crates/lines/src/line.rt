@@ -1,25 +1,22 @@
-// Operations on lines: `width` consecutive entries of a slice from a place on. Each answers whether every entry that it writes lies within the
-// limit; where one does not, the work ends there. Each is handed the largest absolute value so far, the peak, which bounds every entry of the slice,
-// and answers the peak after it. A swap and a negation write nothing larger than what stood there.
+// Operations on lines: `width` consecutive entries of a slice from a place on. Each is a part of an operation on a matrix and its companions: it is
+// handed the largest absolute value that the operation wrote before, 0 where it wrote nothing, and answers the largest after it. Where an entry that
+// is to be written lies beyond the limit, the work ends there.
 ghost use mathlib.Core.Path.{_≡_};
 ghost use mathlib.Core.Logic.{_⊎_};
-ghost use Prim.Native.Nat.{_+_, _≤_};
+ghost use Prim.Native.Nat.{_+_, _<_, _≤_};
 ghost use lib.ListN.{length, replicate};
 ghost use lib.IntN.{pos, natAbs};
-ghost use Rattle.lines.specs.Slice.{entryLimit, block, Under, Apart, Subtracted, Swapped, Negated};
+ghost use Rattle.lines.specs.Slice.{entryLimit, block, Bounded, Apart, Subtracted, LinesSwapped, Negated};
 use crate::absolute::absolute;
+use crate::absolute::larger;
 use crate::matrix::Matrix;
 use crate::zero::BLOCK;
+use crate::zero::is_same_block;
 use crate::zero::is_zero_block;
 
-// What an operation tells of the entries that it wrote: their largest absolute value, or the one that it was handed where that is larger.
-pub struct Written {
-    pub peak: u64,
-}
-
-// What an operation answers.
+// What an operation answers: the largest absolute value that it wrote, or that an entry would lie beyond the limit.
 pub enum Effect {
-    Done(Written),
+    Done(u64),
     TooWide,
 }
 
@@ -30,15 +27,15 @@ pub fn subtract_places(
     source: usize,
     width: usize,
     q: i64,
-    peak: u64,
+    before: u64,
 ) -> Effect
     requires { ⌜ (target + width ≤ length (now w)) × (source + width ≤ length (now w)) ⌝ }
     requires { ⌜ Apart target source width ⌝ }
-    requires { ⌜ Under peak (now w) ⌝ }
+    requires { ⌜ Bounded before (now w) ⌝ }
     requires { ⌜ natAbs q ≤ entryLimit ⌝ }
-    ensures { λ r. ⌜ Subtracted (now (w .entry)) target source width q peak r (now (w .exit)) ⌝ }
+    ensures { λ r. ⌜ Subtracted (now (w .entry)) target source width q before r (now (w .exit)) ⌝ }
 {
-    let mut largest = peak;
+    let mut largest = before;
     let mut t: usize = 0;
     while t < width {
         let x = w[target + t] as i64;
@@ -54,21 +51,21 @@ pub fn subtract_places(
         w[target + t] = v as i32;
         t = t + 1;
     }
-    Effect::Done(Written { peak: largest })
+    Effect::Done(largest)
 }
 
 // The same for one block: where the source is 0 the target keeps its entries.
-fn subtract_block(w: &mut [i32], target: usize, source: usize, q: i64, peak: u64) -> Effect
+fn subtract_block(w: &mut [i32], target: usize, source: usize, q: i64, before: u64) -> Effect
     requires { ⌜ (target + block ≤ length (now w)) × (source + block ≤ length (now w)) ⌝ }
     requires { ⌜ Apart target source block ⌝ }
-    requires { ⌜ Under peak (now w) ⌝ }
+    requires { ⌜ Bounded before (now w) ⌝ }
     requires { ⌜ natAbs q ≤ entryLimit ⌝ }
-    ensures { λ r. ⌜ Subtracted (now (w .entry)) target source block q peak r (now (w .exit)) ⌝ }
+    ensures { λ r. ⌜ Subtracted (now (w .entry)) target source block q before r (now (w .exit)) ⌝ }
 {
     if is_zero_block(w, source) {
-        return Effect::Done(Written { peak });
+        return Effect::Done(before);
     }
-    subtract_places(w, target, source, BLOCK, q, peak)
+    subtract_places(w, target, source, BLOCK, q, before)
 }
 
 // Takes q times the line at `source` from the line at `target`, block by block.
@@ -78,55 +75,133 @@ pub fn subtract(
     source: usize,
     width: usize,
     q: i64,
-    peak: u64,
+    before: u64,
 ) -> Effect
     requires { ⌜ (target + width ≤ length (now w)) × (source + width ≤ length (now w)) ⌝ }
     requires { ⌜ Apart target source width ⌝ }
-    requires { ⌜ Under peak (now w) ⌝ }
+    requires { ⌜ Bounded before (now w) ⌝ }
     requires { ⌜ natAbs q ≤ entryLimit ⌝ }
-    ensures { λ r. ⌜ Subtracted (now (w .entry)) target source width q peak r (now (w .exit)) ⌝ }
+    ensures { λ r. ⌜ Subtracted (now (w .entry)) target source width q before r (now (w .exit)) ⌝ }
 {
-    let mut largest = peak;
+    let mut largest = before;
     let mut t: usize = 0;
     while t + BLOCK <= width {
         let Effect::Done(written) = subtract_block(w, target + t, source + t, q, largest) else {
             return Effect::TooWide;
         };
-        largest = written.peak;
+        largest = written;
         t = t + BLOCK;
     }
     subtract_places(w, target + t, source + t, width - t, q, largest)
 }
 
-// Exchanges the lines at `first` and `second`, which are one line or apart.
-pub fn swap(w: &mut [i32], first: usize, second: usize, width: usize, peak: u64) -> Effect
+// Exchanges the entries at a and b. Where they are equal nothing is written.
+pub fn swap_entries(w: &mut [i32], a: usize, b: usize, before: u64) -> u64
+    requires { ⌜ (a < length (now w)) × (b < length (now w)) ⌝ }
+    requires { ⌜ Bounded before (now w) ⌝ }
+    ensures { λ r. ⌜ LinesSwapped (now (w .entry)) a b 1 before r (now (w .exit)) ⌝ }
+{
+    let x = w[a];
+    let y = w[b];
+    if x == y {
+        return before;
+    }
+    w[a] = y;
+    w[b] = x;
+    larger(before, larger(absolute(x as i64), absolute(y as i64)))
+}
+
+// Exchanges the lines at `first` and `second`, which are one line or apart, place by place.
+pub fn swap_places(w: &mut [i32], first: usize, second: usize, width: usize, before: u64) -> u64
     requires { ⌜ (first + width ≤ length (now w)) × (second + width ≤ length (now w)) ⌝ }
     requires { ⌜ (first ≡ second) ⊎ Apart first second width ⌝ }
-    requires { ⌜ Under peak (now w) ⌝ }
-    ensures { λ r. ⌜ Swapped (now (w .entry)) first second width peak r (now (w .exit)) ⌝ }
+    requires { ⌜ Bounded before (now w) ⌝ }
+    ensures { λ r. ⌜ LinesSwapped (now (w .entry)) first second width before r (now (w .exit)) ⌝ }
 {
+    let mut largest = before;
     let mut t: usize = 0;
     while t < width {
         let x = w[first + t];
-        w[first + t] = w[second + t];
+        let y = w[second + t];
+        w[first + t] = y;
         w[second + t] = x;
+        largest = larger(largest, larger(absolute(x as i64), absolute(y as i64)));
         t = t + 1;
     }
-    Effect::Done(Written { peak })
+    largest
 }
 
-// Negates the line at `at`.
-pub fn negate(w: &mut [i32], at: usize, width: usize, peak: u64) -> Effect
-    requires { ⌜ at + width ≤ length (now w) ⌝ }
-    requires { ⌜ Under peak (now w) ⌝ }
-    ensures { λ r. ⌜ Negated (now (w .entry)) at width peak r (now (w .exit)) ⌝ }
+// The same for one block: two blocks that are equal stay as they are.
+fn swap_block(w: &mut [i32], first: usize, second: usize, before: u64) -> u64
+    requires { ⌜ (first + block ≤ length (now w)) × (second + block ≤ length (now w)) ⌝ }
+    requires { ⌜ (first ≡ second) ⊎ Apart first second block ⌝ }
+    requires { ⌜ Bounded before (now w) ⌝ }
+    ensures { λ r. ⌜ LinesSwapped (now (w .entry)) first second block before r (now (w .exit)) ⌝ }
 {
+    if is_same_block(w, first, second) {
+        return before;
+    }
+    swap_places(w, first, second, BLOCK, before)
+}
+
+// Exchanges the lines at `first` and `second`, which are one line or apart, block by block.
+pub fn swap(w: &mut [i32], first: usize, second: usize, width: usize, before: u64) -> u64
+    requires { ⌜ (first + width ≤ length (now w)) × (second + width ≤ length (now w)) ⌝ }
+    requires { ⌜ (first ≡ second) ⊎ Apart first second width ⌝ }
+    requires { ⌜ Bounded before (now w) ⌝ }
+    ensures { λ r. ⌜ LinesSwapped (now (w .entry)) first second width before r (now (w .exit)) ⌝ }
+{
+    let mut largest = before;
+    let mut t: usize = 0;
+    while t + BLOCK <= width {
+        largest = swap_block(w, first + t, second + t, largest);
+        t = t + BLOCK;
+    }
+    swap_places(w, first + t, second + t, width - t, largest)
+}
+
+// Negates the line at `at`, place by place.
+pub fn negate_places(w: &mut [i32], at: usize, width: usize, before: u64) -> u64
+    requires { ⌜ at + width ≤ length (now w) ⌝ }
+    requires { ⌜ Bounded before (now w) ⌝ }
+    ensures { λ r. ⌜ Negated (now (w .entry)) at width before r (now (w .exit)) ⌝ }
+{
+    let mut largest = before;
     let mut t: usize = 0;
     while t < width {
-        w[at + t] = -w[at + t];
+        let x = -w[at + t];
+        w[at + t] = x;
+        largest = larger(largest, absolute(x as i64));
         t = t + 1;
     }
-    Effect::Done(Written { peak })
+    largest
+}
+
+// The same for one block, which stays as it is where it is 0.
+fn negate_block(w: &mut [i32], at: usize, before: u64) -> u64
+    requires { ⌜ at + block ≤ length (now w) ⌝ }
+    requires { ⌜ Bounded before (now w) ⌝ }
+    ensures { λ r. ⌜ Negated (now (w .entry)) at block before r (now (w .exit)) ⌝ }
+{
+    if is_zero_block(w, at) {
+        return before;
+    }
+    negate_places(w, at, BLOCK, before)
+}
+
+// Negates the line at `at`, block by block.
+pub fn negate(w: &mut [i32], at: usize, width: usize, before: u64) -> u64
+    requires { ⌜ at + width ≤ length (now w) ⌝ }
+    requires { ⌜ Bounded before (now w) ⌝ }
+    ensures { λ r. ⌜ Negated (now (w .entry)) at width before r (now (w .exit)) ⌝ }
+{
+    let mut largest = before;
+    let mut t: usize = 0;
+    while t + BLOCK <= width {
+        largest = negate_block(w, at + t, largest);
+        t = t + BLOCK;
+    }
+    negate_places(w, at + t, width - t, largest)
 }
 
 // Sets every entry of the slice to 0.

@@ -2,13 +2,13 @@
 ghost use mathlib.Core.Path.{_≡_};
 ghost use Prim.Native.Nat.{_+_, _*_, _^_, _<_, _≤_};
 ghost use lib.ListN.{length};
-ghost use Rattle.matrices.specs.Operation.{onRows, onColumns};
-ghost use Rattle.lines.specs.Slice.{Under, lineAt};
-ghost use Rattle.lines.specs.Matrices.{end, Held, contents, Became, placesOf};
-ghost use Rattle.lines.specs.Operations.{operationOf, Fits, Alone};
+ghost use Rattle.matrices.specs.Operation.{swap, negate};
+ghost use Rattle.lines.specs.Slice.{Bounded, lineAt};
+ghost use Rattle.lines.specs.Matrices.{Held, contents};
+ghost use Rattle.lines.specs.Operations.{operationOf, Fits, Alone, OnLines, OnPlaces};
+ghost use Rattle.lines.specs.declared.line.Effect.the-variants.{Done};
 use crate::line;
 use crate::line::Effect;
-use crate::line::Written;
 use crate::operation::Operation;
 
 pub struct Matrix {
@@ -39,85 +39,96 @@ impl Matrix {
         w[at] as i64
     }
 
-    // Does the operation to the lines, where they are narrow: a subtraction goes place by place.
-    fn on_narrow_lines(self, w: &mut [i32], op: Operation, peak: u64) -> Effect
+    // Does the operation to the lines, block by block.
+    fn on_wide_lines(self, w: &mut [i32], op: Operation, before: u64) -> Effect
         requires { ⌜ Held (length (now w)) self ⌝ }
-        requires { ⌜ Under peak (now w) ⌝ }
+        requires { ⌜ Bounded before (now w) ⌝ }
         requires { ⌜ Fits (self .lines) (operationOf op) ⌝ }
-        ensures { λ r. ⌜ Became self (now (w .entry)) (onRows (operationOf op) (contents self (now (w .entry)))) peak r (now (w .exit)) ⌝ }
+        ensures { λ r. ⌜ OnLines self (now (w .entry)) (operationOf op) before r (now (w .exit)) ⌝ }
     {
         match op {
-            Operation::Subtract(i, k, q) => line::subtract_places(
+            Operation::Subtract(i, k, q) => line::subtract(
                 w,
                 self.line(i),
                 self.line(k),
                 self.width,
                 q,
-                peak,
+                before,
             ),
-            Operation::Swap(i, k) => line::swap(w, self.line(i), self.line(k), self.width, peak),
-            Operation::Negate(k) => line::negate(w, self.line(k), self.width, peak),
+            Operation::Swap(i, k) => Effect::Done(line::swap(
+                w,
+                self.line(i),
+                self.line(k),
+                self.width,
+                before,
+            )),
+            Operation::Negate(k) => Effect::Done(line::negate(w, self.line(k), self.width, before)),
         }
-    }
-
-    // Does the operation to the lines, where they are wide: a subtraction goes block by block.
-    fn on_wide_lines(self, w: &mut [i32], op: Operation, peak: u64) -> Effect
-        requires { ⌜ Held (length (now w)) self ⌝ }
-        requires { ⌜ Under peak (now w) ⌝ }
-        requires { ⌜ Fits (self .lines) (operationOf op) ⌝ }
-        ensures { λ r. ⌜ Became self (now (w .entry)) (onRows (operationOf op) (contents self (now (w .entry)))) peak r (now (w .exit)) ⌝ }
-    {
-        if let Operation::Subtract(i, k, q) = op {
-            return line::subtract(w, self.line(i), self.line(k), self.width, q, peak);
-        }
-        self.on_narrow_lines(w, op, peak)
     }
 
     // Does the operation to the lines. Those of an absent companion are empty, and nothing is called.
-    pub fn on_lines(self, w: &mut [i32], op: Operation, peak: u64) -> Effect
+    pub fn on_lines(self, w: &mut [i32], op: Operation, before: u64) -> Effect
         requires { ⌜ Held (length (now w)) self ⌝ }
-        requires { ⌜ Under peak (now w) ⌝ }
+        requires { ⌜ Bounded before (now w) ⌝ }
         requires { ⌜ Fits (self .lines) (operationOf op) ⌝ }
-        ensures { λ r. ⌜ Became self (now (w .entry)) (onRows (operationOf op) (contents self (now (w .entry)))) peak r (now (w .exit)) ⌝ }
+        ensures { λ r. ⌜ OnLines self (now (w .entry)) (operationOf op) before r (now (w .exit)) ⌝ }
     {
         if self.width == 0 {
-            return Effect::Done(Written { peak });
+            return Effect::Done(before);
         }
-        self.on_wide_lines(w, op, peak)
+        self.on_wide_lines(w, op, before)
     }
 
-    // The places of line i, as a matrix of that many lines of one entry.
-    fn places(self, i: usize) -> Matrix
-        requires { ⌜ (end self < 2 ^ 63) × (i < self .lines) ⌝ }
-        ensures { λ r. ⌜ r ≡ placesOf self i ⌝ }
+    // Exchanges places j and k of every line.
+    fn swap_places(self, w: &mut [i32], j: usize, k: usize, before: u64) -> u64
+        requires { ⌜ Held (length (now w)) self ⌝ }
+        requires { ⌜ Bounded before (now w) ⌝ }
+        requires { ⌜ Fits (self .width) (swap j k) ⌝ }
+        ensures { λ r. ⌜ OnPlaces self (now (w .entry)) (swap j k) before (Done r) (now (w .exit)) ⌝ }
     {
-        Matrix {
-            at: self.line(i),
-            lines: self.width,
-            width: 1,
+        let lines = self.lines;
+        let mut largest = before;
+        let mut i: usize = 0;
+        while i < lines {
+            let at = self.line(i);
+            largest = line::swap_entries(w, at + j, at + k, largest);
+            i = i + 1;
         }
+        largest
+    }
+
+    // Negates place k of every line.
+    fn negate_places(self, w: &mut [i32], k: usize, before: u64) -> u64
+        requires { ⌜ Held (length (now w)) self ⌝ }
+        requires { ⌜ Bounded before (now w) ⌝ }
+        requires { ⌜ Fits (self .width) (negate k) ⌝ }
+        ensures { λ r. ⌜ OnPlaces self (now (w .entry)) (negate k) before (Done r) (now (w .exit)) ⌝ }
+    {
+        let lines = self.lines;
+        let mut largest = before;
+        let mut i: usize = 0;
+        while i < lines {
+            let at = self.line(i);
+            largest = line::negate_places(w, at + k, 1, largest);
+            i = i + 1;
+        }
+        largest
     }
 
     // Does the operation to the places of every line. A subtraction of place k changes line k alone, which has the only nonzero entry there.
-    pub fn on_places(self, w: &mut [i32], op: Operation, peak: u64) -> Effect
+    pub fn on_places(self, w: &mut [i32], op: Operation, before: u64) -> Effect
         requires { ⌜ Held (length (now w)) self ⌝ }
-        requires { ⌜ Under peak (now w) ⌝ }
+        requires { ⌜ Bounded before (now w) ⌝ }
         requires { ⌜ Fits (self .width) (operationOf op) × Alone self (now w) (operationOf op) ⌝ }
-        ensures { λ r. ⌜ Became self (now (w .entry)) (onColumns (operationOf op) (contents self (now (w .entry)))) peak r (now (w .exit)) ⌝ }
+        ensures { λ r. ⌜ OnPlaces self (now (w .entry)) (operationOf op) before r (now (w .exit)) ⌝ }
     {
-        if let Operation::Subtract(_, k, _) = op {
-            return self.places(k).on_narrow_lines(w, op, peak);
+        match op {
+            Operation::Subtract(j, k, q) => {
+                let at = self.line(k);
+                line::subtract_places(w, at + j, at + k, 1, q, before)
+            }
+            Operation::Swap(j, k) => Effect::Done(self.swap_places(w, j, k, before)),
+            Operation::Negate(k) => Effect::Done(self.negate_places(w, k, before)),
         }
-        let lines = self.lines;
-        let mut largest = peak;
-        let mut i: usize = 0;
-        while i < lines {
-            let Effect::Done(written) = self.places(i).on_narrow_lines(w, op, largest) else {
-                return Effect::TooWide;
-            };
-            largest = written.peak;
-            i = i + 1;
-        }
-        Effect::Done(Written { peak: largest })
     }
 }

@@ -1,7 +1,7 @@
-// Zeros of a line, which is `width` consecutive entries of a slice from a place on.
+// Zeros of a line, which is `width` consecutive entries of a slice from a place on, and blocks that are equal.
 ghost use Prim.Native.Nat.{_+_, _≤_};
 ghost use lib.ListN.{length};
-ghost use Rattle.lines.specs.Slice.{block, Small, ZerosTold, ZerosTo, FirstNonzero};
+ghost use Rattle.lines.specs.Slice.{block, Small, ZerosTold, SameTold, ZerosTo, FirstNonzero};
 
 // How many places are tested for 0 at once.
 pub const BLOCK: usize = 8;
@@ -20,6 +20,22 @@ pub fn is_zero_block(w: &[i32], at: usize) -> bool
         t = t + 1;
     }
     !nonzero
+}
+
+// Whether the BLOCK entries from `first` on are those from `second` on.
+pub fn is_same_block(w: &[i32], first: usize, second: usize) -> bool
+    requires { ⌜ (first + block ≤ length (now w)) × (second + block ≤ length (now w)) × Small (now w) ⌝ }
+    ensures { λ r. ⌜ SameTold (now (w .entry)) first second block r ⌝ }
+{
+    let mut differ = false;
+    let mut t: usize = 0;
+    while t < BLOCK {
+        if w[first + t] != w[second + t] {
+            differ = true;
+        }
+        t = t + 1;
+    }
+    !differ
 }
 
 // A place from `from` on before which the line at `at` is 0, found block by block.

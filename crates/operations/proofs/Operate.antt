@@ -1,6 +1,7 @@
 -- An operation on a side of the matrix: first the matrix, then the side's follower and its inverse companion. `wide-matrix` and `operated`
 -- tell what the answers make together: the operation, then the check of the limit. `companions-ready`: what the companions' call asks.
 use mathlib.Core.Path.{_≡_, refl, sym, ap, subst, _∙_}
+use mathlib.Core.Logic.{_⊎_, inl, inr, ⊎-elim}
 use mathlib.Core.Bool.{Bool, true}
 use mathlib.Core.List.{List}
 use Prim.Native.Nat.{ℕ, _+_, _≤_, _<_, max}
@@ -17,18 +18,18 @@ use Rattle.matrices.specs.Within.{Within, Within-inverse}
 use Rattle.reduction_steps.specs.Table.{Table, entry, table, tableLargest}
 use Rattle.reduction_steps.specs.State.{State, made, tooWide, largest, noted, within, checked}
 use Rattle.reduction_laws.specs.Tables.{entry-table, table-ext, Eq-table, tableLargest-table}
+use Rattle.lines.specs.Slice.{entryLimit, at, lineAt, Small, Under, Bounded, Covered}
+use Rattle.lines.specs.Matrices.{Held, contents, Entries, EntryOf, Exceeds, Became}
+use Rattle.lines.specs.Operations.{Fits, Writes, OnLines}
+use Rattle.lines.proofs.Peaks.{covered-trans, under-covered, small-bounded}
 use Rattle.reduction_laws.specs.Shape.{linesAnew}
-use Rattle.lines.specs.Slice.{entryLimit, at, lineAt, Under}
-use Rattle.lines.specs.Matrices.{Held, contents, Exceeds, Became}
-use Rattle.lines.specs.Operations.{Fits}
 use Rattle.lines.specs.declared.matrix.Matrix.{Matrix}
-use Rattle.lines.specs.declared.line.Written.{Written}
 use Rattle.lines.specs.declared.line.Effect.{Effect}
 use Rattle.lines.specs.declared.line.Effect.the-variants.{Done, TooWide}
 use Rattle.operations.specs.Laid.{Laid, linesOf, stateOf, Operated, Followed}
 use Rattle.operations.specs.declared.layout.Layout.{Layout}
 use Rattle.operations.proofs.Regions.{disjoint-sym, Kept, kept-refl, kept-trans, contents-off, lines-off, lines-on, shaped}
-use Rattle.operations.proofs.Side.{Side, rows, columns, across, count, follower, undone, onSide, outcomeOn, put, state-put, noted-put, outcome-put, Largest, largest-put, largest-peak, Separate, separate, follower-lines, undone-lines, follower-inside, undone-inside, follower-fits, undone-fits}
+use Rattle.operations.proofs.Side.{Side, rows, columns, across, written, SideEntry, count, follower, undone, onSide, outcomeOn, put, state-put, noted-put, outcome-put, Largest, largest-put, largest-peak, Separate, separate, follower-lines, undone-lines, follower-inside, undone-inside, follower-fits, undone-fits}
 
 -- ---- the check of the limit
 
@@ -97,14 +98,14 @@ companion-table M m op e f {w} {w′} h = subst Same e here
 
 module _ (x : Side) (op : Operation) (W : Layout) where
   -- the call on the matrix, which leaves w₁, the one on the follower, which leaves w₂, and the one on the inverse companion
-  abbrev pub OnMatrix : List ℤ → ℕ → Effect → List ℤ → Type 0
-  OnMatrix w peak r w₁ = Became (W .matrix) w (onSide x op (contents (W .matrix) w)) peak r w₁
+  abbrev pub OnMatrix : List ℤ → Effect → List ℤ → Type 0
+  OnMatrix w r w₁ = Became (W .matrix) w (written x op) (onSide x op (contents (W .matrix) w)) 0 r w₁
 
   abbrev pub OnFollower : List ℤ → ℕ → Effect → List ℤ → Type 0
-  OnFollower w₁ peak r w₂ = Became (follower x W) w₁ (onRows op (contents (follower x W) w₁)) peak r w₂
+  OnFollower w₁ before r w₂ = OnLines (follower x W) w₁ op before r w₂
 
   abbrev pub OnUndone : List ℤ → ℕ → Effect → List ℤ → Type 0
-  OnUndone w₂ peak r w₃ = Became (undone x W) w₂ (onRows (inverse op) (contents (undone x W) w₂)) peak r w₃
+  OnUndone w₂ before r w₃ = OnLines (undone x W) w₂ (inverse op) before r w₃
 
   -- the tables that they make
   abbrev newMatrix : List ℤ → Table
@@ -122,22 +123,45 @@ module _ (x : Side) (op : Operation) (W : Layout) where
       put x (newMatrix w) (newFollower w₁) (newUndone w₂) (linesOf (follower (across x) W) w) (linesOf (undone (across x) W) w) peak
 
 -- what the companions' call asks
-pub record Companions (F U : Matrix) (op : Operation) (peak : ℕ) (w : List ℤ) : Type 0 where
+pub record Companions (F U : Matrix) (op : Operation) (before : ℕ) (w : List ℤ) : Type 0 where
   pub follower-held : Held (length w) F
   pub inverse-held : Held (length w) U
-  pub under : Under peak w
+  pub bounded : Bounded before w
   pub follower-fits : Fits (F .lines) op
   pub inverse-fits : Fits (U .lines) (inverse op)
 
-module _ (x : Side) (op : Operation) (W : Layout) (peak : ℕ) (w : List ℤ) (l : Laid (length w) W) (f : Within (count x W) op) where
+-- an entry of A stands in the slice
+entry-stands :
+    {M : Matrix} {among : Entries} (w : List ℤ) {A : theory.Matrix} {n m : ℕ} → Eq (M .lines) (M .width) (contents M w) A → m ≡ n → EntryOf M among A n
+    → EntryOf M among (contents M w) m
+entry-stands w on e o = record {
+  line = o .line;
+  place = o .place;
+  line-below = o .line-below;
+  place-below = o .place-below;
+  chosen = o .chosen;
+  is = e ∙ o .is ∙ ap natAbs (sym (on .at (o .line) (o .place) (o .line-below) (o .place-below)));
+}
+
+-- and the slice after another change
+stands-on : {M : Matrix} {w w′ : List ℤ} {A : theory.Matrix} → Kept M w w′ → Eq (M .lines) (M .width) (contents M w) A → Eq (M .lines) (M .width) (contents M w′) A
+stands-on kept on = record { at = λ i j a b. kept .same .at i j a b ∙ on .at i j a b }
+
+-- an answer is no larger than a bound of what was written
+no-larger : {M : Matrix} {among : Entries} {A : theory.Matrix} {before n L : ℕ} → (n ≡ before) ⊎ EntryOf M among A n → before ≤ L
+    → ((i j : ℕ) → i < M .lines → j < M .width → natAbs (A i j) ≤ L) → n ≤ L
+no-larger (inl e) l all = NatL.le-trans (NatL.le-of-eq e) l
+no-larger (inr o) l all = NatL.le-trans (NatL.le-of-eq (o .is)) (all (o .line) (o .place) (o .line-below) (o .place-below))
+
+module _ (x : Side) (op : Operation) (W : Layout) (w : List ℤ) (l : Laid (length w) W) (f : Within (count x W) op) where
   apart : Separate (W .matrix) (follower x W) (undone x W) (follower (across x) W) (undone (across x) W)
   apart = separate l x
 
   -- where the slices w₁ and w₂ still have the side's companions as w has
   outcome-is :
-      {w₁ w₂ : List ℤ} → Kept (follower x W) w w₁ → Kept (undone x W) w w₂
+      (peak : ℕ) {w₁ w₂ : List ℤ} → Kept (follower x W) w w₁ → Kept (undone x W) w w₂
       → outcomeOn x W op (stateOf W peak w) ≡ checked entryLimit (noted (newState x op W peak w w₁ w₂))
-  outcome-is h k =
+  outcome-is peak h k =
       outcome-put x l op peak w
       ∙ cc (
         matrix-table x W op f w,
@@ -145,7 +169,7 @@ module _ (x : Side) (op : Operation) (W : Layout) (peak : ℕ) (w : List ℤ) (l
         companion-table (undone x W) (count x W) (inverse op) (undone-lines l x) (Within-inverse (count x W) op f) k,
       )
 
-  module _ (w₁ w₂ : List ℤ) where
+  module _ (peak : ℕ) (w₁ w₂ : List ℤ) where
     -- the largest entry of the new state
     abbrev reached : ℕ
     reached = largest (newState x op W peak w w₁ w₂)
@@ -155,47 +179,51 @@ module _ (x : Side) (op : Operation) (W : Layout) (peak : ℕ) (w : List ℤ) (l
         largest-put x (newMatrix x op W w) (newFollower x op W w₁) (newUndone x op W w₂) (linesOf (follower (across x) W) w) (linesOf (undone (across x) W) w)
         peak
 
-  goes-wide : {w₁ w₂ : List ℤ} → Kept (follower x W) w w₁ → Kept (undone x W) w w₂ → entryLimit < reached w₁ w₂ → tooWide ≡ outcomeOn x W op (stateOf W peak w)
-  goes-wide {w₁} {w₂} h k e = sym (outcome-is h k ∙ checked-wide (noted (newState x op W peak w w₁ w₂)) (subst (λ (n : ℕ). entryLimit < n) same e))
+  goes-wide :
+      (peak : ℕ) {w₁ w₂ : List ℤ} → Kept (follower x W) w w₁ → Kept (undone x W) w w₂ → entryLimit < reached peak w₁ w₂
+      → tooWide ≡ outcomeOn x W op (stateOf W peak w)
+  goes-wide peak {w₁} {w₂} h k e = sym (outcome-is peak h k ∙ checked-wide (noted (newState x op W peak w w₁ w₂)) (subst (λ (n : ℕ). entryLimit < n) same e))
     where
-      same : reached w₁ w₂ ≡ largest (noted (newState x op W peak w w₁ w₂))
+      same : reached peak w₁ w₂ ≡ largest (noted (newState x op W peak w w₁ w₂))
       same =
           largest-peak x (newMatrix x op W w) (newFollower x op W w₁) (newUndone x op W w₂) (linesOf (follower (across x) W) w) (linesOf (undone (across x) W) w)
-          peak (max peak (reached w₁ w₂))
+          peak (max peak (reached peak w₁ w₂))
           ∙ ap largest (sym (noted-put x (newMatrix x op W w) (newFollower x op W w₁) (newUndone x op W w₂) (linesOf (follower (across x) W) w) (linesOf (undone (across x) W) w) peak))
 
-  wide-first : {w₁ : List ℤ} → OnMatrix x op W w peak TooWide w₁ → Operated W (outcomeOn x W op (stateOf W peak w)) TooWide w₁
+  -- what the operation answers and leaves
+  abbrev Comes′ : Effect → List ℤ → Type 0
+  Comes′ r w′ = Operated W (λ peak. outcomeOn x W op (stateOf W peak w)) (SideEntry x W op) w r w′
+
+  wide-first : {w₁ : List ℤ} → OnMatrix x op W w TooWide w₁ → Comes′ TooWide w₁
   wide-first h = record {
-    outcome =
-        goes-wide (kept-refl (follower x W) w) (kept-refl (undone x W) w) (NatL.lt-of-lt-of-le (exceeds-largest h) (parts w w .matrix));
-    under = tt;
+    outcome = λ peak u.
+        goes-wide peak (kept-refl (follower x W) w) (kept-refl (undone x W) w) (NatL.lt-of-lt-of-le (exceeds-largest h) (parts peak w w .matrix));
+    answer = tt;
   }
 
-  wide-second :
-      {w₁ w₂ : List ℤ} {a : Written} → OnMatrix x op W w peak (Done a) w₁ → OnFollower x op W w₁ (a .peak) TooWide w₂
-      → Operated W (outcomeOn x W op (stateOf W peak w)) TooWide w₂
+  wide-second : {w₁ w₂ : List ℤ} {a : ℕ} → OnMatrix x op W w (Done a) w₁ → OnFollower x op W w₁ a TooWide w₂ → Comes′ TooWide w₂
   wide-second {w₁} h k = record {
-    outcome =
-        goes-wide (contents-off (apart .ab) h) (kept-refl (undone x W) w) (NatL.lt-of-lt-of-le (exceeds-largest k) (parts w₁ w .follower));
-    under = tt;
+    outcome = λ peak u.
+        goes-wide peak (contents-off (apart .ab) h) (kept-refl (undone x W) w) (NatL.lt-of-lt-of-le (exceeds-largest k) (parts peak w₁ w .follower));
+    answer = tt;
   }
 
   pub ends :
-      {w₁ w₂ w₃ : List ℤ} {a b : Written} → OnMatrix x op W w peak (Done a) w₁ → OnFollower x op W w₁ (a .peak) (Done b) w₂ → (r : Effect)
-      → OnUndone x op W w₂ (b .peak) r w₃ → Operated W (outcomeOn x W op (stateOf W peak w)) r w₃
+      {w₁ w₂ w₃ : List ℤ} {a b : ℕ} → OnMatrix x op W w (Done a) w₁ → OnFollower x op W w₁ a (Done b) w₂ → (r : Effect)
+      → OnUndone x op W w₂ b r w₃ → Comes′ r w₃
   ends {w₁} {w₂} {w₃} h k TooWide g = record {
-    outcome =
-        goes-wide (contents-off (apart .ab) h) (kept-trans (contents-off (apart .ac) h) (contents-off (apart .bc) k))
-        (NatL.lt-of-lt-of-le (exceeds-largest g) (parts w₁ w₂ .undone));
-    under = tt;
+    outcome = λ peak u.
+        goes-wide peak (contents-off (apart .ab) h) (kept-trans (contents-off (apart .ac) h) (contents-off (apart .bc) k))
+        (NatL.lt-of-lt-of-le (exceeds-largest g) (parts peak w₁ w₂ .undone));
+    answer = tt;
   }
   ends {w₁} {w₂} {w₃} {a} {b} h k (Done d) g = record {
-    outcome =
+    outcome = λ peak u.
         sym
-        (outcome-is (contents-off (apart .ab) h) (kept-trans (contents-off (apart .ac) h) (contents-off (apart .bc) k))
-        ∙ ap (checked entryLimit) (sym state-is)
-        ∙ checked-made (stateOf W (d .peak) w₃) (NatL.le-trans (largest-under W (d .peak) (g .under)) (g .under .limit)));
-    under = g .under;
+        (outcome-is peak (contents-off (apart .ab) h) (kept-trans (contents-off (apart .ac) h) (contents-off (apart .bc) k))
+        ∙ ap (checked entryLimit) (sym (state-is peak u))
+        ∙ checked-made (stateOf W (max peak d) w₃) (NatL.le-trans (largest-under W (max peak d) (now-under peak u)) (now-under peak u .limit)));
+    answer = record { bounded = g .bounded; covered = all-covered; attained = pick (g .wrote) (k .wrote) (h .wrote) };
   }
     where
       A : Table
@@ -213,6 +241,23 @@ module _ (x : Side) (op : Operation) (W : Layout) (peak : ℕ) (w : List ℤ) (l
       E : Table
       E = linesOf (undone (across x) W) w
 
+      all-covered : Covered w w₃ d
+      all-covered = covered-trans (covered-trans (h .covered) (k .covered) (k .above)) (g .covered) (g .above)
+
+      -- the answer is 0 or that of an entry that one of the calls wrote
+      pick : (d ≡ b) ⊎ EntryOf (undone x W) (λ i j. Writes (inverse op) i) (onRows (inverse op) (contents (undone x W) w₂)) d
+          → (b ≡ a) ⊎ EntryOf (follower x W) (λ i j. Writes op i) (onRows op (contents (follower x W) w₁)) b
+          → (a ≡ 0) ⊎ EntryOf (W .matrix) (written x op) (onSide x op (contents (W .matrix) w)) a → (d ≡ 0) ⊎ SideEntry x W op w₃ d
+      pick (inr o) p q = inr (inr (inr (entry-stands w₃ (g .on) refl o)))
+      pick (inl e) (inr o) q = inr (inr (inl (entry-stands w₃ (stands-on (contents-off (disjoint-sym (apart .bc)) g) (k .on)) e o)))
+      pick (inl e) (inl p) (inr o) =
+          inr (inl
+          (entry-stands w₃ (stands-on (contents-off (disjoint-sym (apart .ac)) g) (stands-on (contents-off (disjoint-sym (apart .ab)) k) (h .on))) (e ∙ p) o))
+      pick (inl e) (inl p) (inl q) = inl (e ∙ p ∙ q)
+
+      now-under : (peak : ℕ) → Under peak w → Under (max peak d) w₃
+      now-under peak u = under-covered u all-covered (g .bounded)
+
       -- the tables are those that the calls made, or kept
       tables : (p : ℕ) → stateOf W p w₃ ≡ put x A B C D E p
       tables p =
@@ -225,36 +270,33 @@ module _ (x : Side) (op : Operation) (W : Layout) (peak : ℕ) (w : List ℤ) (l
             lines-off (apart .ce) g ∙ lines-off (apart .be) k ∙ lines-off (apart .ae) h,
           )
 
-      -- the peak answered is the larger of the one before and the largest entry now
-      larger : ℕ
-      larger = max peak (reached w₁ w₂)
+      matrix-least : (peak : ℕ) → a ≤ reached peak w₁ w₂
+      matrix-least peak =
+          no-larger (h .wrote) (omega arith)
+          (λ i j p q. NatL.le-trans (entry-under (W .matrix) (onSide x op (contents (W .matrix) w)) i j p q) (parts peak w₁ w₂ .matrix))
 
-      bound : reached w₁ w₂ ≤ larger
-      bound = NatL.le-max-right peak (reached w₁ w₂)
+      follower-least : (peak : ℕ) → b ≤ reached peak w₁ w₂
+      follower-least peak =
+          no-larger (k .wrote) (matrix-least peak)
+          (λ i j p q. NatL.le-trans (entry-under (follower x W) (onRows op (contents (follower x W) w₁)) i j p q) (parts peak w₁ w₂ .follower))
 
-      matrix-least : a .peak ≤ larger
-      matrix-least =
-          h .least larger (NatL.le-max-left peak (reached w₁ w₂))
-          (λ i j p q. NatL.le-trans (entry-under (W .matrix) (onSide x op (contents (W .matrix) w)) i j p q) (NatL.le-trans (parts w₁ w₂ .matrix) bound))
+      undone-least : (peak : ℕ) → d ≤ reached peak w₁ w₂
+      undone-least peak =
+          no-larger (g .wrote) (follower-least peak)
+          (λ i j p q. NatL.le-trans (entry-under (undone x W) (onRows (inverse op) (contents (undone x W) w₂)) i j p q) (parts peak w₁ w₂ .undone))
 
-      follower-least : b .peak ≤ larger
-      follower-least =
-          k .least larger matrix-least
-          (λ i j p q. NatL.le-trans (entry-under (follower x W) (onRows op (contents (follower x W) w₁)) i j p q) (NatL.le-trans (parts w₁ w₂ .follower) bound))
+      reached-under : (peak : ℕ) → Under peak w → reached peak w₁ w₂ ≤ max peak d
+      reached-under peak u = subst (λ (s : State). largest s ≤ max peak d) (tables peak) (largest-under W peak (now-under peak u))
 
-      undone-least : d .peak ≤ larger
-      undone-least =
-          g .least larger follower-least
-          (λ i j p q. NatL.le-trans (entry-under (undone x W) (onRows (inverse op) (contents (undone x W) w₂)) i j p q) (NatL.le-trans (parts w₁ w₂ .undone) bound))
+      -- the larger one of the peak and the answer is the larger one of the peak and the largest entry now
+      peak-is : (peak : ℕ) → Under peak w → max peak d ≡ max peak (reached peak w₁ w₂)
+      peak-is peak u =
+          NatL.le-antisymm
+          (NatL.max-le (NatL.le-max-left peak (reached peak w₁ w₂)) (NatL.le-trans (undone-least peak) (NatL.le-max-right peak (reached peak w₁ w₂))))
+          (NatL.max-le (NatL.le-max-left peak d) (reached-under peak u))
 
-      reached-under : reached w₁ w₂ ≤ d .peak
-      reached-under = subst (λ (s : State). largest s ≤ d .peak) (tables peak) (largest-under W peak (g .under))
-
-      peak-is : d .peak ≡ larger
-      peak-is = NatL.le-antisymm undone-least (NatL.max-le (NatL.le-trans (h .above) (NatL.le-trans (k .above) (g .above))) reached-under)
-
-      state-is : stateOf W (d .peak) w₃ ≡ noted (newState x op W peak w w₁ w₂)
-      state-is = tables (d .peak) ∙ ap (λ (p : ℕ). put x A B C D E p) peak-is ∙ sym (noted-put x A B C D E peak)
+      state-is : (peak : ℕ) → Under peak w → stateOf W (max peak d) w₃ ≡ noted (newState x op W peak w w₁ w₂)
+      state-is peak u = tables (max peak d) ∙ ap (λ (p : ℕ). put x A B C D E p) (peak-is peak u) ∙ sym (noted-put x A B C D E peak)
 
 -- ---- the same, as the code finds the answers: each call's result r with what it turned out to be
 
@@ -263,52 +305,53 @@ pub record Task : Type 0 where
   pub side : Side
   pub operation : Operation
   pub layout : Layout
-  pub peak : ℕ
   pub slice : List ℤ
   pub laid : Laid (length slice) layout
   pub fits : Fits (count side layout) operation
 
 -- what the operation answers and leaves
 abbrev pub Comes : Task → Effect → List ℤ → Type 0
-Comes t r w′ = Operated (t .layout) (outcomeOn (t .side) (t .layout) (t .operation) (stateOf (t .layout) (t .peak) (t .slice))) r w′
+Comes t r w′ =
+    Operated (t .layout) (λ peak. outcomeOn (t .side) (t .layout) (t .operation) (stateOf (t .layout) peak (t .slice)))
+    (SideEntry (t .side) (t .layout) (t .operation)) (t .slice) r w′
 
 -- the call on the matrix, as the code finds its answer
 pub record MatrixCalled : Type 0 where
   pub task : Task
   pub left : List ℤ
   pub result : Effect
-  pub became : OnMatrix (task .side) (task .operation) (task .layout) (task .slice) (task .peak) result left
+  pub became : OnMatrix (task .side) (task .operation) (task .layout) (task .slice) result left
 
 module _ (c : MatrixCalled) where
   abbrev t : Task
   t = c .task
 
-  turned : (r : Effect) → c .result ≡ r → OnMatrix (t .side) (t .operation) (t .layout) (t .slice) (t .peak) r (c .left)
-  turned r e = subst (λ (x : Effect). OnMatrix (t .side) (t .operation) (t .layout) (t .slice) (t .peak) x (c .left)) e (c .became)
+  turned : (r : Effect) → c .result ≡ r → OnMatrix (t .side) (t .operation) (t .layout) (t .slice) r (c .left)
+  turned r e = subst (λ (x : Effect). OnMatrix (t .side) (t .operation) (t .layout) (t .slice) x (c .left)) e (c .became)
 
   -- the matrix goes too wide
   pub wide-matrix : c .result ≡ TooWide → Comes t TooWide (c .left)
-  wide-matrix e = wide-first (t .side) (t .operation) (t .layout) (t .peak) (t .slice) (t .laid) (t .fits .within) (turned TooWide e)
+  wide-matrix e = wide-first (t .side) (t .operation) (t .layout) (t .slice) (t .laid) (t .fits .within) (turned TooWide e)
 
-  module _ {a : Written} (e : c .result ≡ Done a) where
+  module _ {a : ℕ} (e : c .result ≡ Done a) where
     -- what the companions' call asks
-    pub companions-ready : Companions (follower (t .side) (t .layout)) (undone (t .side) (t .layout)) (t .operation) (a .peak) (c .left)
+    pub companions-ready : Companions (follower (t .side) (t .layout)) (undone (t .side) (t .layout)) (t .operation) a (c .left)
     companions-ready = record {
       follower-held = record { ends = rw (turned (Done a) e .same-length) (follower-inside (t .laid) (t .side)) };
       inverse-held = record { ends = rw (turned (Done a) e .same-length) (undone-inside (t .laid) (t .side)) };
-      under = turned (Done a) e .under;
+      bounded = turned (Done a) e .bounded;
       follower-fits = follower-fits (t .laid) (t .side) (t .fits);
       inverse-fits = undone-fits (t .laid) (t .side) (t .fits);
     }
 
     -- a companion goes too wide, or all is done
     comes :
-        {r : Effect} {w₃ : List ℤ} → Followed (follower (t .side) (t .layout)) (undone (t .side) (t .layout)) (t .operation) (a .peak) (c .left) r w₃
+        {r : Effect} {w₃ : List ℤ} → Followed (follower (t .side) (t .layout)) (undone (t .side) (t .layout)) (t .operation) a (c .left) r w₃
         → Comes t r w₃
-    comes (Followed.stopped h) = wide-second (t .side) (t .operation) (t .layout) (t .peak) (t .slice) (t .laid) (t .fits .within) (turned (Done a) e) h
-    comes (Followed.followed h r g) = ends (t .side) (t .operation) (t .layout) (t .peak) (t .slice) (t .laid) (t .fits .within) (turned (Done a) e) h r g
+    comes (Followed.stopped h) = wide-second (t .side) (t .operation) (t .layout) (t .slice) (t .laid) (t .fits .within) (turned (Done a) e) h
+    comes (Followed.followed h r g) = ends (t .side) (t .operation) (t .layout) (t .slice) (t .laid) (t .fits .within) (turned (Done a) e) h r g
 
     pub operated :
         {r : Effect} {w₃ : List ℤ} (r′ : Effect) → r ≡ r′
-        → Followed (follower (t .side) (t .layout)) (undone (t .side) (t .layout)) (t .operation) (a .peak) (c .left) r w₃ → Comes t r′ w₃
+        → Followed (follower (t .side) (t .layout)) (undone (t .side) (t .layout)) (t .operation) a (c .left) r w₃ → Comes t r′ w₃
     operated {w₃ = w₃} r′ same h = subst (λ (x : Effect). Comes t x w₃) same (comes h)

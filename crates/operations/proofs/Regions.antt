@@ -13,9 +13,8 @@ use Rattle.matrices.specs.Matrix as theory
 use Rattle.reduction_steps.specs.Table.{Table, table}
 use Rattle.reduction_laws.specs.Tables.{table-ext}
 use Rattle.lines.specs.Slice.{at, lineAt}
-use Rattle.lines.specs.Matrices.{end, contents, Off, Holds}
+use Rattle.lines.specs.Matrices.{end, contents, Off, Entries, Holds}
 use Rattle.lines.specs.declared.matrix.Matrix.{Matrix}
-use Rattle.lines.specs.declared.line.Written.{Written}
 use Rattle.operations.specs.Laid.{linesOf}
 
 -- place p belongs to the matrix
@@ -53,10 +52,10 @@ module _ {M N : Matrix} (apart : Disjoint M N) where
   contents-apart w w′ kept =
       record { same = record { at = λ i j a b. kept (lineAt (N .at) (N .width) i + j) (off (lineAt (N .at) (N .width) i + j) (entry-inside N i j a b)) } }
 
-  pub contents-off : {w w′ : List ℤ} {A : theory.Matrix} {peak : ℕ} {x : Written} → Holds M w A peak x w′ → Kept N w w′
+  pub contents-off : {w w′ : List ℤ} {A : theory.Matrix} {among : Entries} {before x : ℕ} → Holds M w among A before x w′ → Kept N w w′
   contents-off {w} {w′} h = contents-apart w w′ (h .off)
 
-  pub lines-off : {w w′ : List ℤ} {A : theory.Matrix} {peak : ℕ} {x : Written} → Holds M w A peak x w′ → linesOf N w′ ≡ linesOf N w
+  pub lines-off : {w w′ : List ℤ} {A : theory.Matrix} {among : Entries} {before x : ℕ} → Holds M w among A before x w′ → linesOf N w′ ≡ linesOf N w
   unfolding linesOf
   lines-off h = table-ext (contents-off h .same)
 
@@ -70,6 +69,6 @@ kept-trans h k = record { same = record { at = λ i j a b. k .same .at i j a b �
 abbrev pub shaped : Matrix → theory.Matrix → Table
 shaped M A = table (M .lines) (M .width) A
 
-pub lines-on : {M : Matrix} {w w′ : List ℤ} {A : theory.Matrix} {peak : ℕ} {x : Written} → Holds M w A peak x w′ → linesOf M w′ ≡ shaped M A
+pub lines-on : {M : Matrix} {w w′ : List ℤ} {A : theory.Matrix} {among : Entries} {before x : ℕ} → Holds M w among A before x w′ → linesOf M w′ ≡ shaped M A
 unfolding linesOf
 lines-on h = table-ext (h .on)

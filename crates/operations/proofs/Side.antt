@@ -1,6 +1,7 @@
 -- The operations on rows and those on columns, told alike. An operation on a side changes the matrix, the side's follower and its
 -- inverse companion, and keeps the two companions of the other side. `shaped-state`: the tables of a slice have the sizes of its layout.
 use mathlib.Core.Path.{_≡_, refl, sym, _∙_, ap}
+use mathlib.Core.Logic.{_⊎_}
 use mathlib.Core.List.{List}
 use Prim.Native.Nat.{ℕ, _≤_, max}
 use native.Mathlib.Omega.{arith}
@@ -12,8 +13,8 @@ use Rattle.reduction_steps.specs.State.{State, Outcome, largest, noted, checked
 use Rattle.reduction_laws.specs.Tables.{table-entry}
 use Rattle.reduction_laws.specs.Shape.{Shaped, linesAnew, rows-anew, columns-anew}
 use Rattle.lines.specs.Slice.{entryLimit}
-use Rattle.lines.specs.Matrices.{end, Held, contents}
-use Rattle.lines.specs.Operations.{Fits}
+use Rattle.lines.specs.Matrices.{end, Held, contents, Entries, EntryOf}
+use Rattle.lines.specs.Operations.{Fits, Writes}
 use Rattle.lines.specs.declared.matrix.Matrix.{Matrix}
 use Rattle.lines.proofs.Operations.{Fits-inverse}
 use Rattle.operations.specs.Laid.{Laid, sizesOf, linesOf, stateOf}
@@ -45,6 +46,18 @@ undone columns W = W .«column_inverse»
 abbrev pub onSide : Side → Operation → theory.Matrix → theory.Matrix
 onSide rows op A = onRows op A
 onSide columns op A = onColumns op A
+
+-- the entries of the matrix that it writes
+abbrev pub written : Side → Operation → Entries
+written rows op i j = Writes op i
+written columns op i j = Writes op j
+
+-- n is the absolute value of an entry that it writes
+abbrev pub SideEntry : Side → Layout → Operation → List ℤ → ℕ → Type 0
+SideEntry x W op w n =
+    EntryOf (W .matrix) (written x op) (contents (W .matrix) w) n
+    ⊎ (EntryOf (follower x W) (λ i j. Writes op i) (contents (follower x W) w) n
+    ⊎ EntryOf (undone x W) (λ i j. Writes (inverse op) i) (contents (undone x W) w) n)
 
 -- its outcome
 abbrev pub outcomeOn : Side → Layout → Operation → State → Outcome

@@ -1,8 +1,9 @@
 -- An operation that subtracts 0 times a line, or exchanges a line with itself, leaves the matrix and its companions as they are: `unchanged`, and so
 -- `rows-unchanged`, `columns-unchanged`.
 use mathlib.Core.Path.{_≡_, refl, sym, ap, _∙_}
+use mathlib.Core.Logic.{inl}
 use mathlib.Core.List.{List}
-use Prim.Native.Nat.{ℕ, _<_}
+use Prim.Native.Nat.{ℕ, _<_, max}
 use native.Mathlib.Nat as NatL
 use native.Mathlib.Decide.{ℕ-discrete}
 use lib.IntN.{ℤ, pos, negℤ}
@@ -13,15 +14,15 @@ use Rattle.matrices.specs.Operation.{Operation, subtract, swap, negate, onRows,
 use Rattle.matrices.specs.OperationLaws.{onRows-subtract-at, onRows-subtract-other, onRows-swap-first, onRows-swap-other}
 use lib.ListN.{length}
 use Rattle.reduction_steps.specs.State.{made, onRow, onColumn}
-use Rattle.lines.specs.Slice.{entryLimit, Under}
-use Rattle.lines.specs.Matrices.{contents, Holds}
-use Rattle.lines.specs.Operations.{Fits}
+use Rattle.lines.specs.Slice.{entryLimit, Small, Under, Bounded}
+use Rattle.lines.specs.Matrices.{contents, Entries, Holds}
+use Rattle.lines.specs.Operations.{Fits, Writes}
+use Rattle.lines.proofs.Peaks.{under-small, small-bounded, covered-same}
 use Rattle.lines.specs.declared.matrix.Matrix.{Matrix}
-use Rattle.lines.specs.declared.line.Written.{Written}
 use Rattle.lines.specs.declared.line.Effect.the-variants.{Done}
 use Rattle.operations.specs.Laid.{Laid, sizesOf, stateOf}
 use Rattle.operations.specs.declared.layout.Layout.{Layout}
-use Rattle.operations.proofs.Side.{Side, rows, columns, follower, undone, onSide}
+use Rattle.operations.proofs.Side.{Side, rows, columns, follower, undone, onSide, written}
 use Rattle.operations.proofs.Operate.{ends, Task, Comes}
 
 -- it changes nothing
@@ -56,33 +57,38 @@ identity-inverse (negate k) e = e
 
 -- a slice holds what it holds
 holds-same :
-    (M : Matrix) (w : List ℤ) (A : theory.Matrix) {peak : ℕ} → Under peak w → ((a b : ℕ) → A a b ≡ contents M w a b) → Holds M w A peak (record { peak = peak }) w
-holds-same M w A {peak} s e = record {
+    (M : Matrix) (w : List ℤ) (among : Entries) (A : theory.Matrix) → Bounded 0 w → ((a b : ℕ) → A a b ≡ contents M w a b) → Holds M w among A 0 0 w
+holds-same M w among A s e = record {
   same-length = refl;
   on = record { at = λ a b x y. sym (e a b) };
   off = λ p o. refl;
-  under = s;
-  above = NatL.le-refl peak;
-  least = λ L l h. l;
+  bounded = s;
+  above = NatL.le-refl 0;
+  covered = covered-same w;
+  wrote = inl refl;
 }
 
-pub unchanged : (t : Task) → Under (t .peak) (t .slice) → Identity (t .operation) → Comes t (Done (record { peak = t .peak })) (t .slice)
-unchanged t s e =
-    let x = t .side in let op = t .operation in let W = t .layout in let w = t .slice in
-    ends x op W (t .peak) w (t .laid) (t .fits .within)
-    (holds-same (W .matrix) w (onSide x op (contents (W .matrix) w)) s (onSide-identity x op e (contents (W .matrix) w)))
-    (holds-same (follower x W) w (onRows op (contents (follower x W) w)) s (onRows-identity op e (contents (follower x W) w)))
-    (Done (record { peak = t .peak }))
-    (holds-same (undone x W) w (onRows (inverse op) (contents (undone x W) w)) s (onRows-identity (inverse op) (identity-inverse op e) (contents (undone x W) w)))
+pub unchanged : (t : Task) → Small (t .slice) → Identity (t .operation) → Comes t (Done 0) (t .slice)
+unchanged t small e =
+    let x = t .side in let op = t .operation in let W = t .layout in let w = t .slice in let s = small-bounded small in
+    ends x op W w (t .laid) (t .fits .within)
+    (holds-same (W .matrix) w (written x op) (onSide x op (contents (W .matrix) w)) s (onSide-identity x op e (contents (W .matrix) w)))
+    (holds-same (follower x W) w (λ i j. Writes op i) (onRows op (contents (follower x W) w)) s (onRows-identity op e (contents (follower x W) w)))
+    (Done 0)
+    (holds-same (undone x W) w (λ i j. Writes (inverse op) i) (onRows (inverse op) (contents (undone x W) w)) s (onRows-identity (inverse op) (identity-inverse op e) (contents (undone x W) w)))
 
 -- ---- what the passes need: no operation is called where it would change nothing
 
 module _ (W : Layout) (peak : ℕ) (w : List ℤ) (laid : Laid (length w) W) (under : Under peak w) (op : Operation) (identity : Identity op) where
   pub rows-unchanged : Fits (W .matrix .lines) op → onRow entryLimit (sizesOf W) op (stateOf W peak w) ≡ made (stateOf W peak w)
-  rows-unchanged fits = sym (unchanged (record { side = rows; operation = op; layout = W; peak = peak; slice = w; laid = laid; fits = fits }) under identity .outcome)
+  rows-unchanged fits =
+      sym (unchanged (record { side = rows; operation = op; layout = W; slice = w; laid = laid; fits = fits }) (under-small under) identity .outcome peak under)
+      ∙ ap (λ (p : ℕ). made (stateOf W p w)) (NatL.max-zero peak)
 
   pub columns-unchanged : Fits (W .matrix .width) op → onColumn entryLimit (sizesOf W) op (stateOf W peak w) ≡ made (stateOf W peak w)
-  columns-unchanged fits = sym (unchanged (record { side = columns; operation = op; layout = W; peak = peak; slice = w; laid = laid; fits = fits }) under identity .outcome)
+  columns-unchanged fits =
+      sym (unchanged (record { side = columns; operation = op; layout = W; slice = w; laid = laid; fits = fits }) (under-small under) identity .outcome peak under)
+      ∙ ap (λ (p : ℕ). made (stateOf W p w)) (NatL.max-zero peak)
 
 -- an exchange of two of n lines
 pub swap-fits : {n : ℕ} (i k : ℕ) → (i < n) × (k < n) → Fits n (swap i k)

@@ -1,15 +1,16 @@
 -- How the matrix of a reduction and its companions lie in the slice, and what an operation on them answers.
 use mathlib.Core.Path.{_≡_}
 use mathlib.Core.List.{List}
-use Prim.Native.Nat.{ℕ, _≤_}
+use mathlib.Core.Logic.{_⊎_}
+use Prim.Native.Nat.{ℕ, _≤_, max}
 use lib.IntN.{ℤ}
-use Rattle.matrices.specs.Operation.{Operation, onRows, inverse}
+use Rattle.matrices.specs.Operation.{Operation, inverse}
 use Rattle.reduction_steps.specs.Table.{Table, table}
-use Rattle.reduction_steps.specs.State.{Sizes, State, Outcome, made, tooWide}
-use Rattle.lines.specs.Slice.{Under}
-use Rattle.lines.specs.Matrices.{end, contents, Became}
+use Rattle.reduction_steps.specs.State.{Sizes, State, Outcome, made, tooWide, onRow, onColumn}
+use Rattle.lines.specs.Slice.{entryLimit, Under, Bounded, Covered}
+use Rattle.lines.specs.Matrices.{end, contents, EntryOf}
+use Rattle.lines.specs.Operations.{Writes, OnLines}
 use Rattle.lines.specs.declared.matrix.Matrix.{Matrix}
-use Rattle.lines.specs.declared.line.Written.{Written}
 use Rattle.lines.specs.declared.line.Effect.{Effect}
 use Rattle.lines.specs.declared.line.Effect.the-variants.{Done, TooWide}
 use Rattle.operations.specs.declared.layout.Layout.{Layout}
@@ -55,24 +56,52 @@ stateOf W peak w =
       peak = peak;
     }
 
--- what an operation has come to: the state that it made, with the peak that it answered, or too wide
-abbrev pub outcomeOf : Layout → Effect → List ℤ → Outcome
-outcomeOf W (Done x) w′ = made (stateOf W (x .peak) w′)
-outcomeOf W TooWide w′ = tooWide
+-- ---- what an operation answers and leaves
 
--- every entry of the slice lies within the peak that it answered
-abbrev pub UnderDone : Effect → List ℤ → Type 0
-UnderDone (Done x) w′ = Under (x .peak) w′
-UnderDone TooWide w′ = Unit {0}
+-- what it has come to: the state that it made, with the larger one of the peak before and the answer, or too wide
+abbrev pub outcomeOf : Layout → ℕ → Effect → List ℤ → Outcome
+outcomeOf W peak (Done x) w′ = made (stateOf W (max peak x) w′)
+outcomeOf W peak TooWide w′ = tooWide
 
--- the operation's outcome o is the one answered, and the slice holds the state that it made
-pub record Operated (W : Layout) (o : Outcome) (r : Effect) (w′ : List ℤ) : Type 0 where
-  pub outcome : outcomeOf W r w′ ≡ o
-  pub under : UnderDone r w′
+-- n is the absolute value of an entry of w, which an operation on the rows writes in the matrix, its follower or its inverse companion
+abbrev pub RowEntry : Layout → Operation → List ℤ → ℕ → Type 0
+RowEntry W op w n =
+    EntryOf (W .matrix) (λ i j. Writes op i) (contents (W .matrix) w) n
+    ⊎ (EntryOf (W .«row_follower») (λ i j. Writes op i) (contents (W .«row_follower») w) n
+    ⊎ EntryOf (W .«row_inverse») (λ i j. Writes (inverse op) i) (contents (W .«row_inverse») w) n)
+
+-- the same of an operation on the columns
+abbrev pub ColumnEntry : Layout → Operation → List ℤ → ℕ → Type 0
+ColumnEntry W op w n =
+    EntryOf (W .matrix) (λ i j. Writes op j) (contents (W .matrix) w) n
+    ⊎ (EntryOf (W .«column_follower») (λ i j. Writes op i) (contents (W .«column_follower») w) n
+    ⊎ EntryOf (W .«column_inverse») (λ i j. Writes (inverse op) i) (contents (W .«column_inverse») w) n)
+
+-- The largest absolute value that was written, x: it covers every entry that differs, and is 0 or that of an entry that the operation writes. Every
+-- entry lies within the limit.
+pub record Wrote (entry : List ℤ → ℕ → Type 0) (w : List ℤ) (x : ℕ) (w′ : List ℤ) : Type 0 where
+  pub bounded : Bounded x w′
+  pub covered : Covered w w′ x
+  pub attained : (x ≡ 0) ⊎ entry w′ x
+
+abbrev pub Answered : (List ℤ → ℕ → Type 0) → List ℤ → Effect → List ℤ → Type 0
+Answered entry w (Done x) w′ = Wrote entry w x w′
+Answered entry w TooWide w′ = Unit {0}
+
+-- With a peak that bounds the slice, the operation's outcome is the one answered, and the slice holds the state that it made.
+pub record Operated (W : Layout) (outcomeAt : ℕ → Outcome) (entry : List ℤ → ℕ → Type 0) (w : List ℤ) (r : Effect) (w′ : List ℤ) : Type 0 where
+  pub outcome : (peak : ℕ) → Under peak w → outcomeOf W peak r w′ ≡ outcomeAt peak
+  pub answer : Answered entry w r w′
+
+abbrev pub RowsOperated : Layout → Operation → List ℤ → Effect → List ℤ → Type 0
+RowsOperated W op w r w′ = Operated W (λ peak. onRow entryLimit (sizesOf W) op (stateOf W peak w)) (RowEntry W op) w r w′
+
+abbrev pub ColumnsOperated : Layout → Operation → List ℤ → Effect → List ℤ → Type 0
+ColumnsOperated W op w r w′ = Operated W (λ peak. onColumn entryLimit (sizesOf W) op (stateOf W peak w)) (ColumnEntry W op) w r w′
 
 -- a follower F undergoes the operation and an inverse companion U its inverse: F goes too wide, or U comes to r after it
-pub data Followed (F U : Matrix) (op : Operation) (peak : ℕ) (w : List ℤ) : Effect → List ℤ → Type 0 where
-  stopped : {w′ : List ℤ} → Became F w (onRows op (contents F w)) peak TooWide w′ → Followed F U op peak w TooWide w′
+pub data Followed (F U : Matrix) (op : Operation) (before : ℕ) (w : List ℤ) : Effect → List ℤ → Type 0 where
+  stopped : {w′ : List ℤ} → OnLines F w op before TooWide w′ → Followed F U op before w TooWide w′
   followed :
-      {x : Written} {w₁ : List ℤ} → Became F w (onRows op (contents F w)) peak (Done x) w₁ → (r : Effect) {w′ : List ℤ} →
-      Became U w₁ (onRows (inverse op) (contents U w₁)) (x .peak) r w′ → Followed F U op peak w r w′
+      {x : ℕ} {w₁ : List ℤ} → OnLines F w op before (Done x) w₁ → (r : Effect) {w′ : List ℤ} → OnLines U w₁ (inverse op) x r w′
+      → Followed F U op before w r w′

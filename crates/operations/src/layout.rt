@@ -3,14 +3,12 @@ ghost use mathlib.Core.Path.{_≡_};
 ghost use Prim.Native.Nat.{_+_, _*_, _<_, _≤_, max};
 ghost use lib.ListN.{length};
 ghost use Rattle.matrices.specs.Operation.{swap, inverse as undoing};
-ghost use Rattle.reduction_steps.specs.State.{onRow, onColumn};
-ghost use Rattle.lines.specs.Slice.{entryLimit, Under};
+ghost use Rattle.lines.specs.Slice.{Small, Bounded};
 ghost use Rattle.lines.specs.Operations.{operationOf, Fits, Alone};
 ghost use Rattle.lines.specs.Matrices.{Held};
-ghost use Rattle.operations.specs.Laid.{Laid, sizesOf, stateOf, Operated, Followed};
+ghost use Rattle.operations.specs.Laid.{Laid, RowsOperated, ColumnsOperated, Followed};
 ghost use Rattle.operations.specs.Layouts.{firstLayout, secondLayout};
 use lines::line::Effect;
-use lines::line::Written;
 use lines::matrix::Matrix;
 use lines::operation::Operation;
 
@@ -113,90 +111,85 @@ impl Layout {
     }
 }
 
-// Does the operation to a follower, then its inverse to an inverse companion. Where both are absent nothing is called.
-fn follow(follower: Matrix, inverse: Matrix, w: &mut [i32], op: Operation, peak: u64) -> Effect
-    requires { ⌜ Held (length (now w)) follower × Held (length (now w)) inverse × Under peak (now w) ⌝ }
+// Does the operation to a follower, then its inverse to an inverse companion. Where both are absent nothing is called. It is handed the largest
+// absolute value that the operation wrote before, and answers the largest after it.
+fn follow(follower: Matrix, inverse: Matrix, w: &mut [i32], op: Operation, before: u64) -> Effect
+    requires { ⌜ Held (length (now w)) follower × Held (length (now w)) inverse × Bounded before (now w) ⌝ }
     requires { ⌜ Fits (follower .lines) (operationOf op) × Fits (inverse .lines) (undoing (operationOf op)) ⌝ }
-    ensures { λ r. ⌜ Followed follower inverse (operationOf op) peak (now (w .entry)) r (now (w .exit)) ⌝ }
+    ensures { λ r. ⌜ Followed follower inverse (operationOf op) before (now (w .entry)) r (now (w .exit)) ⌝ }
 {
     if follower.width == 0 {
         if inverse.width == 0 {
-            return Effect::Done(Written { peak });
+            return Effect::Done(before);
         }
     }
     let undone = op.inverse();
-    let Effect::Done(first) = follower.on_lines(w, op, peak) else {
+    let Effect::Done(first) = follower.on_lines(w, op, before) else {
         return Effect::TooWide;
     };
-    let Effect::Done(second) = inverse.on_lines(w, undone, first.peak) else {
+    let Effect::Done(second) = inverse.on_lines(w, undone, first) else {
         return Effect::TooWide;
     };
     Effect::Done(second)
 }
 
 impl Layout {
-    // Does the operation to the rows of the matrix, and so to its companions.
-    pub fn on_rows(self, w: &mut [i32], op: Operation, peak: u64) -> Effect
+    // Does the operation to the rows of the matrix, and so to its companions. It answers the largest absolute value that it wrote.
+    pub fn on_rows(self, w: &mut [i32], op: Operation) -> Effect
         requires { ⌜ Laid (length (now w)) self ⌝ }
-        requires { ⌜ Under peak (now w) ⌝ }
+        requires { ⌜ Small (now w) ⌝ }
         requires { ⌜ Fits (self .matrix .lines) (operationOf op) ⌝ }
-        ensures { λ r. ⌜ Operated self (onRow entryLimit (sizesOf self) (operationOf op) (stateOf self peak (now (w .entry)))) r (now (w .exit)) ⌝ }
+        ensures { λ r. ⌜ RowsOperated self (operationOf op) (now (w .entry)) r (now (w .exit)) ⌝ }
     {
-        let Effect::Done(first) = self.matrix.on_lines(w, op, peak) else {
+        let Effect::Done(first) = self.matrix.on_lines(w, op, 0) else {
             return Effect::TooWide;
         };
-        let Effect::Done(second) = follow(self.row_follower, self.row_inverse, w, op, first.peak)
-        else {
+        let Effect::Done(second) = follow(self.row_follower, self.row_inverse, w, op, first) else {
             return Effect::TooWide;
         };
         Effect::Done(second)
     }
 
     // The same on columns. Where column k is subtracted, its one nonzero entry stands in row k: the matrix changes in that row alone.
-    pub fn on_columns(self, w: &mut [i32], op: Operation, peak: u64) -> Effect
+    pub fn on_columns(self, w: &mut [i32], op: Operation) -> Effect
         requires { ⌜ Laid (length (now w)) self ⌝ }
-        requires { ⌜ Under peak (now w) ⌝ }
+        requires { ⌜ Small (now w) ⌝ }
         requires { ⌜ Fits (self .matrix .width) (operationOf op) × Alone (self .matrix) (now w) (operationOf op) ⌝ }
-        ensures { λ r. ⌜ Operated self (onColumn entryLimit (sizesOf self) (operationOf op) (stateOf self peak (now (w .entry)))) r (now (w .exit)) ⌝ }
+        ensures { λ r. ⌜ ColumnsOperated self (operationOf op) (now (w .entry)) r (now (w .exit)) ⌝ }
     {
-        let Effect::Done(first) = self.matrix.on_places(w, op, peak) else {
+        let Effect::Done(first) = self.matrix.on_places(w, op, 0) else {
             return Effect::TooWide;
         };
-        let Effect::Done(second) = follow(
-            self.column_follower,
-            self.column_inverse,
-            w,
-            op,
-            first.peak,
-        ) else {
+        let Effect::Done(second) = follow(self.column_follower, self.column_inverse, w, op, first)
+        else {
             return Effect::TooWide;
         };
         Effect::Done(second)
     }
 
     // Exchanges rows i and k. A row is not exchanged with itself.
-    pub fn swap_rows(self, w: &mut [i32], i: usize, k: usize, peak: u64) -> Effect
+    pub fn swap_rows(self, w: &mut [i32], i: usize, k: usize) -> Effect
         requires { ⌜ Laid (length (now w)) self ⌝ }
-        requires { ⌜ Under peak (now w) ⌝ }
+        requires { ⌜ Small (now w) ⌝ }
         requires { ⌜ (i < self .matrix .lines) × (k < self .matrix .lines) ⌝ }
-        ensures { λ r. ⌜ Operated self (onRow entryLimit (sizesOf self) (swap i k) (stateOf self peak (now (w .entry)))) r (now (w .exit)) ⌝ }
+        ensures { λ r. ⌜ RowsOperated self (swap i k) (now (w .entry)) r (now (w .exit)) ⌝ }
     {
         if i == k {
-            return Effect::Done(Written { peak });
+            return Effect::Done(0);
         }
-        self.on_rows(w, Operation::Swap(i, k), peak)
+        self.on_rows(w, Operation::Swap(i, k))
     }
 
     // The same on columns.
-    pub fn swap_columns(self, w: &mut [i32], j: usize, k: usize, peak: u64) -> Effect
+    pub fn swap_columns(self, w: &mut [i32], j: usize, k: usize) -> Effect
         requires { ⌜ Laid (length (now w)) self ⌝ }
-        requires { ⌜ Under peak (now w) ⌝ }
+        requires { ⌜ Small (now w) ⌝ }
         requires { ⌜ (j < self .matrix .width) × (k < self .matrix .width) ⌝ }
-        ensures { λ r. ⌜ Operated self (onColumn entryLimit (sizesOf self) (swap j k) (stateOf self peak (now (w .entry)))) r (now (w .exit)) ⌝ }
+        ensures { λ r. ⌜ ColumnsOperated self (swap j k) (now (w .entry)) r (now (w .exit)) ⌝ }
     {
         if j == k {
-            return Effect::Done(Written { peak });
+            return Effect::Done(0);
         }
-        self.on_columns(w, Operation::Swap(j, k), peak)
+        self.on_columns(w, Operation::Swap(j, k))
     }
 }

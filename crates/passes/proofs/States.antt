@@ -2,7 +2,7 @@
 -- came to. rowsDone-moves: a stage's operations keep its finished rows.
 use mathlib.Core.Path.{_≡_, sym, _∙_, ap, subst}
 use mathlib.Core.List.{List}
-use Prim.Native.Nat.{ℕ, _<_}
+use Prim.Native.Nat.{ℕ, _<_, max}
 use native.Mathlib.Omega.{arith}
 use lib.ListN.{length}
 use lib.IntN.{ℤ}
@@ -15,10 +15,10 @@ use Rattle.reduction_laws.specs.Moves.{Moves, Keeps, moves-keep}
 use Rattle.reduction_laws.specs.StageLaws as stage-laws
 use Rattle.lines.specs.Slice.{Under}
 use Rattle.lines.specs.Matrices.{Held, contents}
-use Rattle.lines.specs.declared.line.Written.{Written}
 use Rattle.lines.specs.declared.line.Effect.{Effect}
 use Rattle.lines.specs.declared.line.Effect.the-variants.{Done, TooWide}
-use Rattle.operations.specs.Laid.{Laid, linesOf, stateOf, outcomeOf, UnderDone, Operated}
+use Rattle.operations.specs.Laid.{Laid, sizesOf, linesOf, stateOf, outcomeOf, Wrote, Answered, Operated}
+use Rattle.lines.proofs.Peaks.{under-covered}
 use Rattle.operations.specs.declared.layout.Layout.{Layout}
 
 -- ---- the state of a slice
@@ -36,14 +36,21 @@ held-matrix h = record { ends = omega (arith, h .after-matrix, h .after-row-inve
 
 -- ---- what an operation came to
 
-pub operated-done : {W : Layout} {o : Outcome} {r : Effect} {a : Written} {w′ : List ℤ} → Operated W o r w′ → r ≡ Done a → o ≡ made (stateOf W (a .peak) w′)
-operated-done {W} {o} {r} {a} {w′} h e = sym (h .outcome) ∙ ap (λ (x : Effect). outcomeOf W x w′) e
+module _ {W : Layout} {o : ℕ → Outcome} {written : List ℤ → ℕ → Type 0} {r : Effect} {w w′ : List ℤ} (h : Operated W o written w r w′) where
+  -- the peak after it is the larger one of the peak before and the answer
+  pub operated-done : {a : ℕ} → r ≡ Done a → {peak n : ℕ} → Under peak w → n ≡ max peak a → o peak ≡ made (stateOf W n w′)
+  operated-done e {peak} u is =
+      sym (h .outcome peak u) ∙ ap (λ (x : Effect). outcomeOf W peak x w′) e ∙ ap (λ (n : ℕ). made (stateOf W n w′)) (sym is)
 
-pub operated-under : {W : Layout} {o : Outcome} {r : Effect} {a : Written} {w′ : List ℤ} → Operated W o r w′ → r ≡ Done a → Under (a .peak) w′
-operated-under {w′} h e = subst (λ (x : Effect). UnderDone x w′) e (h .under)
+  pub operated-under : {a : ℕ} → r ≡ Done a → {peak n : ℕ} → Under peak w → n ≡ max peak a → Under n w′
+  operated-under {a} e u is =
+      subst (λ (n : ℕ). Under n w′) (sym is) (under-covered u (wrote .covered) (wrote .bounded))
+    where
+      wrote : Wrote written w a w′
+      wrote = subst (λ (x : Effect). Answered written w x w′) e (h .answer)
 
-pub operated-wide : {W : Layout} {o : Outcome} {r : Effect} {w′ : List ℤ} → Operated W o r w′ → r ≡ TooWide → o ≡ tooWide
-operated-wide {W} {o} {r} {w′} h e = sym (h .outcome) ∙ ap (λ (x : Effect). outcomeOf W x w′) e
+  pub operated-wide : r ≡ TooWide → {peak : ℕ} → Under peak w → o peak ≡ tooWide
+  operated-wide e {peak} u = sym (h .outcome peak u) ∙ ap (λ (x : Effect). outcomeOf W peak x w′) e
 
 -- ---- what a stage's operations keep
 

@@ -5,6 +5,7 @@ ghost use Rattle.lines.specs.Slice.{Under};
 ghost use Rattle.operations.specs.Laid.{Laid};
 ghost use Rattle.passes.specs.Answer.{bringOf, Passed};
 use crate::pass::Pass;
+use lines::absolute::larger;
 use lines::line::Effect;
 use lines::line::clear;
 use lines::operation::Operation;
@@ -18,21 +19,23 @@ pub fn bring_pivot(layout: Layout, w: &mut [i32], k: usize, i: usize, j: usize, 
     requires { ⌜ (k < layout .matrix .lines) × (k < layout .matrix .width) × (i < layout .matrix .lines) × (j < layout .matrix .width) ⌝ }
     ensures { λ r. ⌜ Passed layout (bringOf layout k i j peak (now (w .entry))) (length (now (w .entry))) r (now (w .exit)) ⌝ }
 {
-    let Effect::Done(rows) = layout.swap_rows(w, i, k, peak) else {
+    let Effect::Done(rows) = layout.swap_rows(w, i, k) else {
         clear(w);
         return Pass::Refused(Refusal::TooWide);
     };
-    let Effect::Done(columns) = layout.swap_columns(w, j, k, rows.peak) else {
+    let swapped = larger(peak, rows);
+    let Effect::Done(columns) = layout.swap_columns(w, j, k) else {
         clear(w);
         return Pass::Refused(Refusal::TooWide);
     };
+    let brought = larger(swapped, columns);
     let m = layout.matrix;
     if m.entry(w, k, k) < 0 {
-        let Effect::Done(negated) = layout.on_rows(w, Operation::Negate(k), columns.peak) else {
+        let Effect::Done(negated) = layout.on_rows(w, Operation::Negate(k)) else {
             clear(w);
             return Pass::Refused(Refusal::TooWide);
         };
-        return Pass::Made(negated.peak);
+        return Pass::Made(larger(brought, negated));
     }
-    Pass::Made(columns.peak)
+    Pass::Made(brought)
 }

@@ -2,6 +2,7 @@
 // changes nothing, and no operation is called for it.
 ghost use lib.ListN.{length};
 ghost use Rattle.passes.specs.Answer.{Placed, ColumnClear, rowPassOf, columnPassOf, Passed};
+use lines::absolute::larger;
 use lines::line::Effect;
 use lines::line::clear;
 use lines::operation::Operation;
@@ -30,11 +31,11 @@ pub fn clear_column(layout: Layout, w: &mut [i32], k: usize, peak: u64) -> Pass
             i = i + 1;
             continue;
         }
-        let Effect::Done(written) = layout.on_rows(w, Operation::Subtract(i, k, q), largest) else {
+        let Effect::Done(written) = layout.on_rows(w, Operation::Subtract(i, k, q)) else {
             clear(w);
             return Pass::Refused(Refusal::TooWide);
         };
-        largest = written.peak;
+        largest = larger(largest, written);
         i = i + 1;
     }
     Pass::Made(largest)
@@ -47,17 +48,16 @@ pub fn clear_row(layout: Layout, w: &mut [i32], k: usize, peak: u64) -> Pass
 {
     let m = layout.matrix;
     let columns = m.width;
-    let mut largest = peak;
+    let mut reached = peak;
     let mut j = first_nonzero(w, m.line(k), k + 1, columns);
     while j < columns {
         let q = quotient(m.entry(w, k, j), m.entry(w, k, k));
-        let Effect::Done(written) = layout.on_columns(w, Operation::Subtract(j, k, q), largest)
-        else {
+        let Effect::Done(written) = layout.on_columns(w, Operation::Subtract(j, k, q)) else {
             clear(w);
             return Pass::Refused(Refusal::TooWide);
         };
-        largest = written.peak;
+        reached = larger(reached, written);
         j = first_nonzero(w, m.line(k), j + 1, columns);
     }
-    Pass::Made(largest)
+    Pass::Made(reached)
 }

@@ -4,6 +4,7 @@ ghost use Rattle.reduction_steps.specs.Pivot.{pivotRule};
 ghost use Rattle.reduction_steps.specs.Step as steps;
 ghost use Rattle.passes.specs.Answer.{Placed, ColumnClear};
 ghost use Rattle.reducer.specs.Answer.{Begun, ChoiceEnds, PassEnds};
+use lines::absolute::larger;
 use lines::line::Effect;
 use lines::line::clear;
 use lines::operation::Operation;
@@ -79,9 +80,10 @@ fn column_pass(layout: Layout, w: &mut [i32], k: usize, rounds: usize, peak: u64
     let Indivisible::Row(i) = first_indivisible(layout.matrix, w, k) else {
         return Stage::Cleared(cleared);
     };
-    let Effect::Done(added) = layout.on_rows(w, Operation::Subtract(k, i, -1), cleared) else {
+    let Effect::Done(added) = layout.on_rows(w, Operation::Subtract(k, i, -1)) else {
         clear(w);
         return Stage::Refused(Refusal::TooWide);
     };
-    column_pass(layout, w, k, rounds, added.peak)
+    let reached = larger(cleared, added);
+    column_pass(layout, w, k, rounds, reached)
 }

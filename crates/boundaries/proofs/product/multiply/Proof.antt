@@ -1,6 +1,7 @@
--- `product::multiply` meets its contract. The invariant: the columns passed are those of the product, and the peak so far is the largest of their
--- entries and the one handed over. The measure is how many are left. Assumes nothing.
-use mathlib.Core.Path.{_≡_, refl, sym, subst, _∙_}
+-- `product::multiply` meets its contract. The invariant: the columns passed are those of the product, and the largest so far is that of their
+-- absolute values. The measure is how many are left. Assumes nothing.
+use mathlib.Core.Path.{_≡_, refl, sym, ap, subst, _∙_}
+use mathlib.Core.Logic.{_⊎_, inl, inr, ⊎-elim}
 use mathlib.Core.List.{List}
 use Prim.Native.Nat.{ℕ, suc, _+_, _-_, _<_, _≤_}
 use native.Mathlib.Nat as NatL
@@ -13,50 +14,68 @@ use Rattle.complexes.specs.Boundary.{boundary}
 use Rattle.sheet_format.specs.Layout.{top}
 use Rattle.sheet_format.specs.Check.{sectionsOf}
 use Rattle.sheet_format.specs.SheetLaws.{count-sectionsOf, countField-below}
-use Rattle.lines.specs.Slice.{entryLimit, Under}
-use Rattle.lines.specs.Matrices.{contents, end, Holds, Exceeds}
+use Rattle.lines.specs.Slice.{entryLimit, Small, Bounded, Covered, Under}
+use Rattle.lines.specs.Matrices.{contents, end, everywhere, Holds, Exceeds}
 use Rattle.lines.specs.declared.matrix.Matrix.{Matrix}
-use Rattle.lines.specs.declared.line.Written.{Written}
 use Rattle.lines.specs.declared.line.Effect.{Effect}
 use Rattle.lines.specs.declared.line.Effect.the-variants.{Done, TooWide}
-use Rattle.lines.proofs.Peaks.{written}
+use Rattle.lines.proofs.Peaks.{small-bounded, covered-same, covered-trans}
 use Rattle.limits.specs.Limits.{libraryLimit}
 use Rattle.faces.specs.Face.{AreFaces}
 use Rattle.faces.proofs.Sheet.{complex}
 use Rattle.boundaries.specs.Filled.{MatrixFilled}
-use Rattle.boundaries.specs.Column.{atPlaces, ColumnHolds, ColumnExceeds, ColumnBecame}
+use Rattle.boundaries.specs.Column.{atPlaces, ColumnEntry, ColumnHolds, ColumnExceeds, ColumnBecame}
 use Rattle.boundaries.proofs.Columns.{leftOf, columns-none, columns-more, columns-all}
 use Rattle.boundaries.proofs.Products.{product, contents-kept, product-entry}
 use Rattle.boundaries.proofs.product.multiply.Statement.{statement}
 use Rattle.boundaries.proofs.product.multiply.Tie as tie
 
-record Invariant (K : Sections) (p : ℕ) (q M : Matrix) (w₀ : List ℤ) (peak : ℕ) (w : List ℤ) (largest j : ℕ) : Type 0 where
+-- n is the absolute value of an entry of a column below j
+record Reached (K : Sections) (p : ℕ) (q M : Matrix) (w₀ : List ℤ) (j n : ℕ) : Type 0 where
+  line : ℕ
+  column : ℕ
+  line-below : line < M .lines
+  column-below : column < j
+  is : n ≡ natAbs (product K p q w₀ line column)
+
+record Invariant (K : Sections) (p : ℕ) (q M : Matrix) (w₀ : List ℤ) (w : List ℤ) (largest j : ℕ) : Type 0 where
   below : j ≤ M .width
   so-far : MatrixFilled M w₀ (leftOf j (product K p q w₀) (contents M w₀)) w
-  under : Under largest w
-  above : peak ≤ largest
-  least : (L : ℕ) → peak ≤ L → ((a b : ℕ) → a < M .lines → b < j → natAbs (product K p q w₀ a b) ≤ L) → largest ≤ L
+  bounded : Bounded largest w
+  covered : Covered w₀ w largest
+  wrote : (largest ≡ 0) ⊎ Reached K p q M w₀ j largest
 
-begun : (K : Sections) (p : ℕ) (q M : Matrix) (w₀ : List ℤ) (peak : ℕ) → Under peak w₀ → Invariant K p q M w₀ peak w₀ peak 0
-begun K p q M w₀ peak u = record {
+begun : (K : Sections) (p : ℕ) (q M : Matrix) (w₀ : List ℤ) → Small w₀ → Invariant K p q M w₀ w₀ 0 0
+begun K p q M w₀ small = record {
   below = omega arith;
   so-far = columns-none M w₀ (product K p q w₀);
-  under = u;
-  above = NatL.le-refl peak;
-  least = λ L l a. l;
+  bounded = small-bounded small;
+  covered = covered-same w₀;
+  wrote = inl refl;
 }
 
-ended : {K : Sections} {p : ℕ} {q M : Matrix} {w₀ : List ℤ} {peak : ℕ} {w : List ℤ} {largest j : ℕ} → Invariant K p q M w₀ peak w largest j
-    → M .width ≤ j → Holds M w₀ (product K p q w₀) peak (written largest) w
-ended {K} {p} {q} {M} {w₀} {peak} {w} {largest} {j} inv done =
+ended : {K : Sections} {p : ℕ} {q M : Matrix} {w₀ : List ℤ} {w : List ℤ} {largest j : ℕ} → Invariant K p q M w₀ w largest j
+    → M .width ≤ j → Holds M w₀ everywhere (product K p q w₀) 0 largest w
+ended {K} {p} {q} {M} {w₀} {w} {largest} {j} inv done =
     let filled = columns-all (product K p q w₀) (contents M w₀) j (inv .so-far) done in
     record {
       same-length = filled .same-length;
       on = filled .on;
       off = filled .off;
-      under = inv .under;
-      above = inv .above;
-      least = λ L l a. inv .least L l (λ i b k h. a i b k (omega (arith, inv .below)));
+      bounded = inv .bounded;
+      above = omega arith;
+      covered = inv .covered;
+      wrote =
+          ⊎-elim (λ e. inl e)
+          (λ o. inr (record {
+            line = o .line;
+            place = o .column;
+            line-below = o .line-below;
+            place-below = omega (arith, o .column-below, inv .below);
+            chosen = tt;
+            is = o .is;
+          }))
+          (inv .wrote);
     }
 
 -- the places of the faces of cell j, whose column has sign t at place t
@@ -66,7 +85,7 @@ record Faced (b : List ℕ) (p : ℕ) (q : Matrix) (j : ℕ) (places : List ℕ)
   below : j < count (sectionsOf b) (suc p)
   faces : AreFaces b p j places
 
-module _ {b : List ℕ} {p : ℕ} {q M : Matrix} {w₀ w : List ℤ} {peak largest j : ℕ} (inv : Invariant (sectionsOf b) p q M w₀ peak w largest j)
+module _ {b : List ℕ} {p : ℕ} {q M : Matrix} {w₀ w : List ℤ} {largest j : ℕ} (inv : Invariant (sectionsOf b) p q M w₀ w largest j)
     (before : end M ≤ q .at) {places : List ℕ} (faced : Faced b p q j places) where
   -- line i times the column of cell j is the entry of the product, since q is kept
   entry-is : (i : ℕ) → atPlaces q w places (p + 2) i j ≡ product (sectionsOf b) p q w₀ i j
@@ -76,15 +95,36 @@ module _ {b : List ℕ} {p : ℕ} {q M : Matrix} {w₀ w : List ℤ} {peak large
       (λ k l. contents-kept q M w₀ w before (inv .so-far .off) i k) (λ k l. refl)
 
   module _ (l : j < M .width) {w′ : List ℤ} where
-    more : {x : Written} → ColumnHolds M w (atPlaces q w places (p + 2)) j largest x w′ → Invariant (sectionsOf b) p q M w₀ peak w′ (x .peak) (j + 1)
-    more f = record {
+    more : {x : ℕ} → ColumnHolds M w (atPlaces q w places (p + 2)) j largest x w′ → Invariant (sectionsOf b) p q M w₀ w′ x (j + 1)
+    more {x} f = record {
       below = omega arith;
       so-far = columns-more (product (sectionsOf b) p q w₀) (contents M w₀) j (inv .so-far) (f .filled) (λ i k. entry-is i);
-      under = f .under;
-      above = NatL.le-trans (inv .above) (f .above);
-      least = λ L h a. f .least L (inv .least L h (λ i b k m. a i b k (omega arith)))
-          (λ i k. subst (λ (z : ℤ). natAbs z ≤ L) (sym (entry-is i)) (a i j k (omega arith)));
+      bounded = f .bounded;
+      covered = covered-trans (inv .covered) (f .covered) (f .above);
+      wrote = pick (f .wrote) (inv .wrote);
     }
+      where
+        Left : ℕ → ℕ → Type 0
+        Left k n = (n ≡ 0) ⊎ Reached (sectionsOf b) p q M w₀ k n
+
+        pick : (x ≡ largest) ⊎ ColumnEntry M (atPlaces q w places (p + 2)) j x → Left j largest → Left (j + 1) x
+        pick (inr o) h =
+            inr (record {
+              line = o .line;
+              column = j;
+              line-below = o .line-below;
+              column-below = omega arith;
+              is = o .is ∙ ap natAbs (entry-is (o .line));
+            })
+        pick (inl e) (inl h) = inl (e ∙ h)
+        pick (inl e) (inr h) =
+            inr (record {
+              line = h .line;
+              column = h .column;
+              line-below = h .line-below;
+              column-below = omega (arith, h .column-below);
+              is = e ∙ h .is;
+            })
 
     too-wide : ColumnExceeds M w (atPlaces q w places (p + 2)) j w′ → Exceeds M w₀ (product (sectionsOf b) p q w₀) w′
     too-wide e = record {
@@ -101,15 +141,15 @@ dimension : (b : List ℕ) (p j : ℕ) → j < count (sectionsOf b) (suc p) → 
 dimension b p j l = omega (arith, countField-below b (suc p) j (rw (count-sectionsOf b (suc p)) at l))
 
 abbrev Inv-loop : tie.InvT-loop
-Inv-loop s p q m w₀ peak places₀ largest₀ j₀ columns w places largest j = Invariant (sectionsOf s) p q m w₀ peak w largest j × (length places ≡ suc top)
+Inv-loop s p q m w₀ places₀ largest₀ j₀ columns w places largest j = Invariant (sectionsOf s) p q m w₀ w largest j × (length places ≡ suc top)
 
 abbrev μ-loop : tie.MeasureT-loop
-μ-loop s p q m w₀ peak places₀ largest₀ j₀ columns w places largest j = m .width - j
+μ-loop s p q m w₀ places₀ largest₀ j₀ columns w places largest j = m .width - j
 
 loop-holds : tie.Need-loop-holds Inv-loop μ-loop
 loop-holds c =
     let args = c .before .args in
-    (begun (sectionsOf (args .s .now)) (args .p) (args .q) (args .m) (args .w .now) (args .peak) (c .before .pre .1 .1 .2), refl)
+    (begun (sectionsOf (args .s .now)) (args .p) (args .q) (args .m) (args .w .now) (c .before .pre .1 .1 .2), refl)
 
 -- cell j is one of the section's
 module _ (c : tie.In-loop Inv-loop μ-loop) where
@@ -143,7 +183,7 @@ multiply-column-requires c κs =
       (pre .0 .2, turn .loop-test .taken, omega (arith, inside turn)),
       (
         λ t l. omega (arith, f .faces .face t (omega arith) .below, f .rows),
-        (record { ends = omega (arith, pre .1 .0 .ends, head .inv .0 .so-far .same-length) }, pre .1 .1, head .inv .0 .under),
+        (record { ends = omega (arith, pre .1 .0 .ends, head .inv .0 .so-far .same-length) }, pre .1 .1, head .inv .0 .bounded),
       ),
     )
 

@@ -1,7 +1,7 @@
--- `product::multiply_column` meets its contract. The invariant: the entries of the column in the lines passed are those of the product, and the peak
--- so far is the largest of theirs and the one handed over. The measure is how many lines are left. Assumes nothing.
+-- `product::multiply_column` meets its contract. The invariant: the entries of the column in the lines passed are those of the product, and the
+-- largest so far is that of their absolute values and the one handed over. The measure is how many lines are left. Assumes nothing.
 use mathlib.Core.Path.{_≡_, refl, sym, ap, subst, _∙_}
-use mathlib.Core.Logic.{inl, inr, ⊎-elim}
+use mathlib.Core.Logic.{_⊎_, inl, inr, ⊎-elim}
 use mathlib.Core.List.{List}
 use Prim.Native.Nat.{ℕ, suc, _+_, _-_, _^_, _<_, _≤_}
 use native.Mathlib.Nat as NatL
@@ -17,11 +17,11 @@ use Rattle.matrices.specs.Matrix as theory
 use Rattle.complexes.specs.Boundary.{sign}
 use Rattle.sheet_format.specs.Layout.{top}
 use Rattle.words.specs.Read.{read, read-entry, entry-fits}
-use Rattle.lines.specs.Slice.{entryLimit, lineAt, Under}
+use Rattle.lines.specs.Slice.{entryLimit, lineAt, Bounded, Covered}
 use Rattle.lines.specs.Matrices.{Held, contents, end}
 use Rattle.lines.specs.declared.matrix.Matrix.{Matrix}
-use Rattle.lines.proofs.Peaks.{written, under-small, under-larger, Raised, raised-by, raised-small}
-use Rattle.lines.proofs.Store.{under-set}
+use Rattle.lines.proofs.Peaks.{bounded-small, bounded-larger, covered-same, covered-trans, Raised, raised-by, raised-small}
+use Rattle.lines.proofs.Store.{bounded-set, covered-set}
 use Rattle.lines.proofs.Spans.{line-span, span-inside}
 use Rattle.lines.proofs.Operations.{upTo, upTo-below, upTo-from}
 use Rattle.boundaries.specs.Filled.{ColumnFilled}
@@ -32,24 +32,31 @@ use Rattle.boundaries.proofs.product.multiply_column.Statement.{stateme
 use Rattle.boundaries.proofs.product.multiply_column.Tie as tie
 
 -- what the function is given
-record Given (q M : Matrix) (w₀ : List ℤ) (j : ℕ) (places : List ℕ) (faces peak : ℕ) : Type 0 where
+record Given (q M : Matrix) (w₀ : List ℤ) (j : ℕ) (places : List ℕ) (faces largest₀ : ℕ) : Type 0 where
   lines : M .lines ≡ q .lines
   below : j < M .width
   few : faces ≤ suc top
   inside : (t : ℕ) → t < faces → getD places t 0 < q .width
   held : Held (length w₀) q
   before : end M ≤ q .at
-  under : Under peak w₀
+  bounded : Bounded largest₀ w₀
 
-record Invariant (q M : Matrix) (w₀ : List ℤ) (j : ℕ) (places : List ℕ) (faces peak : ℕ) (w : List ℤ) (largest i : ℕ) : Type 0 where
+-- n is the absolute value of an entry of a line below i
+record Reached (q : Matrix) (w₀ : List ℤ) (j : ℕ) (places : List ℕ) (faces i n : ℕ) : Type 0 where
+  line : ℕ
+  below : line < i
+  is : n ≡ natAbs (atPlaces q w₀ places faces line j)
+
+record Invariant (q M : Matrix) (w₀ : List ℤ) (j : ℕ) (places : List ℕ) (faces largest₀ : ℕ) (w : List ℤ) (largest i : ℕ) : Type 0 where
   below : i ≤ M .lines
   so-far : ColumnFilled M w₀ (upTo i (atPlaces q w₀ places faces) (contents M w₀)) j w
-  under : Under largest w
-  above : peak ≤ largest
-  least : (L : ℕ) → peak ≤ L → ((a : ℕ) → a < i → natAbs (atPlaces q w₀ places faces a j) ≤ L) → largest ≤ L
+  bounded : Bounded largest w
+  above : largest₀ ≤ largest
+  covered : Covered w₀ w largest
+  wrote : (largest ≡ largest₀) ⊎ Reached q w₀ j places faces i largest
 
-module _ {q M : Matrix} {w₀ : List ℤ} {j : ℕ} {places : List ℕ} {faces peak : ℕ} (given : Given q M w₀ j places faces peak) where
-  begun : Invariant q M w₀ j places faces peak w₀ peak 0
+module _ {q M : Matrix} {w₀ : List ℤ} {j : ℕ} {places : List ℕ} {faces largest₀ : ℕ} (given : Given q M w₀ j places faces largest₀) where
+  begun : Invariant q M w₀ j places faces largest₀ w₀ largest₀ 0
   begun = record {
     below = omega arith;
     so-far = record {
@@ -58,15 +65,16 @@ module _ {q M : Matrix} {w₀ : List ℤ} {j : ℕ} {places : List ℕ} {faces p
       beside = λ i k l m d. refl;
       off = λ i o. refl;
     };
-    under = given .under;
-    above = NatL.le-refl peak;
-    least = λ L l a. l;
+    bounded = given .bounded;
+    above = NatL.le-refl largest₀;
+    covered = covered-same w₀;
+    wrote = inl refl;
   }
 
   held-before : Held (length w₀) M
   held-before = record { ends = omega (arith, given .before, given .held .ends) }
 
-  module _ {w : List ℤ} {largest i : ℕ} (inv : Invariant q M w₀ j places faces peak w largest i) where
+  module _ {w : List ℤ} {largest i : ℕ} (inv : Invariant q M w₀ j places faces largest₀ w largest i) where
     -- line i times the column
     entry-is : (line : ℕ) → line ≡ lineAt (q .at) (q .width) i → (v : ℤ) → v ≡ sum faces (signed w line places) → v ≡ atPlaces q w₀ places faces i j
     entry-is line e v v-is =
@@ -78,25 +86,35 @@ module _ {q M : Matrix} {w₀ : List ℤ} {j : ℕ} {places : List ℕ} {faces p
     -- a word holds it
     entry-small : (line : ℕ) (v : ℤ) → v ≡ sum faces (signed w line places) → natAbs v < 2 ^ 63
     entry-small line v v-is =
-        subst (λ (z : ℤ). natAbs z < 2 ^ 63) (sym v-is) (omega (arith, signed-sum-small w line places faces (under-small (inv .under)) (given .few)))
+        subst (λ (z : ℤ). natAbs z < 2 ^ 63) (sym v-is) (omega (arith, signed-sum-small w line places faces (bounded-small (inv .bounded)) (given .few)))
 
     too-wide : i < M .lines → entryLimit < natAbs (atPlaces q w₀ places faces i j) → ColumnExceeds M w₀ (atPlaces q w₀ places faces) j w
     too-wide l h = record { same-length = inv .so-far .same-length; line = i; line-below = l; beyond = h }
 
     more : {place : ℕ} (v : ℤ) → Place M (length w₀) i j place → v ≡ atPlaces q w₀ places faces i j → {n : ℕ} → Raised largest v n
-        → Invariant q M w₀ j places faces peak (set w place v) n (i + 1)
-    more {place} v e v-is raised = record {
+        → Invariant q M w₀ j places faces largest₀ (set w place v) n (i + 1)
+    more {place} v e v-is {n} raised = record {
       below = omega (arith, e .line);
       so-far = column-set (entry-set e w v (inv .so-far .same-length)) (upTo (i + 1) new old)
           (upTo-below (i + 1) new old i j (omega arith) ∙ sym v-is)
           (inv .so-far)
           (λ a k d. pick a d (decLt a i))
           (given .below);
-      under = under-set w place v (omega (arith, place-inside e, inv .so-far .same-length)) (under-larger (inv .under) (raised .above) (raised .limit)) (raised .covers);
+      bounded = bounded-set w place v inside (bounded-larger (inv .bounded) (raised .limit)) (raised-small raised);
       above = NatL.le-trans (inv .above) (raised .above);
-      least = λ L l a. raised .least L (inv .least L l (λ b k. a b (omega arith))) (subst (λ (z : ℤ). natAbs z ≤ L) (sym v-is) (a i (omega arith)));
+      covered = covered-trans (inv .covered) (covered-set w place v inside (raised .covers)) (raised .above);
+      wrote = pick-wrote (raised .wrote) (inv .wrote);
     }
       where
+        inside : place < length w
+        inside = omega (arith, place-inside e, inv .so-far .same-length)
+
+        pick-wrote : (n ≡ largest) ⊎ (n ≡ natAbs v) → (largest ≡ largest₀) ⊎ Reached q w₀ j places faces i largest
+            → (n ≡ largest₀) ⊎ Reached q w₀ j places faces (i + 1) n
+        pick-wrote (inr o) p = inr (record { line = i; below = omega arith; is = o ∙ ap natAbs v-is })
+        pick-wrote (inl o) (inl p) = inl (o ∙ p)
+        pick-wrote (inl o) (inr p) = inr (record { line = p .line; below = omega (arith, p .below); is = o ∙ p .is })
+
         new : theory.Matrix
         new = atPlaces q w₀ places faces
 
@@ -107,7 +125,7 @@ module _ {q M : Matrix} {w₀ : List ℤ} {j : ℕ} {places : List ℕ} {faces p
         pick a d (yes m) = upTo-below (i + 1) new old a j (omega arith) ∙ sym (upTo-below i new old a j m)
         pick a d (no m) = upTo-from (i + 1) new old a j (omega arith) ∙ sym (upTo-from i new old a j (omega arith))
 
-    ended : M .lines ≤ i → ColumnHolds M w₀ (atPlaces q w₀ places faces) j peak (written largest) w
+    ended : M .lines ≤ i → ColumnHolds M w₀ (atPlaces q w₀ places faces) j largest₀ largest w
     ended done = record {
       filled = record {
         same-length = inv .so-far .same-length;
@@ -115,19 +133,20 @@ module _ {q M : Matrix} {w₀ : List ℤ} {j : ℕ} {places : List ℕ} {faces p
         beside = inv .so-far .beside;
         off = inv .so-far .off;
       };
-      under = inv .under;
+      bounded = inv .bounded;
       above = inv .above;
-      least = λ L l a. inv .least L l (λ b k. a b (omega (arith, inv .below)));
+      covered = inv .covered;
+      wrote = ⊎-elim (λ e. inl e) (λ o. inr (record { line = o .line; line-below = omega (arith, o .below, inv .below); is = o .is })) (inv .wrote);
     }
 
 abbrev Inv-loop : tie.InvT-loop
-Inv-loop q m w₀ j places faces peak lines width largest₀ i₀ w largest i = Invariant q m w₀ j places faces peak w largest i
+Inv-loop q m w₀ j places faces before lines width largest₀ i₀ w largest i = Invariant q m w₀ j places faces before w largest i
 
 abbrev μ-loop : tie.MeasureT-loop
-μ-loop q m w₀ j places faces peak lines width largest₀ i₀ w largest i = m .lines - i
+μ-loop q m w₀ j places faces before lines width largest₀ i₀ w largest i = m .lines - i
 
 given : (c : tie.Start Inv-loop μ-loop) →
-    let args = c .args in Given (args .q) (args .m) (args .w .now) (args .j) (args .places) (args .faces) (args .peak)
+    let args = c .args in Given (args .q) (args .m) (args .w .now) (args .j) (args .places) (args .faces) (args .before)
 given c =
     let pre = c .pre in
     record {
@@ -137,7 +156,7 @@ given c =
       inside = pre .1 .0;
       held = pre .1 .1 .0;
       before = pre .1 .1 .1;
-      under = pre .1 .1 .2;
+      bounded = pre .1 .1 .2;
     }
 
 loop-holds : tie.Need-loop-holds Inv-loop μ-loop
@@ -147,7 +166,7 @@ line-product-requires : tie.Need-line-product-requires Inv-loop μ-loop
 line-product-requires c κs =
     let turn = c .before .before in let start = turn .before .before in let g = given start in let inv = turn .before .loop .inv in
     let line = line-span (start .args .q) (c .line .result) (turn .before .loop .i) (c .line .ensures) (turn .loop-test .taken) in (
-      (omega (arith, span-inside line (g .held), inv .so-far .same-length), under-small (inv .under), g .few),
+      (omega (arith, span-inside line (g .held), inv .so-far .same-length), bounded-small (inv .bounded), g .few),
       g .inside,
     )
 
@@ -198,7 +217,7 @@ module _ (c : tie.Joined1 Inv-loop μ-loop) where
 
   raised : Raised (head made .loop .largest) (v made) (c .if1 .largest)
   raised =
-      raised-by (v made) (c .before .absolute .ensures) (head made .loop .inv .under .limit)
+      raised-by (v made) (c .before .absolute .ensures) (head made .loop .inv .bounded .limit)
       (⊎-elim (λ h. inl (h .0 .taken, h .1 .left, h .2)) (λ h. inr (h .0 .left, h .1)) (c .if1 .came))
 
 module _ (c : tie.After-line2 Inv-loop μ-loop) where
@@ -231,7 +250,7 @@ loop-again c =
     let at = made (joined c) in let args = start at .args in let loop = head at .loop in
     subst
     (λ (z : ℤ).
-    Invariant (args .q) (args .m) (args .w .now) (args .j) (args .places) (args .faces) (args .peak) (set (loop .w) (c .line2 .result + args .j) z) (joined c .if1 .largest)
+    Invariant (args .q) (args .m) (args .w .now) (args .j) (args .places) (args .faces) (args .before) (set (loop .w) (c .line2 .result + args .j) z) (joined c .if1 .largest)
     (loop .i + 1))
     (sym (read-entry (v at) (raised-small (raised (joined c)))))
     (more (given (start at)) (loop .inv) (v at) (place c) (v-is at) (raised (joined c)))

@@ -16,6 +16,7 @@ use Rattle.calls.specs.Admission.{SizesRead}
 use Rattle.calls.specs.Slices.{firstLayoutOf, secondLayoutOf, startPeak}
 use Rattle.calls.proofs.Sheet.{sheet-chains, cells-of, first-of, second-of}
 use Rattle.calls.proofs.Filling.{laid}
+use Rattle.lines.proofs.Peaks.{under-small}
 use Rattle.calls.proofs.Outcomes.{cleared-length, reduces-done, reduces-refused, became-done, became-wide, FirstDone, SecondStarted, first-refused, first-done, laid-then, Q-width, product-width, Q-held}
 use Rattle.calls.proofs.Outcomes.{product-refused, second-started, second-refused, second-done}
 use Rattle.calls.proofs.reductions.reduce_twice.Statement.{statement}
@@ -126,7 +127,7 @@ multiply-requires c κs =
         (
           Q-held pivotRule-is-rule (sectionsOf (now (s .args .s))) (s .args .p) (length (now (s .args .w))) (chains (began told)) (s .pre .1 .0) (first told) W is,
           omega (arith, l .after-matrix, l .after-row-inverse),
-          first told .kept .under,
+          under-small (first told .kept .under),
         ),
       ),
     )
@@ -143,7 +144,7 @@ returns-2 c =
     let told = called .before .before .before in
     let s = start (began told) in
     let W = called .before .before .second .result in
-    let beyond = became-wide (halfway told) (called .multiply .result) (c .before .before .before .enum-told2 .given .1) (called .multiply .ensures) in (
+    let beyond = became-wide (called .multiply .result) (c .before .before .before .enum-told2 .given .1) (called .multiply .ensures) in (
       product-refused pivotRule-is-rule (sectionsOf (now (s .args .s))) (s .args .p) (length (now (s .args .w))) (chains (began told)) (s .pre .1 .0) (first told) W
           (second-is (called .before .before)) beyond,
       record {
@@ -159,21 +160,21 @@ same-length-2 c = cleared-length (returns-2 c .1)
 
 -- ---- the second reduction
 
-module _ (c : tie.After-known-told2) where
+module _ (c : tie.After-larger) where
   abbrev multiplied : tie.After-multiply
-  multiplied = c .before .before .before .before
+  multiplied = c .before .before .before .before .before
 
   abbrev first-told : tie.After-known-told
   first-told = multiplied .before .before .before
 
   started : let s = start (began first-told) in
       SecondStarted pivotRule-is-rule (sectionsOf (now (s .args .s))) (s .args .p) (length (now (s .args .w))) (chains (began first-told)) (s .pre .1 .0) (rank first-told) (halfway first-told)
-      (first-called first-told .reduce-matrix .last .1 .0) (c .before .product .given .0 .0 .peak) (multiplied .multiply .last .1 .1 .1 .1 .0)
+      (first-called first-told .reduce-matrix .last .1 .0) (c .larger .result) (multiplied .multiply .last .1 .1 .1 .1 .0)
   started =
       let s = start (began first-told) in
       second-started pivotRule-is-rule (sectionsOf (now (s .args .s))) (s .args .p) (length (now (s .args .w))) (chains (began first-told)) (s .pre .1 .0) (first first-told)
       (multiplied .before .before .second .result) (second-is (multiplied .before .before))
-      (became-done (halfway first-told) (multiplied .multiply .result) (c .before .product .given .1) (multiplied .multiply .ensures))
+      (became-done (multiplied .multiply .result) (c .before .before .product .given .1) (multiplied .multiply .ensures)) (c .larger .ensures)
 
 reduce-matrix-requires-2 : tie.Need-reduce-matrix-requires-2
 reduce-matrix-requires-2 c κs =
@@ -223,5 +224,5 @@ pub reduce-twice-spec : {M : Type 1} → statement M
 reduce-twice-spec =
     tie.close
     (tie.spec first-requires fill-first-requires (λ c κs. search needs) reduce-matrix-requires enum-known-rank enum-told same-length returns second-requires
-    multiply-requires enum-known-product enum-told-2 (λ c κs. search needs) same-length-2 returns-2 reduce-matrix-requires-2 enum-known-last enum-told-3
+    multiply-requires enum-known-product enum-told-2 (λ c κs. search needs) same-length-2 returns-2 (λ c κs. tt) reduce-matrix-requires-2 enum-known-last enum-told-3
     same-length-3 returns-3 same-length-4 returns-4)

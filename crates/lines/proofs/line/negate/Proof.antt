@@ -1,65 +1,42 @@
--- `line::negate` meets its contract. The invariant: the places passed hold the negated entries. The measure is what is left of the line.
--- Assumes nothing.
-use mathlib.Core.Path.{_≡_, subst}
+-- `line::negate` meets its contract. The invariant: the blocks passed have been negated. The measure is what is left of the line. Assumes nothing.
+use mathlib.Core.Path.{_≡_, ap, subst, _∙_}
+use mathlib.Core.Logic.{inr}
 use mathlib.Core.List.{List}
 use Prim.Native.Nat.{ℕ, _+_, _-_, _<_, _≤_}
 use native.Mathlib.Omega.{arith}
-use native.Mathlib.Nat as NatL
-use lib.ListN.{length, set}
-use mir.Syntax.{w32}
-use Rattle.integers.specs.Ring.{zero-add}
-use Rattle.integers.specs.Order.{natAbs-neg}
-use mir.Val.{SFits}
-use lib.IntN.{ℤ, pos, negℤ, natAbs, _-ℤ_}
-use Rattle.lines.specs.Slice.{entryLimit, at, LineSet}
-use Rattle.lines.proofs.Peaks.{written, under-entry, raised-kept}
-use Rattle.lines.proofs.Store.{lineSet-none, lineSet-more, lineSet-next}
-use Rattle.words.specs.Read.{read, entry-fits, read-entry}
+use borrow.Author.Needs.{needs}
+use lib.ListN.{length}
+use lib.IntN.{ℤ, negℤ}
+use Rattle.lines.specs.Slice.{at, block, LineSet}
+use Rattle.lines.proofs.Store.{lineSet-none}
+use Rattle.lines.proofs.Parts.{lineSet-part}
 use Rattle.lines.proofs.line.negate.Statement.{statement}
 use Rattle.lines.proofs.line.negate.Tie as tie
 
 abbrev negated : List ℤ → ℕ → ℕ → ℤ
 negated w start t = negℤ (at w (start + t))
 
-record Invariant (w₀ : List ℤ) (start width peak t : ℕ) (w : List ℤ) : Type 0 where
+record Invariant (w₀ : List ℤ) (start width before largest t : ℕ) (w : List ℤ) : Type 0 where
   below : t ≤ width
   inside : start + width ≤ length w₀
-  so-far : LineSet w₀ start t (negated w₀ start) peak (written peak) w
+  so-far : LineSet w₀ start t (negated w₀ start) before largest w
 
-module _ {w₀ : List ℤ} {start width peak t : ℕ} {w : List ℤ} (inv : Invariant w₀ start width peak t w) where
-  -- what the machine computes
-  opposite-is : t < width → pos 0 -ℤ read w32 (at w (start + t)) ≡ negated w₀ start t
-  opposite-is more =
-      rw (read-entry (at w (start + t)) (under-entry (inv .so-far .under) (start + t)), lineSet-next w₀ w start t (negated w₀ start) (omega arith) (inv .so-far))
-      (zero-add (negated w₀ start t))
+-- the next n places
+module _ {w₀ : List ℤ} {start width before largest t : ℕ} {w : List ℤ} (inv : Invariant w₀ start width before largest t w) (n : ℕ) where
+  part-inside : t + n ≤ width → start + t + n ≤ length w
+  part-inside l = omega (arith, inv .inside, inv .so-far .same-length)
 
-  opposite-under : t < width → natAbs (negated w₀ start t) ≤ peak
-  opposite-under more =
-      rw (natAbs-neg (at w₀ (start + t)), ← lineSet-next w₀ w start t (negated w₀ start) (omega arith) (inv .so-far)) (inv .so-far .under .bound (start + t))
+  next-same : (s : ℕ) → s < n → negated w (start + t) s ≡ negated w₀ start (t + s)
+  next-same s l = ap negℤ (inv .so-far .off (start + t + s) (inr (omega arith)) ∙ ap (at w₀) (omega arith))
 
-  opposite-small : t < width → natAbs (negated w₀ start t) ≤ entryLimit
-  opposite-small more = NatL.le-trans (opposite-under more) (inv .so-far .under .limit)
-
-  fits : t < width → SFits w32 (pos 0 -ℤ read w32 (at w (start + t)))
-  fits more = rw (opposite-is more) (entry-fits (negated w₀ start t) (opposite-small more))
-
-  -- a turn of the loop
-  again : t < width → Invariant w₀ start width peak (t + 1) (set w (start + t) (read w32 (pos 0 -ℤ read w32 (at w (start + t)))))
-  again more = record {
-    below = omega arith;
-    inside = inv .inside;
-    so-far = rw (opposite-is more, read-entry (negated w₀ start t) (opposite-small more))
-        (lineSet-more w₀ w start t (negated w₀ start) (omega arith) (inv .so-far) (raised-kept (opposite-under more) (inv .so-far .under .limit)));
-  }
-
-  ended : width ≤ t → LineSet w₀ start width (negated w₀ start) peak (written peak) w
-  ended done = subst (λ (n : ℕ). LineSet w₀ start n (negated w₀ start) peak (written peak) w) (NatL.le-antisymm (inv .below) done) (inv .so-far)
+  part-done : {y : ℕ} {w′ : List ℤ} → LineSet w (start + t) n (negated w (start + t)) largest y w′ → LineSet w₀ start (t + n) (negated w₀ start) before y w′
+  part-done h = lineSet-part (inv .so-far) h next-same
 
 abbrev Inv-loop : tie.InvT-loop
-Inv-loop w₀ start width peak t₀ w t = Invariant w₀ start width peak t w
+Inv-loop w₀ start width before largest₀ t₀ w largest t = Invariant w₀ start width before largest t w
 
 abbrev μ-loop : tie.MeasureT-loop
-μ-loop w₀ start width peak t₀ w t = width - t
+μ-loop w₀ start width before largest₀ t₀ w largest t = width - t
 
 loop-holds : tie.Need-loop-holds Inv-loop μ-loop
 loop-holds c = record {
@@ -68,20 +45,44 @@ loop-holds c = record {
   so-far = lineSet-none (c .args .w .now) (c .args .at) (negated (c .args .w .now) (c .args .at)) (c .pre .1);
 }
 
-sub-w : tie.Need-sub-w Inv-loop μ-loop
-sub-w c = fits (c .before .before .loop .inv) (c .before .loop-test .taken)
+add-loop : tie.Need-add-loop Inv-loop μ-loop
+add-loop c = omega (arith, c .loop .inv .below)
+
+negate-block-requires : tie.Need-negate-block-requires Inv-loop μ-loop
+negate-block-requires c κs =
+    let loop = c .before .before .loop in (part-inside (loop .inv) block (c .before .loop-test .taken), loop .inv .so-far .bounded)
 
 loop-again : tie.Need-loop-again Inv-loop μ-loop
-loop-again c = again (c .before .before .loop .inv) (c .before .loop-test .taken)
+loop-again c =
+    let called = c .before in let loop = called .before .before .before .loop in
+    record {
+      below = omega (arith, called .before .before .loop-test .taken);
+      inside = loop .inv .inside;
+      so-far = part-done (loop .inv) block (called .negate-block .ensures);
+    }
+
+-- what is left of the line
+abbrev rest : tie.At-loop Inv-loop μ-loop → ℕ
+rest c = c .before .args .width - c .loop .t
+
+rest-is : (c : tie.At-loop Inv-loop μ-loop) → c .loop .t + rest c ≡ c .before .args .width
+rest-is c = omega (arith, c .loop .inv .below)
+
+negate-places-requires : tie.Need-negate-places-requires Inv-loop μ-loop
+negate-places-requires c κs =
+    let loop = c .before .before in (part-inside (loop .loop .inv) (rest loop) (omega (arith, loop .loop .inv .below)), loop .loop .inv .so-far .bounded)
 
 same-length : tie.Need-same-length Inv-loop μ-loop
-same-length c = c .before .loop .inv .so-far .same-length
+same-length c = c .before .negate-places .kept .0 ∙ c .before .before .before .before .loop .inv .so-far .same-length
 
 returns : tie.Need-returns Inv-loop μ-loop
-returns c = ended (c .before .loop .inv) (c .loop-test .left)
+returns c =
+    let called = c .before .negate-places in let loop = c .before .before .before .before in let args = loop .before .args in
+    subst (λ (n : ℕ). LineSet (args .w .now) (args .at) n (negated (args .w .now) (args .at)) (args .before) (called .result) (called .last .0)) (rest-is loop)
+    (part-done (loop .loop .inv) (rest loop) (called .ensures))
 
 pub negate-spec : {M : Type 1} → statement M
 negate-spec =
     tie.close
-    (tie.spec Inv-loop μ-loop loop-holds (λ c. omega arith) (λ c. omega arith) (λ c. omega arith) sub-w (λ c. omega arith) (λ c. omega arith)
-    (λ c. omega arith) (λ c. omega arith) (λ c. omega arith) loop-again same-length returns)
+    (tie.spec Inv-loop μ-loop loop-holds add-loop (λ c. search needs) negate-block-requires (λ c. search needs) (λ c. search needs) loop-again
+    (λ c. search needs) (λ c. search needs) negate-places-requires same-length returns)

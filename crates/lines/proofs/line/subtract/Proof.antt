@@ -1,4 +1,4 @@
--- `line::subtract` meets its contract. The invariant: the blocks passed hold the difference, with the peak so far. The measure is what is left of the line.
+-- `line::subtract` meets its contract. The invariant: the blocks passed hold the difference, with the largest that was written so far. The measure is what is left of the line.
 -- Assumes nothing.
 use mathlib.Core.Path.{_≡_, subst, _∙_}
 use Prim.Native.Nat.{_+_, _-_, _≤_}
@@ -9,16 +9,15 @@ use mir.Val.{toZ, ofZ}
 use Rattle.lines.specs.Slice.{block, Subtracted}
 use Rattle.lines.specs.declared.line.Effect.{Effect}
 use Rattle.lines.specs.declared.line.Effect.the-variants.{Done, TooWide}
-use Rattle.lines.proofs.Peaks.{written}
 use Rattle.lines.proofs.Blocks.{Partly, begun, part-inside, part-apart, part-done, part-beyond, part-last, factor-read}
 use Rattle.lines.proofs.line.subtract.Statement.{statement}
 use Rattle.lines.proofs.line.subtract.Tie as tie
 
 abbrev Inv-loop : tie.InvT-loop
-Inv-loop w₀ target source width q peak largest₀ t₀ w largest t = Partly w₀ target source width (toZ w64 q) peak t (written largest) w
+Inv-loop w₀ target source width q before largest₀ t₀ w largest t = Partly w₀ target source width (toZ w64 q) before t largest w
 
 abbrev μ-loop : tie.MeasureT-loop
-μ-loop w₀ target source width q peak largest₀ t₀ w largest t = width - t
+μ-loop w₀ target source width q before largest₀ t₀ w largest t = width - t
 
 loop-holds : tie.Need-loop-holds Inv-loop μ-loop
 loop-holds c = begun (c .args .q) (c .pre .0) (c .pre .1 .0) (c .pre .1 .1 .0) (c .pre .1 .1 .1)
@@ -29,7 +28,7 @@ add-loop c = omega (arith, c .loop .inv .below)
 subtract-block-requires : tie.Need-subtract-block-requires Inv-loop μ-loop
 subtract-block-requires c κs =
     let partly = c .before .before .loop .inv in let inside = c .before .loop-test .taken in
-    (part-inside partly block inside, (part-apart partly block inside, (partly .so-far .under, partly .factor)))
+    (part-inside partly block inside, (part-apart partly block inside, (partly .so-far .bounded, partly .factor)))
 
 same-length : tie.Need-same-length Inv-loop μ-loop
 same-length c = c .before .before .before .subtract-block .kept .0 ∙ c .before .before .before .before .before .before .loop .inv .so-far .same-length
@@ -47,7 +46,7 @@ became c r e =
 returns : tie.Need-returns Inv-loop μ-loop
 returns c =
     let called = c .before .before .before in let loop = called .before .before .before in let start = loop .before in
-    factor-read (start .args .w .now) (start .args .target) (start .args .source) (start .args .width) (start .args .q) (start .pre .1 .1 .1) (start .args .peak) TooWide (called .subtract-block .last .0)
+    factor-read (start .args .w .now) (start .args .target) (start .args .source) (start .args .width) (start .args .q) (start .pre .1 .1 .1) (start .args .before) TooWide (called .subtract-block .last .0)
     (part-beyond (loop .loop .inv) block (called .before .before .loop-test .taken) (became called TooWide (c .enum-told .given .1)))
 
 loop-again : tie.Need-loop-again Inv-loop μ-loop
@@ -59,7 +58,7 @@ subtract-places-requires : tie.Need-subtract-places-requires Inv-loop μ-loop
 subtract-places-requires c κs =
     let loop = c .before .before .loop in let rest = c .before .before .before .args .width - loop .t in
     let inside : loop .t + rest ≤ c .before .before .before .args .width = omega (arith, loop .inv .below) in
-    (part-inside (loop .inv) rest inside, (part-apart (loop .inv) rest inside, (loop .inv .so-far .under, loop .inv .factor)))
+    (part-inside (loop .inv) rest inside, (part-apart (loop .inv) rest inside, (loop .inv .so-far .bounded, loop .inv .factor)))
 
 same-length-2 : tie.Need-same-length-2 Inv-loop μ-loop
 same-length-2 c = c .before .subtract-places .kept .0 ∙ c .before .before .before .before .loop .inv .so-far .same-length
@@ -68,7 +67,7 @@ returns-2 : tie.Need-returns-2 Inv-loop μ-loop
 returns-2 c =
     let called = c .before .subtract-places in let loop = c .before .before .before .before in let start = loop .before in
     let rest = start .args .width - loop .loop .t in
-    factor-read (start .args .w .now) (start .args .target) (start .args .source) (start .args .width) (start .args .q) (start .pre .1 .1 .1) (start .args .peak) (called .result) (called .last .0)
+    factor-read (start .args .w .now) (start .args .target) (start .args .source) (start .args .width) (start .args .q) (start .pre .1 .1 .1) (start .args .before) (called .result) (called .last .0)
     (part-last (loop .loop .inv) rest (omega (arith, loop .loop .inv .below)) (omega (arith, loop .loop .inv .below)) (called .result) (called .last .0) (called .ensures))
 
 pub subtract-spec : {M : Type 1} → statement M

@@ -6,7 +6,7 @@ use Prim.Native.Nat.{_+_}
 use Rattle.lines.specs.Slice.{block, at, Subtracted, difference}
 use Rattle.integers.specs.Ring.{mul-zero, add-zero}
 use Rattle.words.specs.Read.{read-wide}
-use Rattle.lines.proofs.Peaks.{under-small}
+use Rattle.lines.proofs.Peaks.{bounded-small}
 use Rattle.lines.proofs.Store.{lineSet-same}
 use Rattle.lines.proofs.line.subtract_block.Statement.{statement}
 use Rattle.lines.proofs.line.subtract_block.Tie as tie
@@ -15,7 +15,7 @@ less-none : (x q y : ℤ) → y ≡ pos 0 → x -ℤ q *ℤ y ≡ x
 less-none x q y e = rw (e, mul-zero q, add-zero x)
 
 is-zero-block-requires : tie.Need-is-zero-block-requires
-is-zero-block-requires c κs = let start = c .before in (start .pre .0 .1, under-small (start .pre .1 .1 .0))
+is-zero-block-requires c κs = let start = c .before in (start .pre .0 .1, bounded-small (start .pre .1 .1 .0))
 
 returns : tie.Need-returns
 returns c =
@@ -26,7 +26,7 @@ returns c =
 returns-2 : tie.Need-returns-2
 returns-2 c =
     let start = c .before .before .before .before .before .before in let w = start .args .w .now in
-    subst (λ (q : ℤ). Subtracted w (start .args .target) (start .args .source) block q (start .args .peak) (c .before .subtract-places .result) (c .before .subtract-places .last .0))
+    subst (λ (q : ℤ). Subtracted w (start .args .target) (start .args .source) block q (start .args .before) (c .before .subtract-places .result) (c .before .subtract-places .last .0))
     (read-wide (start .args .q) (start .pre .1 .1 .1)) (c .before .subtract-places .ensures)
 
 pub subtract-block-spec : {M : Type 1} → statement M

@@ -1,5 +1,5 @@
--- `line::subtract_places` meets its contract. The invariant: the places passed hold the difference, and the peak so far is the largest of theirs and the
--- one handed over. The measure is what is left of the line. Assumes nothing.
+-- `line::subtract_places` meets its contract. The invariant: the places passed hold the difference, and the largest so far is that of their absolute
+-- values and the one handed over. The measure is what is left of the line. Assumes nothing.
 use mathlib.Core.Path.{_≡_, sym, subst, _∙_}
 use mathlib.Core.Logic.{inl, inr, ⊎-elim}
 use mathlib.Core.List.{List}
@@ -11,9 +11,8 @@ use mir.Syntax.{w32, w64}
 use mir.Val.{SFits, toZ}
 use mir.Facts.{fits-lit}
 use Rattle.lines.specs.Slice.{entryLimit, at, LineSet, Beyond, difference}
-use Rattle.lines.specs.declared.line.Written.{Written}
 use Rattle.lines.specs.declared.line.Effect.the-variants.{Done, TooWide}
-use Rattle.lines.proofs.Peaks.{written, under-entry, Raised, raised-by, raised-small}
+use Rattle.lines.proofs.Peaks.{Raised, raised-by, raised-small}
 use Rattle.lines.proofs.Store.{lineSet-more}
 use Rattle.lines.proofs.Blocks.{Partly, begun, ended, factor-read}
 use Rattle.words.specs.Read.{read, read-entry, entry-fits, cast-fits}
@@ -23,13 +22,13 @@ use Rattle.lines.proofs.line.subtract_places.Tie as tie
 
 -- ---- a turn of the loop
 
-module _ {w₀ : List ℤ} {target source width : ℕ} {q : ℤ} {peak t : ℕ} {x : Written} {w : List ℤ}
-    (inv : Partly w₀ target source width q peak t x w) (more : t < width) where
+module _ {w₀ : List ℤ} {target source width : ℕ} {q : ℤ} {before t x : ℕ} {w : List ℤ}
+    (inv : Partly w₀ target source width q before t x w) (more : t < width) where
   target-small : natAbs (at w (target + t)) ≤ entryLimit
-  target-small = under-entry (inv .so-far .under) (target + t)
+  target-small = inv .so-far .bounded .bound (target + t)
 
   source-small : natAbs (at w (source + t)) ≤ entryLimit
-  source-small = under-entry (inv .so-far .under) (source + t)
+  source-small = inv .so-far .bounded .bound (source + t)
 
   target-same : at w (target + t) ≡ at w₀ (target + t)
   target-same = inv .so-far .off (target + t) (inr (omega arith))
@@ -69,23 +68,23 @@ module _ {w₀ : List ℤ} {target source width : ℕ} {q : ℤ} {peak t : ℕ} 
     beyond = subst (λ (z : ℤ). entryLimit < natAbs z) computed-is l;
   }
 
-  again : {n : ℕ} → Raised (x .peak) computed n → Partly w₀ target source width q peak (t + 1) (written n) (set w (target + t) (read w32 computed))
+  again : {n : ℕ} → Raised x computed n → Partly w₀ target source width q before (t + 1) n (set w (target + t) (read w32 computed))
   again {n} raised = record {
     below = omega arith;
     target-inside = inv .target-inside;
     source-inside = inv .source-inside;
     apart = inv .apart;
     factor = inv .factor;
-    so-far = subst (λ (z : ℤ). LineSet w₀ target (t + 1) (difference w₀ target source q) peak (written n) (set w (target + t) z))
+    so-far = subst (λ (z : ℤ). LineSet w₀ target (t + 1) (difference w₀ target source q) before n (set w (target + t) z))
         (sym computed-is ∙ sym (read-entry computed (raised-small raised)))
-        (lineSet-more w₀ w target t (difference w₀ target source q) (omega arith) (inv .so-far) (subst (λ (z : ℤ). Raised (x .peak) z n) computed-is raised));
+        (lineSet-more w₀ w target t (difference w₀ target source q) (omega arith) (inv .so-far) (subst (λ (z : ℤ). Raised x z n) computed-is raised));
   }
 
 abbrev Inv-loop : tie.InvT-loop
-Inv-loop w₀ target source width q peak largest₀ t₀ w largest t = Partly w₀ target source width (toZ w64 q) peak t (written largest) w
+Inv-loop w₀ target source width q before largest₀ t₀ w largest t = Partly w₀ target source width (toZ w64 q) before t largest w
 
 abbrev μ-loop : tie.MeasureT-loop
-μ-loop w₀ target source width q peak largest₀ t₀ w largest t = width - t
+μ-loop w₀ target source width q before largest₀ t₀ w largest t = width - t
 
 loop-holds : tie.Need-loop-holds Inv-loop μ-loop
 loop-holds c = begun (c .args .q) (c .pre .0) (c .pre .1 .0) (c .pre .1 .1 .0) (c .pre .1 .1 .1)
@@ -126,12 +125,12 @@ same-length c = head (c .before .before) .loop .inv .so-far .same-length
 returns : tie.Need-returns Inv-loop μ-loop
 returns c =
     let at = c .before .before in let args = head at .before .args in
-    factor-read (args .w .now) (args .target) (args .source) (args .width) (args .q) (head at .before .pre .1 .1 .1) (args .peak) TooWide (head at .loop .w)
+    factor-read (args .w .now) (args .target) (args .source) (args .width) (args .q) (head at .before .pre .1 .1 .1) (args .before) TooWide (head at .loop .w)
     (too-wide (head at .loop .inv) (more at) (omega (arith, c .if2 .taken, at .absolute .ensures)))
 
 raised : (c : tie.Joined1 Inv-loop μ-loop) → Raised (head (c .before) .loop .largest) (value (c .before)) (c .if1 .largest)
 raised c =
-    raised-by (value (c .before)) (c .before .absolute .ensures) (head (c .before) .loop .inv .so-far .under .limit)
+    raised-by (value (c .before)) (c .before .absolute .ensures) (head (c .before) .loop .inv .so-far .bounded .limit)
     (⊎-elim (λ h. inl (h .0 .taken, h .1 .left, h .2)) (λ h. inr (h .0 .left, h .1)) (c .if1 .came))
 
 cast-w : tie.Need-cast-w Inv-loop μ-loop
@@ -146,7 +145,7 @@ same-length-2 c = c .before .loop .inv .so-far .same-length
 returns-2 : tie.Need-returns-2 Inv-loop μ-loop
 returns-2 c =
     let args = c .before .before .args in let loop = c .before .loop in
-    factor-read (args .w .now) (args .target) (args .source) (args .width) (args .q) (c .before .before .pre .1 .1 .1) (args .peak) (Done (written (loop .largest))) (loop .w)
+    factor-read (args .w .now) (args .target) (args .source) (args .width) (args .q) (c .before .before .pre .1 .1 .1) (args .before) (Done (loop .largest)) (loop .w)
     (ended (loop .inv) (c .loop-test .left))
 
 pub subtract-places-spec : {M : Type 1} → statement M

@@ -1,14 +1,13 @@
 -- `operations::layout::follow` meets its contract, by what `on_lines` ensures of the follower and then of the inverse companion. Assumes nothing.
 use mathlib.Core.Path.{_≡_, sym, subst, _∙_}
 use borrow.Author.Needs.{needs}
+use Prim.Native.Nat.{ℕ}
 use lib.ListN.{length}
 use Rattle.matrices.specs.Operation.{Operation, onRows, inverse}
-use Rattle.lines.specs.Matrices.{contents, Became}
-use Rattle.lines.specs.Operations.{operationOf, Fits}
-use Rattle.lines.specs.declared.line.Written.{Written}
+use Rattle.lines.specs.Matrices.{contents}
+use Rattle.lines.specs.Operations.{operationOf, Fits, Writes, OnLines}
 use Rattle.lines.specs.declared.line.Effect.{Effect}
 use Rattle.lines.specs.declared.line.Effect.the-variants.{Done, TooWide}
-use Rattle.lines.proofs.Peaks.{written}
 use Rattle.lines.proofs.Holding.{holds-nothing}
 use Rattle.operations.specs.Laid.{Followed}
 use Rattle.operations.proofs.layout.follow.Statement.{statement}
@@ -27,12 +26,10 @@ module _ (c : tie.After-on-lines) where
 
   became :
       (r : Effect) → c .on-lines .result ≡ r
-      → Became (start .args .follower) (start .args .w .now) (onRows (operationOf (start .args .op)) (contents (start .args .follower) (start .args .w .now)))
-      (start .args .peak) r (c .on-lines .last .1 .0)
+      → OnLines (start .args .follower) (start .args .w .now) (operationOf (start .args .op)) (start .args .before) r (c .on-lines .last .1 .0)
   became r e =
       subst
-      (λ (r : Effect). Became (start .args .follower) (start .args .w .now) (onRows (operationOf (start .args .op)) (contents (start .args .follower) (start .args .w .now)))
-      (start .args .peak) r (c .on-lines .last .1 .0))
+      (λ (r : Effect). OnLines (start .args .follower) (start .args .w .now) (operationOf (start .args .op)) (start .args .before) r (c .on-lines .last .1 .0))
       e (c .on-lines .ensures)
 
   -- the operation of the last call
@@ -44,8 +41,8 @@ returns : tie.Need-returns
 returns c =
     let s = c .before .before .before .before in let w = s .args .w .now in let F = s .args .follower in let U = s .args .inverse in
     let op = operationOf (s .args .op) in
-    Followed.followed (holds-nothing F w (onRows op (contents F w)) (c .before .before .if1 .taken) (s .pre .0 .2)) (Done (written (s .args .peak)))
-    (holds-nothing U w (onRows (inverse op) (contents U w)) (c .if2 .taken) (s .pre .0 .2))
+    Followed.followed (holds-nothing F w (λ i j. Writes op i) (onRows op (contents F w)) (c .before .before .if1 .taken) (s .pre .0 .2)) (Done (s .args .before))
+    (holds-nothing U w (λ i j. Writes (inverse op) i) (onRows (inverse op) (contents U w)) (c .if2 .taken) (s .pre .0 .2))
 
 same-length : tie.Need-same-length
 same-length c = c .before .before .before .on-lines .kept .1 .0
@@ -58,31 +55,30 @@ module _ (c : tie.After-known-told) where
   abbrev called : tie.After-on-lines
   called = c .before .before .before .before
 
-  abbrev first : Written
+  abbrev first : ℕ
   first = c .before .first .given .0 .0
 
   done : let s = start called in
-      Became (s .args .follower) (s .args .w .now) (onRows (operationOf (s .args .op)) (contents (s .args .follower) (s .args .w .now))) (s .args .peak) (Done first)
-      (called .on-lines .last .1 .0)
+      OnLines (s .args .follower) (s .args .w .now) (operationOf (s .args .op)) (s .args .before) (Done first) (called .on-lines .last .1 .0)
   done = became called (Done first) (c .before .first .given .1)
 
 on-lines-requires-2 : tie.Need-on-lines-requires-2
 on-lines-requires-2 c κs =
     let s = start (called (c .before)) in let h = done (c .before) in (
       record { ends = rw (h .same-length) (s .pre .0 .1 .ends) },
-      (h .under, subst (λ (op : Operation). Fits (s .args .inverse .lines) op) (sym (undone (called (c .before)))) (s .pre .1 .1)),
+      (h .bounded, subst (λ (op : Operation). Fits (s .args .inverse .lines) op) (sym (undone (called (c .before)))) (s .pre .1 .1)),
     )
 
 -- what the inverse companion came to
 followed : (c : tie.After-on-lines2) → let s = start (called (c .before .before)) in
     (r : Effect) → c .on-lines2 .result ≡ r
-    → Followed (s .args .follower) (s .args .inverse) (operationOf (s .args .op)) (s .args .peak) (s .args .w .now) r (c .on-lines2 .last .1 .0)
+    → Followed (s .args .follower) (s .args .inverse) (operationOf (s .args .op)) (s .args .before) (s .args .w .now) r (c .on-lines2 .last .1 .0)
 followed c r e =
     let told = c .before .before in let U = start (called told) .args .inverse in let w = called told .on-lines .last .1 .0 in
-    let w′ = c .on-lines2 .last .1 .0 in let peak = first told .peak in
+    let w′ = c .on-lines2 .last .1 .0 in let before = first told in
     Followed.followed (done told) r
-    (subst (λ (x : Effect). Became U w (onRows (inverse (operationOf (start (called told) .args .op))) (contents U w)) peak x w′) e
-    (subst (λ (op : Operation). Became U w (onRows op (contents U w)) peak (c .on-lines2 .result) w′) (undone (called told)) (c .on-lines2 .ensures)))
+    (subst (λ (x : Effect). OnLines U w (inverse (operationOf (start (called told) .args .op))) before x w′) e
+    (subst (λ (op : Operation). OnLines U w op before (c .on-lines2 .result) w′) (undone (called told)) (c .on-lines2 .ensures)))
 
 module _ (c : tie.After-on-lines2) where
   kept-length : let s = start (called (c .before .before)) in length (c .on-lines2 .last .1 .0) ≡ length (s .args .w .now)

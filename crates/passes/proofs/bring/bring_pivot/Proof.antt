@@ -7,6 +7,7 @@ use Rattle.matrices.specs.Operation.{swap, negate}
 use Rattle.reduction_steps.specs.State.{made, onRow}
 use Rattle.reduction_steps.specs.Step.{positive}
 use Rattle.lines.specs.Slice.{entryLimit, Under}
+use Rattle.lines.proofs.Peaks.{under-small}
 use Rattle.operations.specs.Laid.{Laid, sizesOf, stateOf}
 use Rattle.passes.specs.Answer.{bringOf}
 use Rattle.passes.proofs.States.{laid-kept, held-matrix, operated-done, operated-under, operated-wide}
@@ -17,38 +18,41 @@ use Rattle.passes.proofs.bring.bring_pivot.Tie as tie
 
 -- ---- after the rows were swapped
 
-module _ (c : tie.After-known-told) where
+module _ (c : tie.After-larger) where
   abbrev first : tie.Start
-  first = c .before .before .before .before .before .before
+  first = c .before .before .before .before .before .before .before
 
   abbrev rows-called : tie.After-swap-rows
-  rows-called = c .before .before .before .before
+  rows-called = c .before .before .before .before .before
 
   abbrev rows-peak : ℕ
-  rows-peak = c .before .rows .given .0 .0 .peak
+  rows-peak = c .larger .result
 
   rows-swapped :
       onRow entryLimit (sizesOf (first .args .layout)) (swap (first .args .i) (first .args .k)) (stateOf (first .args .layout) (first .args .peak) (first .args .w .now))
       ≡ made (stateOf (first .args .layout) rows-peak (rows-called .swap-rows .last .1 .0))
-  rows-swapped = operated-done (rows-called .swap-rows .ensures) (c .before .rows .given .1)
+  rows-swapped = operated-done (rows-called .swap-rows .ensures) (c .before .before .rows .given .1) (first .pre .1 .0) (c .larger .ensures)
+
+  rows-under : Under rows-peak (rows-called .swap-rows .last .1 .0)
+  rows-under = operated-under (rows-called .swap-rows .ensures) (c .before .before .rows .given .1) (first .pre .1 .0) (c .larger .ensures)
 
   laid-first : Laid (length (rows-called .swap-rows .last .1 .0)) (first .args .layout)
   laid-first = laid-kept (rows-called .swap-rows .last .1 .0) (first .pre .0) (rows-called .swap-rows .kept .1 .0)
 
 -- ---- after the columns were swapped
 
-module _ (c : tie.After-known-told2) where
-  abbrev rows : tie.After-known-told
-  rows = c .before .before .before .before .before .before
+module _ (c : tie.After-larger2) where
+  abbrev rows : tie.After-larger
+  rows = c .before .before .before .before .before .before .before
 
   abbrev called : tie.After-swap-columns
-  called = c .before .before .before .before
+  called = c .before .before .before .before .before
 
   abbrev peak : ℕ
-  peak = c .before .columns .given .0 .0 .peak
+  peak = c .larger2 .result
 
   under : Under peak (called .swap-columns .last .1 .0)
-  under = operated-under (called .swap-columns .ensures) (c .before .columns .given .1)
+  under = operated-under (called .swap-columns .ensures) (c .before .before .columns .given .1) (rows-under rows) (c .larger2 .ensures)
 
   both-swapped :
       bringOf (first rows .args .layout) (first rows .args .k) (first rows .args .i) (first rows .args .j) (first rows .args .peak) (first rows .args .w .now)
@@ -57,7 +61,7 @@ module _ (c : tie.After-known-told2) where
       bring-swapped entryLimit (sizesOf (first rows .args .layout)) (first rows .args .k) (first rows .args .i) (first rows .args .j) (stateOf (first rows .args .layout) (first rows .args .peak) (first rows .args .w .now))
       (stateOf (first rows .args .layout) (rows-peak rows) (rows-called rows .swap-rows .last .1 .0))
       (stateOf (first rows .args .layout) peak (called .swap-columns .last .1 .0))
-      (rows-swapped rows) (operated-done (called .swap-columns .ensures) (c .before .columns .given .1))
+      (rows-swapped rows) (operated-done (called .swap-columns .ensures) (c .before .before .columns .given .1) (rows-under rows) (c .larger2 .ensures))
 
   kept-both : length (called .swap-columns .last .1 .0) ≡ length (first rows .args .w .now)
   kept-both = called .swap-columns .kept .1 .0 ∙ rows-called rows .swap-rows .kept .1 .0
@@ -70,7 +74,7 @@ module _ (c : tie.After-known-told2) where
 swap-rows-requires : tie.Need-swap-rows-requires
 swap-rows-requires c κs =
     let bounds = c .before .pre .1 .1 in
-    (c .before .pre .0, (c .before .pre .1 .0, (bounds .2, bounds .0)))
+    (c .before .pre .0, (under-small (c .before .pre .1 .0), (bounds .2, bounds .0)))
 
 enum-known-rows : tie.Need-enum-known-rows
 enum-known-rows c = c .match .keys1
@@ -90,14 +94,14 @@ returns c =
     let called = c .before .before .before .before .before .before .swap-rows in
     pass-refused (called .last .1 .0)
     (bring-rows-wide entryLimit (sizesOf (start .args .layout)) (start .args .k) (start .args .i) (start .args .j) (stateOf (start .args .layout) (start .args .peak) (start .args .w .now))
-    (operated-wide (called .ensures) (c .before .before .before .enum-told .given .1)))
+    (operated-wide (called .ensures) (c .before .before .before .enum-told .given .1) (start .pre .1 .0)))
     (c .before .clear .ensures) (called .kept .1 .0)
 
 swap-columns-requires : tie.Need-swap-columns-requires
 swap-columns-requires c κs =
     let bounds = first (c .before) .pre .1 .1 in (
       laid-first (c .before),
-      (operated-under (rows-called (c .before) .swap-rows .ensures) (c .before .before .rows .given .1), (bounds .3, bounds .1)),
+      (under-small (rows-under (c .before)), (bounds .3, bounds .1)),
     )
 
 enum-known-columns : tie.Need-enum-known-columns
@@ -123,7 +127,7 @@ returns-2 c =
     (bring-columns-wide entryLimit (sizesOf (first rows .args .layout)) (first rows .args .k) (first rows .args .i) (first rows .args .j)
     (stateOf (first rows .args .layout) (first rows .args .peak) (first rows .args .w .now))
     (stateOf (first rows .args .layout) (rows-peak rows) (rows-called rows .swap-rows .last .1 .0))
-    (rows-swapped rows) (operated-wide (called .ensures) (c .before .before .before .enum-told2 .given .1)))
+    (rows-swapped rows) (operated-wide (called .ensures) (c .before .before .before .enum-told2 .given .1) (rows-under rows)))
     (c .before .clear2 .ensures) (called .kept .1 .0 ∙ rows-called rows .swap-rows .kept .1 .0)
 
 entry-requires : tie.Need-entry-requires
@@ -132,7 +136,7 @@ entry-requires c κs = let s = first (rows (c .before .before)) in (held-matrix 
 on-rows-requires : tie.Need-on-rows-requires
 on-rows-requires c κs =
     let both = c .before .before .before .before .before in
-    (laid-both both, (under both, record { within = first (rows both) .pre .1 .1 .0; factor = tt }))
+    (laid-both both, (under-small (under both), record { within = first (rows both) .pre .1 .1 .0; factor = tt }))
 
 enum-known-negated : tie.Need-enum-known-negated
 enum-known-negated c = c .match3 .keys1
@@ -148,7 +152,7 @@ same-length-3 c = c .before .clear3 .kept .0 ∙ c .before .before .before .befo
 
 -- row k was negated
 module _ (c : tie.After-on-rows) where
-  abbrev both : tie.After-known-told2
+  abbrev both : tie.After-larger2
   both = c .before .before .before .before .before .before
 
   negated :
@@ -162,18 +166,22 @@ module _ (c : tie.After-on-rows) where
 returns-3 : tie.Need-returns-3
 returns-3 c =
     let called = c .before .before .before .before .before .before in
-    pass-refused (called .on-rows .last .1 .0) (negated called ∙ operated-wide (called .on-rows .ensures) (c .before .before .before .enum-told3 .given .1))
+    pass-refused (called .on-rows .last .1 .0) (negated called ∙ operated-wide (called .on-rows .ensures) (c .before .before .before .enum-told3 .given .1) (under (both called)))
     (c .before .clear3 .ensures) (called .on-rows .kept .1 .0 ∙ kept-both (both called))
 
 same-length-4 : tie.Need-same-length-4
-same-length-4 c = c .before .before .before .before .on-rows .kept .1 .0 ∙ kept-both (both (c .before .before .before .before))
+same-length-4 c =
+    let called = c .before .before .before .before .before in called .on-rows .kept .1 .0 ∙ kept-both (both called)
 
 returns-4 : tie.Need-returns-4
 returns-4 c =
-    let called = c .before .before .before .before in let is = c .before .negated .given .1 in
+    let called = c .before .before .before .before .before in let is = c .before .before .negated .given .1 in
     record {
-      outcome = negated called ∙ operated-done (called .on-rows .ensures) is;
-      kept = record { same-length = called .on-rows .kept .1 .0 ∙ kept-both (both called); under = operated-under (called .on-rows .ensures) is };
+      outcome = negated called ∙ operated-done (called .on-rows .ensures) is (under (both called)) (c .larger3 .ensures);
+      kept = record {
+        same-length = called .on-rows .kept .1 .0 ∙ kept-both (both called);
+        under = operated-under (called .on-rows .ensures) is (under (both called)) (c .larger3 .ensures);
+      };
     }
 
 same-length-5 : tie.Need-same-length-5
@@ -202,12 +210,14 @@ bring-pivot-spec =
     clear-requires
     same-length
     returns
+    (λ c κs. tt)
     swap-columns-requires
     enum-known-columns
     enum-told-2
     clear-requires-2
     same-length-2
     returns-2
+    (λ c κs. tt)
     entry-requires
     on-rows-requires
     enum-known-negated
@@ -215,6 +225,7 @@ bring-pivot-spec =
     clear-requires-3
     same-length-3
     returns-3
+    (λ c κs. tt)
     same-length-4
     returns-4
     same-length-5

@@ -9,6 +9,7 @@ use Rattle.integers.specs.Division.{floor}
 use Rattle.matrices.specs.Operation.{subtract}
 use Rattle.lines.specs.Matrices.{contents}
 use Rattle.words.specs.Read.{read, wide-small}
+use Rattle.lines.proofs.Peaks.{under-small}
 use Rattle.operations.proofs.Unchanged.{rows-unchanged}
 use Rattle.passes.proofs.States.{held-matrix, operated-done, operated-under, operated-wide}
 use Rattle.passes.proofs.Words.{quotient-asks, quotient-read}
@@ -92,7 +93,7 @@ on-rows-requires c κs =
     let small-quotient = wide-small (c .before .before .quotient .result) (c .before .before .quotient .ensures .1) in (
       inv .placed .laid,
       (
-        inv .placed .under,
+        under-small (inv .placed .under),
         record {
           within = record { changed = turn e .loop-test .taken; taken = inv .placed .ready .row; distinct = λ same. omega (arith, inv .from) };
           factor = small-quotient;
@@ -120,25 +121,25 @@ returns c =
     let quotient = called .before .before .before in
     let inv = head (quotient .before) .loop .inv in
     pass-refused (called .on-rows .last .1 .0)
-    (rows-wide inv (turn (quotient .before) .loop-test .taken) (taken quotient) (operated-wide (called .on-rows .ensures) (c .before .before .before .enum-told .given .1)))
+    (rows-wide inv (turn (quotient .before) .loop-test .taken) (taken quotient) (operated-wide (called .on-rows .ensures) (c .before .before .before .enum-told .given .1) (inv .placed .under)))
     (c .before .clear .ensures) (called .on-rows .kept .1 .0 ∙ inv .same-length)
 
 add-i-3 : tie.Need-add-i-3 Inv-loop μ-loop
 add-i-3 c =
-    let e = c .before .before .before .before .before .before .before .before in
+    let e = c .before .before .before .before .before .before .before .before .before in
     omega (arith, turn e .loop-test .taken, start e)
 
 loop-less-2 : tie.Need-loop-less-2 Inv-loop μ-loop
 loop-less-2 c =
-    let e = c .before .before .before .before .before .before .before .before in
+    let e = c .before .before .before .before .before .before .before .before .before in
     omega (arith, turn e .loop-test .taken)
 
 loop-again-2 : tie.Need-loop-again-2 Inv-loop μ-loop
 loop-again-2 c =
-    let called = c .before .before .before .before .on-rows in let is = c .before .written .given .1 in
-    let quotient = c .before .before .before .before .before .before .before in
-    rows-next (head (quotient .before) .loop .inv) (turn (quotient .before) .loop-test .taken) (taken quotient) (called .kept .1 .0) (operated-under (called .ensures) is)
-    (operated-done (called .ensures) is)
+    let called = c .before .before .before .before .before .on-rows in let is = c .before .before .written .given .1 in
+    let quotient = c .before .before .before .before .before .before .before .before in let inv = head (quotient .before) .loop .inv in
+    rows-next inv (turn (quotient .before) .loop-test .taken) (taken quotient) (called .kept .1 .0)
+    (operated-under (called .ensures) is (inv .placed .under) (c .larger .ensures)) (operated-done (called .ensures) is (inv .placed .under) (c .larger .ensures))
 
 same-length-2 : tie.Need-same-length-2 Inv-loop μ-loop
 same-length-2 c = c .before .loop .inv .same-length
@@ -166,6 +167,7 @@ clear-column-spec =
     clear-requires
     same-length
     returns
+    (λ c κs. tt)
     add-i-3
     loop-less-2
     loop-again-2

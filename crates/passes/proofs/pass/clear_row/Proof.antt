@@ -80,7 +80,7 @@ on-columns-requires c κs =
     let h = inv .clear in (
       h .laid,
       (
-        h .under,
+        under-small (h .under),
         (
           record {
             within = record { changed = turn e .loop-test .taken; taken = h .ready .ready .column; distinct = λ same. omega (arith, inv .from) };
@@ -111,21 +111,22 @@ returns c =
     let quotient = called .before .before in
     let inv = head (quotient .before) .loop .inv in
     pass-refused (called .on-columns .last .1 .0)
-    (columns-wide inv (turn (quotient .before) .loop-test .taken) (taken quotient) (operated-wide (called .on-columns .ensures) (c .before .before .before .enum-told .given .1)))
+    (columns-wide inv (turn (quotient .before) .loop-test .taken) (taken quotient) (operated-wide (called .on-columns .ensures) (c .before .before .before .enum-told .given .1) (inv .clear .under)))
     (c .before .clear .ensures) (called .on-columns .kept .1 .0 ∙ inv .same-length)
 
 -- the operation was done
-module _ (c : tie.After-known-told Inv-loop μ-loop) where
+module _ (c : tie.After-larger Inv-loop μ-loop) where
   abbrev read-pivot : tie.After-entry2 Inv-loop μ-loop
-  read-pivot = c .before .before .before .before .before .before .before
+  read-pivot = c .before .before .before .before .before .before .before .before
 
   next :
       ColumnPassing (start read-pivot .args .layout) (start read-pivot .args .k) (start read-pivot .args .peak) (start read-pivot .args .w .now)
-      (head read-pivot .loop .j + 1) (c .before .written .given .0 .0 .peak) (c .before .before .before .before .on-columns .last .1 .0)
+      (head read-pivot .loop .j + 1) (c .larger .result) (c .before .before .before .before .before .on-columns .last .1 .0)
   next =
-      let called = c .before .before .before .before .on-columns in let is = c .before .written .given .1 in
-      columns-next (head read-pivot .loop .inv) (turn read-pivot .loop-test .taken) (taken (c .before .before .before .before .before .before)) (called .kept .1 .0)
-      (operated-under (called .ensures) is) (operated-done (called .ensures) is)
+      let called = c .before .before .before .before .before .on-columns in let is = c .before .before .written .given .1 in
+      let inv = head read-pivot .loop .inv in
+      columns-next inv (turn read-pivot .loop-test .taken) (taken (c .before .before .before .before .before .before .before)) (called .kept .1 .0)
+      (operated-under (called .ensures) is (inv .clear .under) (c .larger .ensures)) (operated-done (called .ensures) is (inv .clear .under) (c .larger .ensures))
 
 line-requires-2 : tie.Need-line-requires-2 Inv-loop μ-loop
 line-requires-2 c κs =
@@ -156,5 +157,5 @@ pub clear-row-spec : {M : Type 1} → statement M
 clear-row-spec =
     tie.close
     (tie.spec Inv-loop μ-loop line-requires add-first-nonzero first-nonzero-requires loop-holds entry-requires entry-requires-2 quotient-requires
-    on-columns-requires enum-known-written enum-told clear-requires same-length returns line-requires-2 add-first-nonzero-2 first-nonzero-requires-2 loop-less
+    on-columns-requires enum-known-written enum-told clear-requires same-length returns (λ c κs. tt) line-requires-2 add-first-nonzero-2 first-nonzero-requires-2 loop-less
     loop-again same-length-2 returns-2)

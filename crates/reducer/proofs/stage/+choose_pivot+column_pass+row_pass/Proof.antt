@@ -35,6 +35,7 @@ use Rattle.lines.proofs.line.clear.Reads as clear-reads
 use Rattle.passes.proofs.bring.bring_pivot.Reads as bring-pivot-reads
 use Rattle.passes.proofs.pass.clear_column.Reads as clear-column-reads
 use Rattle.passes.proofs.pass.clear_row.Reads as clear-row-reads
+use Rattle.lines.proofs.absolute.larger.Reads as larger-reads
 use Rattle.operations.proofs.layout.Layout.on_rows.Reads as on-rows-reads
 use Rattle.operations.proofs.pivot.find_pivot.Reads as find-pivot-reads
 use Rattle.operations.proofs.remainder.column_keeps.Reads as column-keeps-reads
@@ -105,6 +106,8 @@ column-pass-calls t = (
   on-rows-reads.Learnt,
   clear-reads.Asked,
   clear-reads.Learnt,
+  larger-reads.Asked,
+  larger-reads.Learnt,
   column-pass-below t,
   column-pass.Post,
 )
@@ -325,7 +328,7 @@ column-pass-on-rows-requires t c κs =
     let f = found-lower t (c .before) in (
       h .laid,
       (
-        h .under,
+        under-small (h .under),
         record {
           within = record {
             changed = h .ready .ready .ready .row;
@@ -356,7 +359,7 @@ module _ (t : ℕ) (c : column-pass-lts.After-enum-told3 (column-pass-calls t) (
       → (let start = begun t adding .args in StageRefused pivotRule (start .layout) (at Letter.d (start .k) (stateOf (start .layout) (start .peak) (start .w .now))) (length (start .w .now)) TooWide w)
   stopped z =
       let called = c .before .before .before .on-rows in
-      add-stops (column-cleared t (else t adding)) (lower t adding) (found-lower t adding) (called .last .1 .0) (operated-wide (called .ensures) (c .enum-told3 .given .1)) z
+      add-stops (column-cleared t (else t adding)) (lower t adding) (found-lower t adding) (called .last .1 .0) (operated-wide (called .ensures) (c .enum-told3 .given .1) (column-cleared t (else t adding) .under)) z
       (called .kept .1 .0)
 
 column-pass-clear-requires : (t : ℕ) → column-pass-lts.Need-clear-requires (column-pass-calls t) (column-pass-at t) column-pass.Post
@@ -368,17 +371,22 @@ column-pass-same-length-4 t c = c .before .clear .kept .0 ∙ stopped-length t (
 column-pass-returns-4 : (t : ℕ) → column-pass-lts.Need-returns-4 (column-pass-calls t) (column-pass-at t) column-pass.Post
 column-pass-returns-4 t c = stopped t (c .before .before .before) (c .before .clear .ensures)
 
+column-pass-larger-requires : (t : ℕ) → column-pass-lts.Need-larger-requires (column-pass-calls t) (column-pass-at t) column-pass.Post
+column-pass-larger-requires t c κs = tt
+
 -- after step e
-module _ (t : ℕ) (c : column-pass-lts.After-known-told3 (column-pass-calls t) (column-pass-at t) column-pass.Post) where
+module _ (t : ℕ) (c : column-pass-lts.After-larger (column-pass-calls t) (column-pass-at t) column-pass.Post) where
   abbrev added : column-pass-lts.After-on-rows (column-pass-calls t) (column-pass-at t) column-pass.Post
-  added = c .before .before .before .before
+  added = c .before .before .before .before .before
 
   column-again :
       (let start = begun t (added .before .before) in
-      ColumnsAgain pivotRule (start .args .layout) (start .args .k) (start .args .peak) (start .args .w .now) (c .before .added .given .0 .0 .peak) (added .on-rows .last .1 .0))
+      ColumnsAgain pivotRule (start .args .layout) (start .args .k) (start .args .peak) (start .args .w .now) (c .larger .result) (added .on-rows .last .1 .0))
   column-again =
-      let row = added .before .before in let called = added .on-rows in let is = c .before .added .given .1 in
-      columns-again (column-cleared t (else t row)) (lower t row) (found-lower t row) (operated-done (called .ensures) is) (operated-under (called .ensures) is) (called .kept .1 .0)
+      let row = added .before .before in let called = added .on-rows in let is = c .before .before .added .given .1 in
+      let cleared = column-cleared t (else t row) in
+      columns-again cleared (lower t row) (found-lower t row) (operated-done (called .ensures) is (cleared .under) (c .larger .ensures))
+      (operated-under (called .ensures) is (cleared .under) (c .larger .ensures)) (called .kept .1 .0)
 
 column-pass-column-pass-requires : (t : ℕ) → column-pass-lts.Need-column-pass-requires (column-pass-calls t) (column-pass-at t) column-pass.Post
 column-pass-column-pass-requires t c κs =
@@ -502,6 +510,7 @@ pub +choose-pivot+column-pass+row-pass-spec : {M : Type 1} → statement M
     (column-pass-enum-known-i t) (column-pass-enum-told-2 t) (column-pass-same-length-3 t) (column-pass-returns-3 t)
     (column-pass-on-rows-requires t) (column-pass-enum-known-added t) (column-pass-enum-told-3 t)
     (column-pass-clear-requires t) (column-pass-same-length-4 t) (column-pass-returns-4 t)
+    (column-pass-larger-requires t)
     (column-pass-column-pass-requires t) (column-pass-same-length-5 t) (column-pass-returns-5 t))
     (λ t. row-pass-lts.spec
     (row-pass-calls t)

@@ -2,7 +2,7 @@
 use borrow.Author.Needs.{needs}
 use Rattle.matrices.specs.Operation.{onRows}
 use Rattle.lines.specs.Matrices.{contents}
-use Rattle.lines.specs.Operations.{operationOf}
+use Rattle.lines.specs.Operations.{operationOf, Writes}
 use Rattle.lines.proofs.Holding.{holds-nothing}
 use Rattle.lines.proofs.matrix.Matrix.on_lines.Statement.{statement}
 use Rattle.lines.proofs.matrix.Matrix.on_lines.Tie as tie
@@ -10,7 +10,7 @@ use Rattle.lines.proofs.matrix.Matrix.on_lines.Tie as tie
 returns : tie.Need-returns
 returns c =
     let start = c .before .before in let w = start .args .w .now in
-    holds-nothing (start .args .self) w (onRows (operationOf (start .args .op)) (contents (start .args .self) w)) (c .if1 .taken) (start .pre .1 .0)
+    holds-nothing (start .args .self) w (λ i j. Writes (operationOf (start .args .op)) i) (onRows (operationOf (start .args .op)) (contents (start .args .self) w)) (c .if1 .taken) (start .pre .1 .0)
 
 pub on-lines-spec : {M : Type 1} → statement M
 on-lines-spec = tie.close (tie.spec returns (λ c κs. search needs) (λ c. search needs) (λ c. search needs))

@@ -3,6 +3,7 @@ use mathlib.Core.Path.{_∙_}
 use borrow.Author.Needs.{needs}
 use Rattle.lines.specs.Operations.{operationOf}
 use Rattle.lines.specs.declared.line.Effect.the-variants.{Done, TooWide}
+use Rattle.lines.proofs.Peaks.{small-bounded}
 use Rattle.operations.proofs.Side.{columns, matrix-held}
 use Rattle.operations.proofs.Operate.{Task, MatrixCalled, wide-matrix, companions-ready, operated}
 use Rattle.operations.proofs.layout.Layout.on_columns.Statement.{statement}
@@ -13,14 +14,13 @@ task s = record {
   side = columns;
   operation = operationOf (s .args .op);
   layout = s .args .self;
-  peak = s .args .peak;
   slice = s .args .w .now;
   laid = s .pre .0;
   fits = s .pre .1 .1 .0;
 }
 
 on-places-requires : tie.Need-on-places-requires
-on-places-requires c κs = let s = c .before in (matrix-held (s .pre .0), s .pre .1)
+on-places-requires c κs = let s = c .before in (matrix-held (s .pre .0), (small-bounded (s .pre .1 .0), s .pre .1 .1))
 
 -- the call on the matrix
 abbrev matrix : tie.After-on-places → MatrixCalled
@@ -39,7 +39,7 @@ done c = c .before .before .before .before
 follow-requires : tie.Need-follow-requires
 follow-requires c κs =
     let ready = companions-ready (matrix (done (c .before))) (c .before .before .first .given .1) in
-    ((ready .follower-held, ready .inverse-held, ready .under), (ready .follower-fits, ready .inverse-fits))
+    ((ready .follower-held, ready .inverse-held, ready .bounded), (ready .follower-fits, ready .inverse-fits))
 
 same-length-2 : tie.Need-same-length-2
 same-length-2 c =

@@ -1,20 +1,22 @@
 -- `operations::layout::Layout::swap_columns` meets its contract: a column exchanged with itself leaves all as it is. Assumes nothing.
-use mathlib.Core.Path.{sym}
 use borrow.Author.Needs.{needs}
 use Rattle.matrices.specs.Operation.{swap}
-use Rattle.operations.proofs.Unchanged.{swap-fits, columns-unchanged}
+use Rattle.operations.proofs.Unchanged.{swap-fits, unchanged}
+use Rattle.operations.proofs.Side.{columns}
 use Rattle.operations.proofs.layout.Layout.swap_columns.Statement.{statement}
 use Rattle.operations.proofs.layout.Layout.swap_columns.Tie as tie
 
 returns : tie.Need-returns
 returns c =
     let start = c .before in
-    record {
-      outcome =
-          sym (columns-unchanged (start .args .self) (start .args .peak) (start .args .w .now) (start .pre .0) (start .pre .1 .0) (swap (start .args .j) (start .args .k)) (c .if1 .taken)
-          (swap-fits (start .args .j) (start .args .k) (start .pre .1 .1)));
-      under = start .pre .1 .0;
-    }
+    unchanged (record {
+      side = columns;
+      operation = swap (start .args .j) (start .args .k);
+      layout = start .args .self;
+      slice = start .args .w .now;
+      laid = start .pre .0;
+      fits = swap-fits (start .args .j) (start .args .k) (start .pre .1 .1);
+    }) (start .pre .1 .0) (c .if1 .taken)
 
 on-columns-requires : tie.Need-on-columns-requires
 on-columns-requires c κs =

@@ -1,20 +1,22 @@
 -- `operations::layout::Layout::swap_rows` meets its contract: a row exchanged with itself leaves all as it is. Assumes nothing.
-use mathlib.Core.Path.{sym}
 use borrow.Author.Needs.{needs}
 use Rattle.matrices.specs.Operation.{swap}
-use Rattle.operations.proofs.Unchanged.{swap-fits, rows-unchanged}
+use Rattle.operations.proofs.Unchanged.{swap-fits, unchanged}
+use Rattle.operations.proofs.Side.{rows}
 use Rattle.operations.proofs.layout.Layout.swap_rows.Statement.{statement}
 use Rattle.operations.proofs.layout.Layout.swap_rows.Tie as tie
 
 returns : tie.Need-returns
 returns c =
     let start = c .before in
-    record {
-      outcome =
-          sym (rows-unchanged (start .args .self) (start .args .peak) (start .args .w .now) (start .pre .0) (start .pre .1 .0) (swap (start .args .i) (start .args .k)) (c .if1 .taken)
-          (swap-fits (start .args .i) (start .args .k) (start .pre .1 .1)));
-      under = start .pre .1 .0;
-    }
+    unchanged (record {
+      side = rows;
+      operation = swap (start .args .i) (start .args .k);
+      layout = start .args .self;
+      slice = start .args .w .now;
+      laid = start .pre .0;
+      fits = swap-fits (start .args .i) (start .args .k) (start .pre .1 .1);
+    }) (start .pre .1 .0) (c .if1 .taken)
 
 on-rows-requires : tie.Need-on-rows-requires
 on-rows-requires c κs =
