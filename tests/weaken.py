@@ -9,7 +9,9 @@ crate `demands` is checked without the proofs of the claims, and an error is wan
     NAME .field             a record that a claim concludes with loses the field; of another crate's record a copy takes its place in `demands`
     NAME way                a kind of report, of coordinates or of counts that the claims are about is left out
     NAME ↔ n, NAME ↔ n back the nth equivalence of a claim or record keeps one direction only
-    FILE: old               the text is replaced by another that says less
+    FILE: text              a text is replaced by this one, which says less
+    contract NAME           a public contract says less and its proof follows; crate `clients`, which calls each public function, is checked
+    control NAME            no weakening: the copy of another crate's record is as good as the record itself, so that no use is refused
 WORD: only the weakenings whose name has it. --list: the names. Takes some 15 minutes for all; ends with 1 if one goes unseen.
 """
 import os
@@ -93,6 +95,38 @@ LESS = [
     ("DimensionPrinted", "TooWide (asked b p) → text ≡ refusalLine 13", "TooWide (asked b p) → Unit {0}"),
     ("DimensionPrinted", "text ≡ reportText p (cellCount (asked b p)) (counts .torsion) (counts .torsion + counts .free) (call hostLimit (asked b p) report output work .output)", "Unit {0}"),
 ]
+
+NUMBER = "ap (λ (c : HostCalled). c .number) ("
+HOST = "crates/fildwuk/"
+LIBRARY = "crates/library_host/"
+# a contract that says less, and its proof: what is replaced in which files
+CONTRACTS = {
+    "HostAnswers without its output": [
+        (HOST + "specs/Answer.antt", "pub is : called ≡ record { number = r; output = output }", "pub is : called .number ≡ r"),
+        (HOST + "proofs/HostAnswering.antt", "Host.{hostEarly,", "Host.{HostCalled, hostEarly,"),
+        (HOST + "proofs/HostAnswering.antt", "is = host-early q request output (λ z. absurd (omega (arith, number-positive x))) ∙ ap (λ (k : ℕ). record { number = k; output = output }) e;",
+         "is = " + NUMBER + "host-early q request output (λ z. absurd (omega (arith, number-positive x))) ∙ ap (λ (k : ℕ). record { number = k; output = output }) e);"),
+        (HOST + "proofs/HostAnswering.antt", "is = host-wide q request output passes e }", "is = " + NUMBER + "host-wide q request output passes e) }"),
+        (HOST + "proofs/HostAnswering.antt", "is = host-done q request output passes s r x e ∙ ap (λ (l : List ℕ). record { number = 0; output = l }) (sym o) }",
+         "is = " + NUMBER + "host-done q request output passes s r x e ∙ ap (λ (l : List ℕ). record { number = 0; output = l }) (sym o)) }"),
+        (HOST + "proofs/Through.antt", "use Rattle.host_calls.specs.Host.{", "use Rattle.host_calls.specs.Host.{HostCalled, "),
+        (HOST + "proofs/Through.antt", "        report-refused (l", "        " + NUMBER + "report-refused (l"),
+        (HOST + "proofs/Through.antt", "output = l .output }) (sym is);", "output = l .output }) (sym is));"),
+        (HOST + "proofs/Through.antt", "            report-done (l", "            " + NUMBER + "report-done (l"),
+        (HOST + "proofs/Through.antt", "output = o }) (sym e′);", "output = o }) (sym e′));"),
+    ],
+    "LibraryAnswers without the work slice": [
+        (LIBRARY + "specs/Answer.antt", "told : Called Counts ℤ → ℕ × List ℤ × List ℤ", "told : Called Counts ℤ → ℕ × List ℤ"),
+        (LIBRARY + "specs/Answer.antt", "(numberTold (called .answer), called .output, called .work)", "(numberTold (called .answer), called .output)"),
+        (LIBRARY + "specs/Answer.antt", "told called ≡ (r, output, work)", "told called ≡ (r, output)"),
+        (LIBRARY + "proofs/Told.antt", "(λ i. (sym e i, output, work))", "(λ i. (sym e i, output))"),
+        (LIBRARY + "proofs/Told.antt", "called-told {output = output} {work = work} a e", "called-told {output = output} a e"),
+    ],
+    "print_input for inputs that fit the array": [
+        ("crates/printer/src/lib.rt", "((b : List ℕ) → take (length held) b", "((b : List ℕ) → length b ≤ length held → take (length held) b"),
+        ("crates/printer/proofs/print_input/Proof.antt", "returns c b e =", "returns c b short e ="),
+    ],
+}
 
 
 def read(path):
@@ -249,6 +283,16 @@ def shadow_edit(name, change):
     return apply
 
 
+def contract_edit(edits):
+    def apply(room):
+        for file, old, new in edits:
+            text = read(os.path.join(room, file))
+            if old not in text:
+                raise SystemExit("%s: nothing to change" % file)
+            write(os.path.join(room, file), text.replace(old, new, 1))
+    return apply
+
+
 def replace(old, new):
     return lambda text: text.replace(old, new, 1)
 
@@ -287,6 +331,8 @@ def weakenings():
     for where, old, new in LESS:
         edit = shadow_edit if where in SHADOWS else own_edit
         yield "%s: %s" % (where, " ".join(new.split())), edit(where, replace(old, new))
+    for name, edits in CONTRACTS.items():
+        yield "contract " + name, contract_edit(edits)
     for name in SHADOWS:
         yield "control %s" % name, shadow_edit(name, lambda body: body + "-- unchanged\n")
 
@@ -315,10 +361,15 @@ def main():
             shutil.rmtree(os.path.join(room, "crates/demands"))
             shutil.copytree(kept, os.path.join(room, "crates/demands"))
             edit(room)
-            done = subprocess.run(["rt", "dev", "demands"], cwd=room, stdout=subprocess.PIPE, stderr=subprocess.STDOUT, text=True)
+            contract = label.startswith("contract ")
+            folder = "clients/proofs/" if contract else "demands/proofs/"
+            done = subprocess.run(["rt", "dev", folder.split("/")[0]], cwd=room, stdout=subprocess.PIPE, stderr=subprocess.STDOUT, text=True)
             files = re.findall(r"/crates/(\S+?)\.antt:\d+:\d+: error", done.stdout)
-            broken = sorted({f for f in files if not f.startswith("demands/proofs/")})
-            used = sorted({f.rsplit("/", 1)[1] for f in files if f.startswith("demands/proofs/") and is_use(f.rsplit("/", 1)[1] + ".antt")})
+            broken = sorted({f for f in files if not f.startswith(folder)})
+            used = sorted({f[len(folder):] for f in files if f.startswith(folder)})
+            if contract:
+                for file in {file for file, old, new in CONTRACTS[label[len("contract "):]]}:
+                    shutil.copy(os.path.join(ROOT, file), os.path.join(room, file))
             control = label.startswith("control ")
             if broken or (control and used):
                 word = "BROKEN in " + ", ".join(broken + used) + ": " + re.search(r": error: (.*)", done.stdout).group(1)[:200]
