@@ -17,9 +17,9 @@ ghost use Rattle.boundaries.specs.Column.{atPlaces, ColumnBecame};
 use cells::face::FACES;
 use faces::face::face_places;
 use faces::face::sign;
-use lines::absolute::absolute;
 use lines::line::Effect;
 use lines::matrix::Matrix;
+use numbers::absolute::absolute;
 
 // The sum of sign t times the entry at places[t] of a line, over t below `faces`. The loop has a constant length, so that the compiler
 // keeps the places in registers.

@@ -1,5 +1,4 @@
 // Matrices in a lent slice of signed 32-bit numbers, and operations on their lines.
-pub mod absolute;
 pub mod line;
 pub mod matrix;
 pub mod operation;

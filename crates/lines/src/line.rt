@@ -7,12 +7,12 @@ ghost use Prim.Native.Nat.{_+_, _<_, _≤_};
 ghost use lib.ListN.{length, replicate};
 ghost use lib.IntN.{pos, natAbs};
 ghost use Rattle.lines.specs.Slice.{entryLimit, block, Bounded, Apart, Subtracted, LinesSwapped, Negated};
-use crate::absolute::absolute;
-use crate::absolute::larger;
 use crate::matrix::Matrix;
 use crate::zero::BLOCK;
 use crate::zero::is_same_block;
 use crate::zero::is_zero_block;
+use numbers::absolute::absolute;
+use numbers::absolute::larger;
 
 // What an operation answers: the largest absolute value that it wrote, or that an entry would lie beyond the limit.
 pub enum Effect {

@@ -1,5 +1,3 @@
--- What the contracts of src/ cite: how a state of the reduction lies in the slice, where the two reductions of a dimension have theirs, and what
--- the scans answer.
+-- What the contracts of src/ cite: how a state of the reduction lies in the slice, and where the two reductions of a dimension have theirs.
 pub mod Laid
 pub mod Layouts
-pub mod Scan

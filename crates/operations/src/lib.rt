@@ -1,5 +1,2 @@
-// A matrix with its companions in a lent slice: the elementary operations on all of them, and what the steps a to e read of the matrix.
+// A matrix with its companions in a lent slice: the elementary operations on all of them.
 pub mod layout;
-pub mod pivot;
-pub mod quotient;
-pub mod remainder;

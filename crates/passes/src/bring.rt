@@ -5,10 +5,10 @@ ghost use Rattle.lines.specs.Slice.{Under};
 ghost use Rattle.operations.specs.Laid.{Laid};
 ghost use Rattle.passes.specs.Answer.{bringOf, Passed};
 use crate::pass::Pass;
-use lines::absolute::larger;
 use lines::line::Effect;
 use lines::line::clear;
 use lines::operation::Operation;
+use numbers::absolute::larger;
 use operations::layout::Layout;
 use refusal::Refusal;
 

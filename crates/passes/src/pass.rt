@@ -2,13 +2,13 @@
 // changes nothing, and no operation is called for it.
 ghost use lib.ListN.{length};
 ghost use Rattle.passes.specs.Answer.{Placed, ColumnClear, rowPassOf, columnPassOf, Passed};
-use lines::absolute::larger;
 use lines::line::Effect;
 use lines::line::clear;
 use lines::operation::Operation;
 use lines::zero::first_nonzero;
+use numbers::absolute::larger;
+use numbers::quotient::quotient;
 use operations::layout::Layout;
-use operations::quotient::quotient;
 use refusal::Refusal;
 
 pub enum Pass {

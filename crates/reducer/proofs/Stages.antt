@@ -26,7 +26,7 @@ use Rattle.lines.specs.Matrices.{contents}
 use Rattle.refusal.specs.declared.Refusal.{Refusal}
 use Rattle.refusal.specs.declared.Refusal.the-variants as refusal
 use Rattle.operations.specs.Laid.{Laid, sizesOf, stateOf}
-use Rattle.operations.specs.Scan.{ColumnReduced}
+use Rattle.scans.specs.Scan.{ColumnReduced}
 use Rattle.operations.specs.declared.layout.Layout.{Layout}
 use Rattle.operations.proofs.Side.{shaped-state}
 use Rattle.passes.specs.declared.pass.Pass.{Pass}

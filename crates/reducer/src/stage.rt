@@ -4,22 +4,22 @@ ghost use Rattle.reduction_steps.specs.Pivot.{pivotRule};
 ghost use Rattle.reduction_steps.specs.Step as steps;
 ghost use Rattle.passes.specs.Answer.{Placed, ColumnClear};
 ghost use Rattle.reducer.specs.Answer.{Begun, ChoiceEnds, PassEnds};
-use lines::absolute::larger;
 use lines::line::Effect;
 use lines::line::clear;
 use lines::operation::Operation;
+use numbers::absolute::larger;
 use operations::layout::Layout;
-use operations::pivot::Pivot;
-use operations::pivot::find_pivot;
-use operations::remainder::Indivisible;
-use operations::remainder::column_keeps;
-use operations::remainder::first_indivisible;
-use operations::remainder::row_keeps;
 use passes::bring::bring_pivot;
 use passes::pass::Pass;
 use passes::pass::clear_column;
 use passes::pass::clear_row;
 use refusal::Refusal;
+use scans::pivot::Pivot;
+use scans::pivot::find_pivot;
+use scans::remainder::Indivisible;
+use scans::remainder::column_keeps;
+use scans::remainder::first_indivisible;
+use scans::remainder::row_keeps;
 
 // How many pivots one call of the cycle tries. A round takes at most four frames: the choice, the row pass, the column pass, and the column pass
 // after step e. The choice that finds no round left is one more, so that the cycle is at most 4 * ROUNDS + 1 = 33 frames deep. Its proof shows this:

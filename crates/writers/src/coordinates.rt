@@ -2,11 +2,9 @@
 ghost use mathlib.Core.Path.{_≡_};
 ghost use Prim.Native.Nat.{ℕ, _<_, _≤_};
 ghost use lib.ListN.{length};
-ghost use lib.IntN.{pos, natAbs};
-ghost use lib.Signed.{_≤ℤ_, _<ℤ_};
+ghost use lib.IntN.{natAbs};
 ghost use Rattle.lists.specs.Splice.{splices};
 ghost use Rattle.requests.specs.Chains.{chainAt};
-ghost use Rattle.integers.specs.Division.{modulo, residue};
 ghost use Rattle.matrices.specs.Vector.{apply};
 ghost use Rattle.reduction_steps.specs.Table.{entry};
 ghost use Rattle.lines.specs.Slice.{Small, at};
@@ -17,27 +15,7 @@ ghost use Rattle.writers.specs.Written.{WrittenFrom, CanCoordinate, coor
 use crate::kind::kind;
 use crate::reduced::Reduced;
 use lines::matrix::Matrix;
-
-// x modulo d, in 0 to d - 1.
-fn modulo(x: i64, d: i64) -> i64
-    requires { ⌜ pos 0 <ℤ d ⌝ }
-    ensures { λ r. ⌜ r ≡ modulo x d ⌝ }
-{
-    let r = x % d;
-    if r < 0 { r + d } else { r }
-}
-
-// The residue of x for the order d, above -d/2 and up to d/2; x itself where d is 0, the order of a free row.
-fn residue(x: i64, d: i64) -> i64
-    requires { ⌜ pos 0 ≤ℤ d ⌝ }
-    ensures { λ r. ⌜ r ≡ residue x d ⌝ }
-{
-    if d == 0 {
-        return x;
-    }
-    let r = modulo(x, d);
-    if r > d - r { r - d } else { r }
-}
+use numbers::residue::residue;
 
 // Row i of q times the chain; coefficients of 0 are passed over.
 fn row_times_chain(q: Matrix, w: &[i32], i: usize, chain: &[i32]) -> i64

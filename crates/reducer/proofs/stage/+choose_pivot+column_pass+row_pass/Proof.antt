@@ -15,7 +15,7 @@ use Rattle.reduction_steps.specs.Step.{Letter, at, row}
 use Rattle.lines.proofs.Peaks.{under-small}
 use Rattle.refusal.specs.declared.Refusal.the-variants.{TooWide}
 use Rattle.operations.specs.Laid.{stateOf}
-use Rattle.operations.specs.Scan.{pivotChoice, indivisibleRow}
+use Rattle.scans.specs.Scan.{pivotChoice, indivisibleRow}
 use Rattle.passes.specs.Answer.{matrixOf, rowPassOf, columnPassOf, PassMade}
 use Rattle.reducer.specs.Answer.{StageRefused}
 use Rattle.passes.proofs.States.{laid-kept, held-matrix, operated-done, operated-under, operated-wide}
@@ -35,12 +35,12 @@ use Rattle.lines.proofs.line.clear.Reads as clear-reads
 use Rattle.passes.proofs.bring.bring_pivot.Reads as bring-pivot-reads
 use Rattle.passes.proofs.pass.clear_column.Reads as clear-column-reads
 use Rattle.passes.proofs.pass.clear_row.Reads as clear-row-reads
-use Rattle.lines.proofs.absolute.larger.Reads as larger-reads
+use Rattle.numbers.proofs.absolute.larger.Reads as larger-reads
 use Rattle.operations.proofs.layout.Layout.on_rows.Reads as on-rows-reads
-use Rattle.operations.proofs.pivot.find_pivot.Reads as find-pivot-reads
-use Rattle.operations.proofs.remainder.column_keeps.Reads as column-keeps-reads
-use Rattle.operations.proofs.remainder.first_indivisible.Reads as first-indivisible-reads
-use Rattle.operations.proofs.remainder.row_keeps.Reads as row-keeps-reads
+use Rattle.scans.proofs.pivot.find_pivot.Reads as find-pivot-reads
+use Rattle.scans.proofs.remainder.column_keeps.Reads as column-keeps-reads
+use Rattle.scans.proofs.remainder.first_indivisible.Reads as first-indivisible-reads
+use Rattle.scans.proofs.remainder.row_keeps.Reads as row-keeps-reads
 use Rattle.reducer.proofs.stage.+choose_pivot+column_pass+row_pass.{statement}
 use Rattle.reducer.proofs.stage.+choose_pivot+column_pass+row_pass.Tie.{close}
 

@@ -1,0 +1,2 @@
+-- What the contracts of src/ cite: what the scans answer.
+pub mod Scan
