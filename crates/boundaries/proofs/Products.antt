@@ -7,14 +7,14 @@ use Prim.Native.Nat.{ℕ, suc, _+_, _^_, _≤_, _<_}
 use native.Mathlib.Omega.{arith}
 use lib.ListN.{getD}
 use lib.IntN.{ℤ, natAbs, _*ℤ_}
-use Rattle.integers.specs.Order.{natAbs-mul}
+use Rattle.integers.proofs.Order.{natAbs-mul}
 use Rattle.matrices.specs.Sum.{sum}
-use Rattle.matrices.specs.SumLaws.{natAbs-sum}
+use Rattle.matrices.proofs.SumLaws.{natAbs-sum}
 use Rattle.matrices.specs.Matrix.{mul}
 use Rattle.matrices.specs.Matrix as theory
 use Rattle.complexes.specs.Complex.{Sections, count, Complex}
 use Rattle.complexes.specs.Boundary.{sign, boundary}
-use Rattle.complexes.specs.CoefficientLaws.{natAbs-sign}
+use Rattle.complexes.proofs.CoefficientLaws.{natAbs-sign}
 use Rattle.sheet_format.specs.Layout.{top}
 use Rattle.sheet_format.specs.Check.{sectionsOf}
 use Rattle.lines.specs.Slice.{entryLimit, at, lineAt, Small}

@@ -6,7 +6,7 @@ use mathlib.Core.Path.{_≡_, subst}
 use mathlib.Core.List.{List}
 use Prim.Native.Nat.{ℕ, _*_, _≤_}
 use Rattle.complexes.specs.Complex.{count}
-use Rattle.complexes.specs.ChainComplex.{ChainComplex}
+use Rattle.complexes.proofs.ChainComplex.{ChainComplex}
 use lib.IntN.{ℤ}
 use lib.ListN.{length}
 use Rattle.reduction_steps.specs.Pivot.{pivotRule}

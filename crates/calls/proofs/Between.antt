@@ -12,7 +12,7 @@ use lib.IntN.{ℤ, pos, natAbs}
 use lib.ListN.{getD, drop}
 use Rattle.matrices.specs.Matrix.{Eq, mul}
 use Rattle.matrices.specs.Matrix as theory
-use Rattle.matrices.specs.Product.{Eq-refl, mul-ext}
+use Rattle.matrices.proofs.Product.{Eq-refl, mul-ext}
 use Rattle.complexes.specs.Complex.{Sections, count}
 use Rattle.complexes.specs.Boundary.{countBelow, boundary}
 use Rattle.reduction_steps.specs.Table.{Table, entry, table, tableLargest, tableWithin}
@@ -22,7 +22,7 @@ use Rattle.reduction_laws.specs.Shape.{Shaped}
 use Rattle.reports.specs.Reductions.{noTransforms, firstSizes, secondSizes, secondStart, product, absent}
 use Rattle.requests.specs.Call.{workSlots}
 use Rattle.limits.specs.Limits.{entryLimit}
-use Rattle.answers.specs.Starts.{second-shaped, entry-drop}
+use Rattle.answers.proofs.Starts.{second-shaped, entry-drop}
 use Rattle.lines.specs.Slice.{lineAt, Under}
 use Rattle.lines.specs.Matrices.{contents, everywhere, EntryOf, Holds, Exceeds}
 use Rattle.lines.proofs.Peaks.{under-covered}

@@ -9,7 +9,7 @@ use lib.IntN.{ℤ, pos, natAbs}
 use lib.ListN.{length, getD, replicate, length-replicate}
 use Rattle.matrices.specs.Matrix.{Eq, identity, null}
 use Rattle.matrices.specs.Matrix as theory
-use Rattle.matrices.specs.Product.{identity-at, identity-other}
+use Rattle.matrices.proofs.Product.{identity-at, identity-other}
 use Rattle.complexes.specs.Complex.{Sections, count}
 use Rattle.complexes.specs.Boundary.{countBelow, boundary}
 use Rattle.reduction_steps.specs.Table.{Table, table, tableLargest}

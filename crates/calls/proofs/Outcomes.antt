@@ -11,20 +11,20 @@ use lib.ListN.{length, replicate, length-replicate}
 use Rattle.matrices.specs.Matrix.{mul}
 use Rattle.matrices.specs.Matrix as theory
 use Rattle.complexes.specs.Complex.{Sections, count}
-use Rattle.complexes.specs.ChainComplex.{ChainComplex}
+use Rattle.complexes.proofs.ChainComplex.{ChainComplex}
 use Rattle.complexes.specs.Boundary.{countBelow, boundary}
 use Rattle.reduction_steps.specs.Table.{tableWithin}
 use Rattle.reduction_steps.specs.Pivot.{Rule, IsRule}
 use Rattle.reduction_steps.specs.Step.{Machine, done, reduce}
 use Rattle.reduction_laws.specs.Shape.{Shaped}
-use Rattle.reduction_laws.specs.SmithForm as machine
+use Rattle.reduction_laws.proofs.SmithForm as machine
 use Rattle.reports.specs.Reductions as reports
 use Rattle.reports.specs.Reductions.{noTransforms, firstSizes, firstStart, secondSizes, secondStart, product, afterSecond}
 use Rattle.reports.specs.ReductionsLaws.{first-wide, product-wide, after-second, second-wide}
 use Rattle.requests.specs.Call.{workSlots}
 use Rattle.reports.specs.Reductions.{reductionsOf}
 use Rattle.limits.specs.Limits.{entryLimit, libraryLimit}
-use Rattle.answers.specs.TwoReductions.{first-reduced, reductions-right}
+use Rattle.answers.proofs.TwoReductions.{first-reduced, reductions-right}
 use Rattle.lines.specs.Matrices.{contents, Held, Holds, Exceeds, Became, everywhere}
 use Rattle.lines.proofs.Peaks.{under-covered}
 use Rattle.lines.specs.declared.matrix.Matrix.{Matrix}

@@ -6,10 +6,10 @@ use native.Mathlib.Nat.{one-mul}
 use lib.IntN.{ℤ, pos}
 use lib.ListN.{length, replicate}
 use Rattle.lists.specs.Splice.{written, splices}
-use Rattle.lists.specs.SplicesLaws.{splices-single}
+use Rattle.lists.proofs.SplicesLaws.{splices-single}
 use Rattle.trials.specs.Trial.{first, Called}
 use Rattle.reduction_steps.specs.State.{State}
-use Rattle.reduction_steps.specs.PivotLaws.{pivotRule-is-rule}
+use Rattle.reduction_steps.proofs.PivotLaws.{pivotRule-is-rule}
 use Rattle.reports.specs.Report as reports
 use Rattle.reports.specs.Report.{reportList}
 use Rattle.reports.specs.Reductions.{tooWide}

@@ -8,10 +8,10 @@ use native.Mathlib.Nat.{le-trans, pos-of-ne-zero}
 use native.Mathlib.Numerals.{add-one}
 use native.Mathlib.Omega.{arith}
 use Rattle.complexes.specs.Complex.{Sections, count}
-use Rattle.complexes.specs.ChainComplex.{ChainComplex}
+use Rattle.complexes.proofs.ChainComplex.{ChainComplex}
 use Rattle.complexes.specs.Boundary.{countBelow}
 use Rattle.sheet_format.specs.Sheet.{Bytes}
-use Rattle.sheet_format.specs.Accept.{accepted-chains}
+use Rattle.sheet_format.proofs.Accept.{accepted-chains}
 use Rattle.sheet_format.specs.Check.{countField, sectionsOf, refusal}
 use Rattle.sheet_format.specs.CheckLaws.{Passes, refusal-zero, countExceeds-false}
 use Rattle.sheet_format.specs.SheetLaws.{count-sectionsOf}

@@ -7,13 +7,13 @@ use native.Mathlib.Omega.{arith}
 use lib.IntN.{ℤ, natAbs}
 use lib.ListN.{length}
 use Rattle.complexes.specs.Complex.{Sections, count}
-use Rattle.complexes.specs.ChainComplex.{ChainComplex}
+use Rattle.complexes.proofs.ChainComplex.{ChainComplex}
 use Rattle.complexes.specs.Boundary.{countBelow}
 use Rattle.reduction_steps.specs.Pivot.{Rule, IsRule}
 use Rattle.requests.specs.Call.{workSlots}
 use Rattle.reports.specs.Reductions.{noTransforms, reductionsOf}
 use Rattle.limits.specs.Limits.{entryLimit, coefficientLimit, libraryLimit}
-use Rattle.answers.specs.TwoReductions.{Right, reductions-right}
+use Rattle.answers.proofs.TwoReductions.{Right, reductions-right}
 use Rattle.lines.specs.Slice.{at}
 use Rattle.lines.proofs.Peaks.{under-small}
 use Rattle.operations.specs.Laid.{Laid}

@@ -9,7 +9,7 @@ use native.Mathlib.Omega.{arith}
 use lib.ListN.{length, replicate, getD-replicate}
 use lib.Seq.{ext-getD}
 use Rattle.limits.specs.Limits.{libraryLimit}
-use Rattle.lists.specs.TabulateLaws.{length-tabulate}
+use Rattle.lists.proofs.TabulateLaws.{length-tabulate}
 use Rattle.complexes.specs.Cell.{Cell, precedes}
 use Rattle.complexes.specs.Complex.{section}
 use Rattle.closures.specs.Insert.{insert, insertAll}

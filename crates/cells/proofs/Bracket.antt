@@ -12,8 +12,8 @@ use native.Mathlib.Numerals.{add-one}
 use native.Mathlib.Omega.{arith}
 use lib.ListN.{length, getD}
 use Rattle.complexes.specs.Cell.{Cell, precedes, listed}
-use Rattle.complexes.specs.CellLaws.{listed-true, Listed-listed}
-use Rattle.complexes.specs.OrderLaws.{precedes-irrefl, precedes-trans, ordered-precedes}
+use Rattle.complexes.proofs.CellLaws.{listed-true, Listed-listed}
+use Rattle.complexes.proofs.OrderLaws.{precedes-irrefl, precedes-trans, ordered-precedes}
 use Rattle.cells.specs.Find.{Rising, Finds}
 use Rattle.cells.specs.declared.face.Found.{Found}
 use Rattle.cells.specs.declared.face.Found.the-variants.{At, Nothing}

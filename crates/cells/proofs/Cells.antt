@@ -6,7 +6,7 @@ use Prim.Native.Nat.{ℕ, zero, suc, _+_, _*_, _-_, _≤_, _<_}
 use native.Mathlib.Omega.{arith}
 use lib.ListN.{length, getD}
 use Rattle.complexes.specs.Cell.{Cell, rises}
-use Rattle.complexes.specs.CellLaws.{rises-at, rises-of}
+use Rattle.complexes.proofs.CellLaws.{rises-at, rises-of}
 use Rattle.sheet_format.specs.Check.{fieldAt, cellOf}
 use Rattle.sheet_format.specs.SheetLaws.{length-cellOf, getD-cellOf}
 

@@ -13,7 +13,7 @@ use lib.Dec.{ltb}
 use lib.ListN.{length, getD}
 use Rattle.complexes.specs.Cell.{Cell, precedes}
 use Rattle.complexes.specs.Packed.{Numbered}
-use Rattle.complexes.specs.PackedLaws.{packed-precedes, packed-injective}
+use Rattle.complexes.proofs.PackedLaws.{packed-precedes, packed-injective}
 use Rattle.sheet_format.specs.Check.{cellOf, cellsOf}
 use Rattle.sheet_format.specs.Sheet.{Bytes}
 use Rattle.sheet_format.specs.SheetLaws.{fieldAt-lt, length-cellOf, getD-cellOf, getD-cellsOf}

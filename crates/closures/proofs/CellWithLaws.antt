@@ -14,7 +14,7 @@ use borrow.Author.Tests.{ltb-true, lt-ltb, eqb-true, eq-eqb, ne-eqb, not-false}
 use lib.Dec.{eqb, ltb, eqb·suc-suc}
 use lib.ListN.{length, getD}
 use Rattle.complexes.specs.Cell.{Cell, rises, Vertex}
-use Rattle.complexes.specs.CellLaws.{rises-at, rises-of}
+use Rattle.complexes.proofs.CellLaws.{rises-at, rises-of}
 use Rattle.closures.specs.Insert.{insert, insertAll}
 use Rattle.closures.specs.Closure.{cellWith, member, repeats}
 use Rattle.closures.specs.Rising.{Rising}

@@ -14,12 +14,12 @@ use native.Mathlib.Omega.{arith}
 use native.Mathlib.Decide.{decLt}
 use lib.ListN.{length, getD, length-map, List·getD-map}
 use lib.Seq.{ext-getD}
-use Rattle.lists.specs.TabulateLaws.{length-tabulate, getD-tabulate, getD-tabulate-beyond}
+use Rattle.lists.proofs.TabulateLaws.{length-tabulate, getD-tabulate, getD-tabulate-beyond}
 use Rattle.complexes.specs.Cell.{Cell, without, precedes, Listed}
-use Rattle.complexes.specs.FaceLaws.{length-without, rises-without}
+use Rattle.complexes.proofs.FaceLaws.{length-without, rises-without}
 use Rattle.complexes.specs.Complex.{Sections, section, count, cell, vertexBound, Complex}
-use Rattle.complexes.specs.Faces.{Sublist-length, without-Sublist}
-use Rattle.complexes.specs.Subsets.{sublist-subset, subset-sublist}
+use Rattle.complexes.proofs.Faces.{Sublist-length, without-Sublist}
+use Rattle.complexes.proofs.Subsets.{sublist-subset, subset-sublist}
 use Rattle.complexes.specs.Packed.{Numbered}
 use Rattle.closures.specs.Insert.{insertAll}
 use Rattle.closures.specs.Closure.{cellWith, ownSection, facesOf, closedSection, ownSections, closure}

@@ -12,7 +12,7 @@ use lib.Dec.{ltb}
 use lib.ListN.{getD}
 use Rattle.complexes.specs.Cell.{Cell, precedes}
 use Rattle.complexes.specs.Packed.{packed}
-use Rattle.complexes.specs.PackedLaws.{packed-precedes}
+use Rattle.complexes.proofs.PackedLaws.{packed-precedes}
 use Rattle.closures.specs.Insert.{insert}
 use Rattle.closures.specs.Rising.{All, HasVertices}
 

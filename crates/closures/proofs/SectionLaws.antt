@@ -16,11 +16,11 @@ use native.Mathlib.Decide.{ℕ-discrete, decLt}
 use borrow.Author.Tests.{eq-eqb, ne-eqb}
 use lib.ListN.{length}
 use Rattle.lists.specs.Tabulate.{tabulate}
-use Rattle.lists.specs.TabulateLaws.{length-tabulate, getD-tabulate}
+use Rattle.lists.proofs.TabulateLaws.{length-tabulate, getD-tabulate}
 use Rattle.complexes.specs.Cell.{Cell, without, precedes, Listed, Sublist}
-use Rattle.complexes.specs.CellLaws.{Listed-next}
-use Rattle.complexes.specs.FaceLaws.{length-without}
-use Rattle.complexes.specs.Faces.{Sublist-refl, without-Sublist}
+use Rattle.complexes.proofs.CellLaws.{Listed-next}
+use Rattle.complexes.proofs.FaceLaws.{length-without}
+use Rattle.complexes.proofs.Faces.{Sublist-refl, without-Sublist}
 use Rattle.closures.specs.Insert.{insert, insertAll}
 use Rattle.closures.specs.Closure.{ofDimension, ownSection, facesOf, closedSection}
 use Rattle.closures.proofs.RisingLaws.{Stands, stands-cons, stands-cases, stands-here, stands-there, stands-nil, stands-append, listed-stands}

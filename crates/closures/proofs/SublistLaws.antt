@@ -11,8 +11,8 @@ use native.Mathlib.Omega.{arith}
 use lib.Dec.{ltb}
 use lib.ListN.{length}
 use Rattle.complexes.specs.Cell.{Cell, without, rises, Sublist, none, skip, keep}
-use Rattle.complexes.specs.Faces.{Sublist-length}
-use Rattle.complexes.specs.Subsets.{sublist-subset}
+use Rattle.complexes.proofs.Faces.{Sublist-length}
+use Rattle.complexes.proofs.Subsets.{sublist-subset}
 use Rattle.closures.specs.Rising.{Rising}
 use Rattle.closures.proofs.RisingLaws.{numbers-order, vertex-stands, rising-tail, rising-head, rising-cons}
 use Rattle.closures.proofs.CellWithLaws.{rises-rising, rising-rises}

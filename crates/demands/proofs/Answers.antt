@@ -8,16 +8,16 @@ use lib.IntN.{ℤ, _-ℤ_}
 use Rattle.integers.specs.Division.{NearestZero}
 use Rattle.sheet_format.specs.Sheet.{Bytes}
 use Rattle.homology_groups.specs.Chain.{Chain, combination}
-use Rattle.homology_groups.specs.ChainLaws.{boundary-same}
+use Rattle.homology_groups.proofs.ChainLaws.{boundary-same}
 use Rattle.reports.specs.Report.{Counts, freeRank, torsionCount, countsOf}
 use Rattle.requests.specs.Question.{Question, cells, cellCount}
 use Rattle.requests.specs.Call.{call}
 use Rattle.answers.specs.Homology.{IsBoundary}
 use Rattle.answers.specs.Right.{slot, orderIn, generatorIn, IsRight, reportLength}
-use Rattle.answers.specs.ReportRight.{Reads, report-is-right, has-counts, counts-unique}
-use Rattle.answers.specs.CoordinatesRight.{ReadsCoordinates, coordinates-decide, coordinates-combine, coordinates-nearest}
-use Rattle.answers.specs.Behind.{Behind, same-behind}
-use Rattle.answers.specs.CallRight.{done-number, answered, counts-behind}
+use Rattle.answers.proofs.ReportRight.{Reads, report-is-right, has-counts, counts-unique}
+use Rattle.answers.proofs.CoordinatesRight.{ReadsCoordinates, coordinates-decide, coordinates-combine, coordinates-nearest}
+use Rattle.answers.proofs.Behind.{Behind, same-behind}
+use Rattle.answers.proofs.CallRight.{done-number, answered, counts-behind}
 use Rattle.demands.specs.Answers as claims
 use Rattle.demands.specs.Answers.{ReportOf, CountsAnswered, Counted, RightReport, Reports, CountsRight, OneReport, OneCounts, CoordinatesDecide, CoordinatesCombine, CoordinatesNearestZero}
 use Rattle.demands.proofs.Behind.{ReportBehind, report-behind, CoordinatesBehind, coordinates-behind}

@@ -16,16 +16,16 @@ use Rattle.requests.specs.Chains.{chainAt, chainChecks}
 use Rattle.requests.specs.ChainsLaws.{length-chainAt, chains-zero}
 use Rattle.requests.specs.Call.{Request, report, coordinates, lists, requestChecks, call}
 use Rattle.host_calls.specs.Bytes.{coefficientIn, chainFrom, numberAt}
-use Rattle.host_calls.specs.HostChainsLaws.{given-coefficient, chainFrom-size, chainAt-coefficient}
+use Rattle.host_calls.proofs.HostChainsLaws.{given-coefficient, chainFrom-size, chainAt-coefficient}
 use Rattle.host_calls.specs.Host.{hostCall, coordinatesIn, listsIn}
 use Rattle.answers.specs.Homology.{IsCycle}
 use Rattle.answers.specs.Right.{slot}
-use Rattle.answers.specs.ReportRight.{Reads}
-use Rattle.answers.specs.CoordinatesRight.{ReadsCoordinates}
-use Rattle.answers.specs.ChainChecks.{ChainPasses, chain-passes, chain-told}
-use Rattle.answers.specs.Behind.{Behind}
-use Rattle.answers.specs.CallRight.{done-number, answered, list-reads}
-use Rattle.answers.specs.HostRight.{host-answered, host-reads}
+use Rattle.answers.proofs.ReportRight.{Reads}
+use Rattle.answers.proofs.CoordinatesRight.{ReadsCoordinates}
+use Rattle.answers.proofs.ChainChecks.{ChainPasses, chain-passes, chain-told}
+use Rattle.answers.proofs.Behind.{Behind}
+use Rattle.answers.proofs.CallRight.{done-number, answered, list-reads}
+use Rattle.answers.proofs.HostRight.{host-answered, host-reads}
 use Rattle.demands.specs.Answers as claims
 use Rattle.demands.specs.Answers.{ReportOf, CoordinatesOf}
 

@@ -19,10 +19,10 @@ use Rattle.requests.specs.Call.{coordinates, lists, listSlots, workSlots, callC
 use Rattle.requests.specs.CheckLaws.{call-passed}
 use Rattle.requests.specs.CallLaws.{early-iff}
 use Rattle.answers.specs.Right.{slot}
-use Rattle.answers.specs.ChainChecks.{chain-told, not-a-cycle-iff}
-use Rattle.answers.specs.Behind.{Behind, same-behind}
-use Rattle.answers.specs.CallRight.{Answered, done-number, call-outcome, call-earlier, counts-behind, answered, passed-done, list-reads}
-use Rattle.answers.specs.ListLaws.{coordinates-width}
+use Rattle.answers.proofs.ChainChecks.{chain-told, not-a-cycle-iff}
+use Rattle.answers.proofs.Behind.{Behind, same-behind}
+use Rattle.answers.proofs.CallRight.{Answered, done-number, call-outcome, call-earlier, counts-behind, answered, passed-done, list-reads}
+use Rattle.answers.proofs.ListLaws.{coordinates-width}
 use Rattle.demands.specs.Calls.{Calls, NotACycle, FirstFaultyChain, ListSingle, ListsSingle}
 
 pub calls : Calls

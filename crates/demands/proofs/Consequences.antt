@@ -4,15 +4,15 @@ use mathlib.Core.List.{[], _∷_}
 use Prim.Native.Nat.{ℕ, _+_, _<_}
 use lib.IntN.{ℤ, pos, negℤ, _*ℤ_}
 use Rattle.integers.specs.Division.{residue, NearestZero}
-use Rattle.integers.specs.Solve.{solve, terms}
-use Rattle.integers.specs.Residue.{nearest-two, nearest-three, residue-minus-one, residue-minus-one-of-two}
+use Rattle.integers.proofs.Solve.{solve, terms}
+use Rattle.integers.proofs.Residue.{nearest-two, nearest-three, residue-minus-one, residue-minus-one-of-two}
 use Rattle.sheet_format.specs.Sheet.{Bytes}
 use Rattle.homology_groups.specs.Chain.{Chain}
-use Rattle.homology_groups.specs.Coefficients.{single-at, single-other}
+use Rattle.homology_groups.proofs.Coefficients.{single-at, single-other}
 use Rattle.requests.specs.Question.{Question, cells, cellCount}
 use Rattle.answers.specs.Right.{orderIn, generatorIn}
-use Rattle.answers.specs.ReportRight.{counts-unique}
-use Rattle.answers.specs.OnlyCoordinates.{Represents, represents-only, multiple-represents}
+use Rattle.answers.proofs.ReportRight.{counts-unique}
+use Rattle.answers.proofs.OnlyCoordinates.{Represents, represents-only, multiple-represents}
 use Rattle.demands.specs.Answers.{ReportOf, CoordinatesOf, Counted}
 use Rattle.demands.specs.Consequences.{SameCounts, CoordinatesOfSmallOrders, CoordinatesOnly, GeneratorMultiples, GeneratorsBackwards}
 use Rattle.demands.proofs.Answers.{report-right, coordinatesCombine, coordinatesNearestZero}

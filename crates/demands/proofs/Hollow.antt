@@ -16,12 +16,12 @@ use Rattle.matrices.specs.Operation.{inverse}
 use Rattle.complexes.specs.Cell.{without, same, rises, precedes, listed}
 use Rattle.complexes.specs.Boundary.{sign, coefficient, countBelow, boundary}
 use Rattle.complexes.specs.Complex.{Sections}
-use Rattle.complexes.specs.ChainComplex.{ChainComplex}
+use Rattle.complexes.proofs.ChainComplex.{ChainComplex}
 use Rattle.sheet_format.specs.Layout.{start}
 use Rattle.sheet_format.specs.Check.{countField, offsetField, cellOf, cellsOf, sectionsOf, some, verticesDoNotRise, cellsDoNotRise, faceMissing, refusal}
 use Rattle.sheet_format.specs.Sheet.{Bytes}
 use Rattle.sheet_format.specs.Starred.{hollowTriangle}
-use Rattle.sheet_format.specs.Accept.{accepted-chains}
+use Rattle.sheet_format.proofs.Accept.{accepted-chains}
 use Rattle.reduction_steps.specs.Table.{table, rowLargest, tableLargest, tableWithin}
 use Rattle.reduction_steps.specs.Lines.{onList, lineLess, onLines, onEntries}
 use Rattle.reduction_steps.specs.State.{State, largest, rowOperation, columnOperation, within, checked, andThen, onRow, onColumn}
@@ -31,7 +31,7 @@ use Rattle.reports.specs.Reductions.{reduced, firstStart, product, secondStart,
 use Rattle.requests.specs.Question.{Question, asked, cells, rule, two}
 use Rattle.requests.specs.Call.{wentWide}
 use Rattle.answers.specs.Outcome.{TooWide}
-use Rattle.answers.specs.Behind.{two-wide}
+use Rattle.answers.proofs.Behind.{two-wide}
 
 pub numbers-below : (bound : ℕ) → 0 < bound → (l : List ℕ) → T (every (λ x. ltb x bound) l) → (i : ℕ) → getD l i 0 < bound
 unfolding every

@@ -1,5 +1,5 @@
 -- The claim on the host calls.
-use Rattle.answers.specs.HostRight.{carries}
+use Rattle.answers.proofs.HostRight.{carries}
 use Rattle.demands.specs.Host.{HostCalls}
 
 pub hostCalls : HostCalls

@@ -1,6 +1,6 @@
 -- The claims on the program.
-use Rattle.program_text.specs.TextLaws.{programText-take}
-use Rattle.answers.specs.ProgramText.{dimensions-printed, refused-iff}
+use Rattle.program_text.proofs.TextLaws.{programText-take}
+use Rattle.answers.proofs.ProgramText.{dimensions-printed, refused-iff}
 use Rattle.demands.specs.Program.{ProgramRefuses, ProgramPrints, ProgramInput}
 
 pub programRefuses : ProgramRefuses

@@ -12,7 +12,7 @@ use Rattle.lists.specs.Splice.{splice, splices}
 use Rattle.matrices.specs.Sum.{sum}
 use Rattle.matrices.specs.Vector.{apply}
 use Rattle.trials.specs.Trial.{first, Answer, done, refused, Called, cleared}
-use Rattle.trials.specs.TrialLaws.{refused≢done}
+use Rattle.trials.proofs.TrialLaws.{refused≢done}
 use Rattle.complexes.specs.Cell.{without, same, rises, precedes, listed}
 use Rattle.complexes.specs.Boundary.{sign, coefficient, countBelow, boundary}
 use Rattle.sheet_format.specs.Layout.{start}
@@ -26,7 +26,7 @@ use Rattle.requests.specs.Chains.{coefficientExceeds, boundaryNotZero, chainChe
 use Rattle.requests.specs.Call.{Request, report, coordinates, lists, listCount, listSlots, numbersOf, callChecks, earlyChecks, ofReduced, call}
 use Rattle.answers.specs.Outcome as outcome
 use Rattle.answers.specs.Outcome.{Outcome, TooWide}
-use Rattle.answers.specs.Behind.{ends-two}
+use Rattle.answers.proofs.Behind.{ends-two}
 use Rattle.demands.specs.Calls.{Calls}
 use Rattle.demands.proofs.Hollow.{hollow, hollow-bytes, hollow-chains, hollow-left, hollow-reduced, hollow-narrow, nines, minus}
 

@@ -7,7 +7,7 @@ use native.Mathlib.Omega.{arith}
 use lib.IntN.{ℤ, pos, negℤ, _-ℤ_, _*ℤ_}
 use Rattle.integers.specs.Division.{floor, modulo, residue, NearestZero}
 use Rattle.lists.specs.Tabulate.{tabulate}
-use Rattle.lists.specs.TabulateLaws.{getD-tabulate}
+use Rattle.lists.proofs.TabulateLaws.{getD-tabulate}
 use Rattle.trials.specs.Trial.{Called}
 use Rattle.sheet_format.specs.Check.{countField, cellsOf, sectionsOf}
 use Rattle.sheet_format.specs.Sheet.{Bytes}

@@ -7,7 +7,7 @@ use native.Mathlib.Omega.{arith}
 use lib.IntN.{ℤ, pos, negℤ, natAbs}
 use Rattle.lists.specs.Same.{every}
 use Rattle.lists.specs.Tabulate.{tabulate}
-use Rattle.lists.specs.TabulateLaws.{getD-tabulate}
+use Rattle.lists.proofs.TabulateLaws.{getD-tabulate}
 use Rattle.trials.specs.Trial.{Called}
 use Rattle.sheet_format.specs.Check.{countField, cellsOf, sectionsOf}
 use Rattle.sheet_format.specs.Sheet.{Bytes}

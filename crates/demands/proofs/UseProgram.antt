@@ -9,7 +9,7 @@ use Rattle.limits.specs.Limits.{hostLimit}
 use Rattle.lists.specs.Tabulate.{tabulate}
 use Rattle.lists.specs.Splice.{splice, splices}
 use Rattle.trials.specs.Trial.{Answer, done, refused, Called}
-use Rattle.trials.specs.TrialLaws.{refused≢done}
+use Rattle.trials.proofs.TrialLaws.{refused≢done}
 use Rattle.sheet_format.specs.Layout.{start, top}
 use Rattle.sheet_format.specs.Check.{countField, cellOf, cellsOf, sectionsOf, refusal}
 use Rattle.sheet_format.specs.Sheet.{Bytes}

@@ -1,5 +1,5 @@
 -- The claims on words.
-use Rattle.complexes.specs.PackedLaws.{packed-fits, packed-precedes, packed-injective}
+use Rattle.complexes.proofs.PackedLaws.{packed-fits, packed-precedes, packed-injective}
 use Rattle.demands.specs.Words.{WordFits, WordsOrdered, WordsShared}
 
 pub wordFits : WordFits

@@ -11,13 +11,13 @@ use native.Mathlib.Numerals.{add-one}
 use native.Mathlib.Omega.{arith}
 use lib.ListN.{length}
 use lib.IntN.{ℤ, pos, _+ℤ_}
-use Rattle.integers.specs.Ring.{add-zero}
+use Rattle.integers.proofs.Ring.{add-zero}
 use Rattle.matrices.specs.Sum.{sum}
-use Rattle.matrices.specs.SumLaws.{sum-zero}
+use Rattle.matrices.proofs.SumLaws.{sum-zero}
 use Rattle.complexes.specs.Cell.{Cell, without, same}
-use Rattle.complexes.specs.CellLaws.{eq-same, ne-same}
-use Rattle.complexes.specs.FaceLaws.{without-injective}
-use Rattle.complexes.specs.OrderLaws.{ordered-unique}
+use Rattle.complexes.proofs.CellLaws.{eq-same, ne-same}
+use Rattle.complexes.proofs.FaceLaws.{without-injective}
+use Rattle.complexes.proofs.OrderLaws.{ordered-unique}
 use Rattle.complexes.specs.Complex.{section, count, cell, Complex}
 use Rattle.complexes.specs.Boundary.{sign, coefficient, boundary}
 use Rattle.sheet_format.specs.Check.{sectionsOf}

@@ -8,13 +8,13 @@ use native.Mathlib.Nat.{mul-le-mul}
 use native.Mathlib.Omega.{arith}
 use borrow.Author.Tests.{not-false}
 use Rattle.complexes.specs.Cell.{without, listed}
-use Rattle.complexes.specs.CellLaws.{Listed-listed}
+use Rattle.complexes.proofs.CellLaws.{Listed-listed}
 use Rattle.complexes.specs.Complex.{count, cell, section, Complex}
 use Rattle.sheet_format.specs.Layout.{top}
 use Rattle.sheet_format.specs.Check.{countField, startAt, cellOf, cellsOf, sectionsOf, some}
 use Rattle.sheet_format.specs.CheckLaws.{some-false}
 use Rattle.sheet_format.specs.Sheet.{Bytes}
-use Rattle.sheet_format.specs.Accept.{accepted-complex}
+use Rattle.sheet_format.proofs.Accept.{accepted-complex}
 use Rattle.sheet_format.specs.SheetLaws.{section-sectionsOf, count-sectionsOf, cell-sectionsOf}
 use Rattle.cells.specs.Find.{Rising, FindsFaces}
 use Rattle.limits.specs.Limits.{libraryLimit}

@@ -6,7 +6,7 @@ use lib.IntN.{ℤ, pos, negsuc, negℤ, natAbs}
 use mir.Syntax.{w32, w64}
 use mir.Val.{SFits}
 use Rattle.complexes.specs.Boundary.{sign}
-use Rattle.complexes.specs.CoefficientLaws.{natAbs-sign}
+use Rattle.complexes.proofs.CoefficientLaws.{natAbs-sign}
 use Rattle.lines.specs.Slice.{entryLimit}
 use Rattle.words.specs.Read.{read, read-entry, read-wide, entry-fits}
 

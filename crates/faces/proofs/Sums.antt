@@ -7,13 +7,13 @@ use mathlib.Core.List.{List}
 use Prim.Native.Nat.{ℕ, suc, _≤_, _<_}
 use native.Mathlib.Omega.{arith}
 use lib.IntN.{ℤ, pos, natAbs, _*ℤ_}
-use Rattle.integers.specs.Ring.{mul-zero}
+use Rattle.integers.proofs.Ring.{mul-zero}
 use Rattle.matrices.specs.Sum.{sum}
-use Rattle.matrices.specs.SumLaws.{natAbs-sum, sum-ext, sum-mul-left, sum-swap, sum-single}
+use Rattle.matrices.proofs.SumLaws.{natAbs-sum, sum-ext, sum-mul-left, sum-swap, sum-single}
 use Rattle.complexes.specs.Cell.{Cell, without, same}
-use Rattle.complexes.specs.CellLaws.{eq-same, ne-same}
-use Rattle.complexes.specs.OrderLaws.{ordered-unique}
-use Rattle.complexes.specs.CoefficientLaws.{natAbs-sign}
+use Rattle.complexes.proofs.CellLaws.{eq-same, ne-same}
+use Rattle.complexes.proofs.OrderLaws.{ordered-unique}
+use Rattle.complexes.proofs.CoefficientLaws.{natAbs-sign}
 use Rattle.complexes.specs.Complex.{section, count, cell, Complex}
 use Rattle.complexes.specs.Boundary.{sign, boundary}
 use Rattle.sheet_format.specs.Check.{sectionsOf}

@@ -9,7 +9,7 @@ use lib.IntN.{ℤ}
 use Rattle.lists.specs.Tabulate.{tabulate}
 use Rattle.host_calls.specs.Bytes.{chainFrom, coefficientIn}
 use Rattle.requests.specs.ChainsLaws.{length-chainAt}
-use Rattle.host_calls.specs.HostChainsLaws.{length-chainFrom, chainAt-bytes}
+use Rattle.host_calls.proofs.HostChainsLaws.{length-chainFrom, chainAt-bytes}
 use Rattle.fildwuk.specs.Lists.{chainOf}
 
 module _ (cells number : ℕ) (chains : List ℕ) (size : length chains ≡ 4 * (number * cells)) (i : ℕ) (next : i < number) where

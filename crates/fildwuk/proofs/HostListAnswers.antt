@@ -12,7 +12,7 @@ use Rattle.lists.specs.Splice.{splices}
 use Rattle.trials.specs.Trial.{first}
 use Rattle.complexes.specs.Complex.{Sections}
 use Rattle.sheet_format.specs.Check.{sectionsOf}
-use Rattle.reduction_steps.specs.PivotLaws.{pivotRule-is-rule}
+use Rattle.reduction_steps.proofs.PivotLaws.{pivotRule-is-rule}
 use Rattle.reports.specs.Report.{coordinateList}
 use Rattle.reports.specs.Reductions.{tooWide}
 use Rattle.requests.specs.Question.{Question, cells, rule, two}
@@ -22,7 +22,7 @@ use Rattle.requests.specs.Call.{lists}
 use Rattle.requests.specs.CheckLaws.{Passed}
 use Rattle.host_calls.specs.Bytes.{numbersBytes, chainFrom}
 use Rattle.host_calls.specs.Host.{HostCalled, slotsIn, hostEarly, hostCall, listsIn}
-use Rattle.host_calls.specs.HostChainsLaws.{length-chainFrom, chainFrom-other}
+use Rattle.host_calls.proofs.HostChainsLaws.{length-chainFrom, chainFrom-other}
 use Rattle.host_calls.specs.HostCallLaws.{workRoom, counts-within, early-room}
 use Rattle.refusal.specs.Number.{numberOf}
 use Rattle.refusal.specs.declared.Refusal.{Refusal}

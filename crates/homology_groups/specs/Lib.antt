@@ -3,15 +3,3 @@
 -- `Coordinates`, `Presents`, `CoordinateList`. `Unique`: the orders of all presentations; `Coefficients`: the coefficients of a chain.
 pub mod Chain
 pub mod Presentation
-pub mod Reduced
-pub mod ChainLaws
-pub mod PresentationLaws
-pub mod Shift
-pub mod SmithChain
-pub mod Kernel
-pub mod Coordinates
-pub mod Presents
-pub mod CoordinateList
-pub mod BoundaryLaws
-pub mod Unique
-pub mod Coefficients

@@ -18,10 +18,10 @@ use lib.IntN.{ℤ}
 use Rattle.limits.specs.Limits.{hostLimit}
 use Rattle.lists.specs.Splice.{splice, splices}
 use Rattle.lists.specs.SpliceLaws.{splice-zero}
-use Rattle.lists.specs.SplicesLaws.{splices-single}
+use Rattle.lists.proofs.SplicesLaws.{splices-single}
 use Rattle.trials.specs.Trial.{first, Called, done, refused, numberTold}
-use Rattle.trials.specs.TrialLaws.{refused≢done}
-use Rattle.trials.specs.FirstLaws.{orElse, first-append}
+use Rattle.trials.proofs.TrialLaws.{refused≢done}
+use Rattle.trials.proofs.FirstLaws.{orElse, first-append}
 use Rattle.complexes.specs.Complex.{count}
 use Rattle.complexes.specs.Boundary.{countBelow}
 use Rattle.sheet_format.specs.Layout.{top}
@@ -166,9 +166,9 @@ module _ (q : Question) (output : List ℕ) (slots work : List ℤ) (size : leng
       let d = with-number early (two q) numbersLeft slots work e in
       let list = reportList (cellCount q) (d .rows) (d .rank) (d .state) in
       let wrote : callWith early (two q) numbersLeft slots work .output ≡ list ++ drop (length list) slots =
-          ap (λ (c : Called Counts ℤ). c .output) (with-done early (two q) numbersLeft slots work (d .passes) (d .rows) (d .rank) (d .state) (d .reductions)) ∙ splices-single (listSlots q report) (numbersOf q report (d .rows) (d .rank) (d .state)) slots in
+      ap (λ (c : Called Counts ℤ). c .output) (with-done early (two q) numbersLeft slots work (d .passes) (d .rows) (d .rank) (d .state) (d .reductions)) ∙ splices-single (listSlots q report) (numbersOf q report (d .rows) (d .rank) (d .state)) slots in
       let same : take many (callWith early (two q) numbersLeft slots work .output) ≡ list =
-          ap (take many) wrote ∙ take-at list (drop (length list) slots) many (long (d .rows) (d .rank) (d .state) (d .reductions)) in
+      ap (take many) wrote ∙ take-at list (drop (length list) slots) many (long (d .rows) (d .rank) (d .state) (d .reductions)) in
       host-done q report output (sym report-early ∙ d .passes) (d .rows) (d .rank) (d .state) (d .reductions)
       ∙ ap (λ (o : List ℕ). record { number = 0; output = o })
       (splices-single (8 * listSlots q report) (λ i. numbersBytes (numbersOf q report (d .rows) (d .rank) (d .state) i)) output

@@ -9,7 +9,7 @@ use native.Mathlib.Nat.{one-mul, mul-zero, zero-mul}
 use lib.IntN.{ℤ}
 use Rattle.limits.specs.Limits.{hostLimit}
 use Rattle.lists.specs.Splice.{splices}
-use Rattle.lists.specs.SplicesLaws.{splices-nothing}
+use Rattle.lists.proofs.SplicesLaws.{splices-nothing}
 use Rattle.reports.specs.Report.{coordinateList}
 use Rattle.requests.specs.Question.{Question, cells, cellCount, two}
 use Rattle.requests.specs.Chains.{chainAt}

@@ -8,7 +8,7 @@ use Rattle.limits.specs.Limits.{libraryLimit}
 use Rattle.complexes.specs.Complex.{Sections}
 use Rattle.sheet_format.specs.Layout.{top, layout}
 use Rattle.sheet_format.specs.Check.{sectionsOf}
-use Rattle.sheet_format.specs.Accept.{layout-sections}
+use Rattle.sheet_format.proofs.Accept.{layout-sections}
 use Rattle.closures.specs.Form.{IsClosure}
 use Rattle.closures.proofs.ClosureLaws.{closure-unique}
 use Rattle.mesh_format.specs.Mesh.{Mesh}

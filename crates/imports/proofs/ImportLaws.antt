@@ -27,7 +27,7 @@ use Rattle.imports.proofs.ElementLaws.{right-few}
 -- ---- the number told
 
 answerWith-number : (n : ℕ) (bytes sheet : List ℕ) → numberTold (answerWith n bytes sheet .answer) ≡ n
-unfolding answerWith 
+unfolding answerWith
 answerWith-number zero bytes sheet = refl
 answerWith-number (suc n) bytes sheet = refl
 

@@ -16,9 +16,9 @@ use Rattle.sheet_format.specs.Layout.{top, headerLength, start, layout}
 use Rattle.sheet_format.specs.Check.{fieldAt, countField, offsetField, some, refusal, sectionsOf}
 use Rattle.sheet_format.specs.CheckLaws.{some-false}
 use Rattle.sheet_format.specs.SheetLaws.{countField-in, start-mono, count-beyond}
-use Rattle.sheet_format.specs.LayoutLaws.{Reads, length-layout, bytes-layout}
+use Rattle.sheet_format.proofs.LayoutLaws.{Reads, length-layout, bytes-layout}
 use Rattle.sheet_format.specs.Sheet.{Bytes}
-use Rattle.sheet_format.specs.Accept.{reads-layout, accepted-layout, sections-layout}
+use Rattle.sheet_format.proofs.Accept.{reads-layout, accepted-layout, sections-layout}
 use Rattle.closures.specs.Closure.{elementTop}
 use Rattle.closures.specs.Form.{IsClosure}
 use Rattle.trials.specs.Trial.{Answer, done, refused, numberTold}

@@ -3,12 +3,3 @@
 -- `ResidueRemainder` their laws.
 -- `Truncate`: the machine's division, and how it gives that of `Floor`. `Power`: powers of natural numbers.
 pub mod Division
-pub mod Power
-pub mod Ring
-pub mod Solve
-pub mod Order
-pub mod Divides
-pub mod Floor
-pub mod Residue
-pub mod ResidueRemainder
-pub mod Truncate

@@ -8,11 +8,11 @@ use Prim.Native.Nat.{ℕ, _+_, _<_, _≤_}
 use lib.Dec.{ltb}
 use lib.IntN.{ℤ}
 use borrow.Author.Tests.{lt-ltb, le-ltb}
-use Rattle.integers.specs.Order.{natAbs-neg}
+use Rattle.integers.proofs.Order.{natAbs-neg}
 use Rattle.matrices.specs.Matrix as theory
 use Rattle.matrices.specs.Operation as definitions
 use Rattle.matrices.specs.Operation.{subtract, swap, negate, onRows, inverse}
-use Rattle.matrices.specs.OperationLaws.{onRows-subtract-at, onRows-subtract-other, onRows-swap-first, onRows-swap-second, onRows-swap-other, onRows-negate-at, onRows-negate-other}
+use Rattle.matrices.proofs.OperationLaws.{onRows-subtract-at, onRows-subtract-other, onRows-swap-first, onRows-swap-second, onRows-swap-other, onRows-negate-at, onRows-negate-other}
 use Rattle.matrices.specs.Within.{Within-inverse}
 use Rattle.lines.specs.Slice.{Subtracted, Negated, LinesSwapped}
 use Rattle.lines.specs.Matrices.{contents}

@@ -9,11 +9,11 @@ use native.Mathlib.Omega.{arith}
 use native.Mathlib.Decide.{ℕ-discrete, decLt}
 use lib.ListN.{length}
 use lib.IntN.{ℤ, natAbs}
-use Rattle.integers.specs.Ring.{mul-zero, add-zero}
+use Rattle.integers.proofs.Ring.{mul-zero, add-zero}
 use Rattle.matrices.specs.Matrix.{transpose}
 use Rattle.matrices.specs.Matrix as theory
 use Rattle.matrices.specs.Operation.{Operation, subtract, swap, negate, onRows, onColumns}
-use Rattle.matrices.specs.OperationLaws.{onRows-ext-at, onRows-subtract-at, onRows-subtract-other}
+use Rattle.matrices.proofs.OperationLaws.{onRows-ext-at, onRows-subtract-at, onRows-subtract-other}
 use Rattle.matrices.specs.Within.{Within}
 use Rattle.lines.specs.Slice.{entryLimit, at, lineAt, Bounded, LinesSwapped, Negated}
 use Rattle.lines.specs.Slice as slice

@@ -1,11 +1,6 @@
 -- Finite sums and matrices of any size over the whole numbers. A matrix is a function of row and column; sizes stand beside it.
 pub mod Sum
-pub mod SumLaws
 pub mod Matrix
-pub mod Product
 pub mod Operation
 pub mod Within
-pub mod OperationLaws
-pub mod Inverse
 pub mod Vector
-pub mod VectorLaws

@@ -16,7 +16,7 @@ use lib.ListN.{length, take, length-append}
 use lib.Seq.{take-all, take-append-le}
 use Rattle.complexes.specs.Complex.{vertexBound}
 use Rattle.complexes.specs.Packed.{wordVertices, packed}
-use Rattle.complexes.specs.PackedLaws.{packed-append}
+use Rattle.complexes.proofs.PackedLaws.{packed-append}
 use Rattle.mesh_format.specs.Parse.{Parsed, malformed, parsed, then, gap, number, node, lineEnd, nodeNumbers}
 use Rattle.mesh_format.proofs.ReadLaws.{Within, parsed-inj, then-case, cond-split, then-within, later-within}
 use Rattle.mesh_format.proofs.StepLaws.{gap-within, node-within, nodeNumbers-step}

@@ -4,10 +4,10 @@ use mathlib.Core.Path.{_≡_, _∙_, ap}
 use mathlib.Core.List.{[], _∷_}
 use lib.IntN.{ℤ, pos, _+ℤ_, _-ℤ_, _*ℤ_}
 use lib.Signed.{_≤ℤ_, _<ℤ_, quotZ, remZ}
-use Rattle.integers.specs.Solve.{solve, terms}
-use Rattle.integers.specs.Floor.{modulo-is}
+use Rattle.integers.proofs.Solve.{solve, terms}
+use Rattle.integers.proofs.Floor.{modulo-is}
 use Rattle.integers.specs.Division.{modulo}
-use Rattle.integers.specs.Truncate.{quotZ-remZ, floor-quotZ, floor-quotZ-pred}
+use Rattle.integers.proofs.Truncate.{quotZ-remZ, floor-quotZ, floor-quotZ-pred}
 
 module _ (a d : ℤ) (positive : pos 0 <ℤ d) where
   abbrev q : ℤ

@@ -13,7 +13,7 @@ use lib.ListN.{length}
 use Rattle.matrices.specs.Matrix.{Eq}
 use Rattle.matrices.specs.Matrix as theory
 use Rattle.matrices.specs.Operation.{Operation, onRows, inverse}
-use Rattle.matrices.specs.OperationLaws.{onRows-ext, onColumns-ext}
+use Rattle.matrices.proofs.OperationLaws.{onRows-ext, onColumns-ext}
 use Rattle.matrices.specs.Within.{Within, Within-inverse}
 use Rattle.reduction_steps.specs.Table.{Table, entry, table, tableLargest}
 use Rattle.reduction_steps.specs.State.{State, made, tooWide, largest, noted, within, checked}

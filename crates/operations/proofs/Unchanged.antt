@@ -7,11 +7,11 @@ use Prim.Native.Nat.{ℕ, _<_, max}
 use native.Mathlib.Nat as NatL
 use native.Mathlib.Decide.{ℕ-discrete}
 use lib.IntN.{ℤ, pos, negℤ}
-use Rattle.integers.specs.Ring.{zero-mul, add-zero}
+use Rattle.integers.proofs.Ring.{zero-mul, add-zero}
 use Rattle.matrices.specs.Matrix.{transpose}
 use Rattle.matrices.specs.Matrix as theory
 use Rattle.matrices.specs.Operation.{Operation, subtract, swap, negate, onRows, onColumns, inverse}
-use Rattle.matrices.specs.OperationLaws.{onRows-subtract-at, onRows-subtract-other, onRows-swap-first, onRows-swap-other}
+use Rattle.matrices.proofs.OperationLaws.{onRows-subtract-at, onRows-subtract-other, onRows-swap-first, onRows-swap-other}
 use lib.ListN.{length}
 use Rattle.reduction_steps.specs.State.{made, onRow, onColumn}
 use Rattle.lines.specs.Slice.{entryLimit, Small, Under, Bounded}

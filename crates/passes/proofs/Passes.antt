@@ -14,7 +14,7 @@ use Rattle.integers.specs.Division.{floor}
 use Rattle.matrices.specs.Matrix as theory
 use Rattle.matrices.specs.Matrix.{transpose}
 use Rattle.matrices.specs.Operation.{subtract, onRows, onColumns}
-use Rattle.matrices.specs.OperationLaws.{onRows-subtract-other}
+use Rattle.matrices.proofs.OperationLaws.{onRows-subtract-other}
 use Rattle.reduction_steps.specs.Table.{entry}
 use Rattle.reduction_steps.specs.State.{Sizes, State, Outcome, tooWide, made, andThen, onRow, onColumn}
 use Rattle.reduction_steps.specs.Step.{quotient, rowPass, columnPass}
@@ -24,7 +24,7 @@ use Rattle.lines.specs.Slice.{entryLimit, at, lineAt, Under, FirstNonzero}
 use Rattle.lines.specs.Matrices.{contents}
 use Rattle.operations.specs.Laid.{Laid, sizesOf, stateOf}
 use Rattle.operations.specs.declared.layout.Layout.{Layout}
-use Rattle.integers.specs.Floor.{floor-zero}
+use Rattle.integers.proofs.Floor.{floor-zero}
 use Rattle.operations.proofs.Unchanged.{columns-unchanged}
 use Rattle.operations.proofs.Side.{shaped-state}
 use Rattle.refusal.specs.declared.Refusal.the-variants as Refusal

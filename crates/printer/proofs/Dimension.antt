@@ -13,12 +13,12 @@ use Rattle.sheet_format.specs.SheetLaws.{count-sectionsOf}
 use Rattle.refusal.specs.declared.Refusal.{Refusal}
 use Rattle.refusal.specs.Number.{numberOf}
 use Rattle.lists.specs.Splice.{splices}
-use Rattle.lists.specs.SplicesLaws.{splices-single}
+use Rattle.lists.proofs.SplicesLaws.{splices-single}
 use Rattle.trials.specs.Trial.{first, Called}
 use Rattle.reduction_steps.specs.State.{State}
 use Rattle.reports.specs.Report as reports
 use Rattle.reports.specs.Report.{kind, reported, torsionCount, reportList}
-use Rattle.reports.specs.ReportLaws.{length-coordinateList}
+use Rattle.reports.proofs.ReportLaws.{length-coordinateList}
 use Rattle.requests.specs.Question as question
 use Rattle.requests.specs.Question.{Question, asked, cellCount, two}
 use Rattle.requests.specs.Call as requests
@@ -27,9 +27,9 @@ use Rattle.requests.specs.CallLaws.{with-done}
 use Rattle.limits.specs.Limits.{hostLimit}
 use Rattle.host_calls.specs.HostCallLaws.{reportRoom, workRoom}
 use Rattle.program_text.specs.Text.{refusalLine, dimensionText, reportText}
-use Rattle.program_text.specs.TextLaws.{reportText-reportList}
-use Rattle.answers.specs.Behind.{Behind}
-use Rattle.answers.specs.HostSizes.{ReportSized, WentWide, report-sized, accepted-passes, accepted-refused}
+use Rattle.program_text.proofs.TextLaws.{reportText-reportList}
+use Rattle.answers.proofs.Behind.{Behind}
+use Rattle.answers.proofs.HostSizes.{ReportSized, WentWide, report-sized, accepted-passes, accepted-refused}
 use Rattle.text.specs.Put.{PutsWithin}
 use Rattle.text.specs.Room.{lineRoom, dimensionRoom}
 use Rattle.text.specs.PutLaws.{within-more}

@@ -9,8 +9,8 @@ use lib.IntN.{ℤ, pos, natAbs}
 use lib.ListN.{length, replicate}
 use Rattle.reduction_steps.specs.Pivot.{Choice, none, place, Rule, IsRule}
 use Rattle.reduction_steps.specs.Step.{Letter, Machine, at, Ended}
-use Rattle.reduction_laws.specs.Run.{reaches-refl, reaches-trans}
-use Rattle.reduction_laws.specs.Ends.{reaches-reduce}
+use Rattle.reduction_laws.proofs.Run.{reaches-refl, reaches-trans}
+use Rattle.reduction_laws.proofs.Ends.{reaches-reduce}
 use Rattle.lines.specs.Slice.{entryLimit, Under}
 use Rattle.refusal.specs.declared.Refusal.{Refusal}
 use Rattle.operations.specs.Laid.{Laid, sizesOf, stateOf}

@@ -11,12 +11,12 @@ use native.Mathlib.Omega.{arith}
 use lib.IntN.{ℤ, pos, negsuc, natAbs}
 use lib.ListN.{length, replicate}
 use Rattle.integers.specs.Division.{_∣ℤ_}
-use Rattle.integers.specs.Floor.{dvd-iff-modulo, natAbs-modulo}
+use Rattle.integers.proofs.Floor.{dvd-iff-modulo, natAbs-modulo}
 use Rattle.matrices.specs.Operation.{subtract}
 use Rattle.reduction_steps.specs.State.{Outcome, tooWide, made, onRow}
 use Rattle.reduction_steps.specs.Pivot.{Choice, none, place, Rule, IsRule, Least}
 use Rattle.reduction_steps.specs.Step.{Letter, Machine, at, wide, columnKeeps, rowKeeps, firstIndivisible, Row, noRow, row}
-use Rattle.reduction_laws.specs.Run.{reaches-refl, reaches-next, reaches-trans}
+use Rattle.reduction_laws.proofs.Run.{reaches-refl, reaches-next, reaches-trans}
 use Rattle.reduction_laws.specs.Shape.{Shaped}
 use Rattle.reduction_laws.specs.Steps.{step-a-none, step-a-wide, step-a-made, step-c-wide, step-c-made, step-d-wide, step-d-made, step-e-none, step-e-wide, step-e-made}
 use Rattle.reduction_laws.specs.Scans.{FirstRow, firstIndivisible-row}

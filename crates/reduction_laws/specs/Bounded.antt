@@ -6,7 +6,7 @@ use native.Mathlib.Omega.{arith}
 use native.Mathlib.Decide.{decLt}
 use lib.IntN.{pos}
 use Rattle.matrices.specs.Matrix.{Matrix, transpose}
-use Rattle.matrices.specs.Product.{matrix-ext}
+use Rattle.matrices.proofs.Product.{matrix-ext}
 use Rattle.matrices.specs.Operation.{Operation, onRows, onColumns}
 use Rattle.matrices.specs.Within.{Within}
 use Rattle.reduction_steps.specs.Table.{entry, table}

@@ -8,11 +8,11 @@ use Prim.Native.Nat.{ℕ, zero, suc, _+_, _≤_, _<_}
 use native.Mathlib.Omega.{arith}
 use lib.IntN.{ℤ, pos, negsuc, negℤ, natAbs}
 use lib.Signed.{_<ℤ_, nonNeg}
-use Rattle.integers.specs.Order.{lt-pos}
+use Rattle.integers.proofs.Order.{lt-pos}
 use Rattle.matrices.specs.Matrix.{Matrix, transpose}
 use Rattle.matrices.specs.Operation.{Operation, swap, negate, onRows, onColumns}
 use Rattle.matrices.specs.Within.{Within}
-use Rattle.matrices.specs.OperationLaws.{onRows-swap-second, onRows-negate-at}
+use Rattle.matrices.proofs.OperationLaws.{onRows-swap-second, onRows-negate-at}
 use Rattle.reduction_steps.specs.Table.{entry}
 use Rattle.reduction_steps.specs.State.{Sizes, State, made, within, andThen, onRow, onColumn}
 use Rattle.reduction_steps.specs.Step.{positive, bring, quotient, rowPass, columnPass}

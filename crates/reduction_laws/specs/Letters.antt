@@ -10,13 +10,13 @@ use Prim.Native.Nat.{ℕ, suc, _+_, _-_, _≤_, _<_}
 use native.Mathlib.Omega.{arith}
 use lib.IntN.{ℤ, pos, negsuc, natAbs, _+ℤ_, _-ℤ_, _*ℤ_}
 use lib.Signed.{_<ℤ_}
-use Rattle.integers.specs.Ring as Ring
-use Rattle.integers.specs.Solve.{solve, terms}
+use Rattle.integers.proofs.Ring as Ring
+use Rattle.integers.proofs.Solve.{solve, terms}
 use Rattle.integers.specs.Division.{_∣ℤ_, modulo}
-use Rattle.integers.specs.Floor.{natAbs-modulo}
+use Rattle.integers.proofs.Floor.{natAbs-modulo}
 use Rattle.matrices.specs.Matrix.{Matrix, transpose}
 use Rattle.matrices.specs.Operation.{subtract, onRows}
-use Rattle.matrices.specs.OperationLaws.{onRows-subtract-at, onRows-subtract-other}
+use Rattle.matrices.proofs.OperationLaws.{onRows-subtract-at, onRows-subtract-other}
 use Rattle.reduction_steps.specs.Table.{entry}
 use Rattle.reduction_steps.specs.State.{Sizes, State, made, onRow}
 use Rattle.reduction_steps.specs.Pivot.{Least}

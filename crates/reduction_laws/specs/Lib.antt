@@ -1,6 +1,5 @@
 -- Laws of the reduction: it ends, it leaves a Smith normal form with right companions, and at which other entry limits it is done as well.
 pub mod Tables
-pub mod Run
 pub mod Steps
 pub mod StageLaws
 pub mod Bounded
@@ -8,18 +7,6 @@ pub mod LinesLaws
 pub mod Shape
 pub mod Scans
 pub mod Moves
-pub mod Peaks
 pub mod Pass
-pub mod Done
 pub mod Led
-pub mod Tracked
-pub mod Leading
 pub mod Letters
-pub mod Stage
-pub mod Views
-pub mod Reached
-pub mod Descent
-pub mod Ends
-pub mod OtherLimit
-pub mod LeastLimit
-pub mod SmithForm

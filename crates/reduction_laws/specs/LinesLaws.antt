@@ -10,7 +10,7 @@ use lib.Dec.{eqb}
 use lib.IntN.{ℤ, pos, negℤ, _-ℤ_, _*ℤ_}
 use lib.ListN.{getD}
 use Rattle.lists.specs.Tabulate.{tabulate}
-use Rattle.lists.specs.TabulateLaws.{getD-tabulate, getD-tabulate-beyond, tabulate-ext, set-tabulate, map-tabulate}
+use Rattle.lists.proofs.TabulateLaws.{getD-tabulate, getD-tabulate-beyond, tabulate-ext, set-tabulate, map-tabulate}
 use Rattle.matrices.specs.Matrix.{Matrix}
 use Rattle.matrices.specs.Operation.{Operation, subtract, swap, negate, onRows, onColumns}
 use Rattle.reduction_steps.specs.Table.{Table, entry, table}

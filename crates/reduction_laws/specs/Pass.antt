@@ -6,11 +6,11 @@ use Prim.Native.Nat.{ℕ, zero, suc, _+_, _≤_, _<_}
 use native.Mathlib.Omega.{arith}
 use native.Mathlib.Decide.{ℕ-discrete}
 use lib.IntN.{_-ℤ_, _*ℤ_}
-use Rattle.integers.specs.Floor.{modulo-is}
+use Rattle.integers.proofs.Floor.{modulo-is}
 use Rattle.integers.specs.Division.{floor, modulo}
 use Rattle.matrices.specs.Matrix.{Matrix}
 use Rattle.matrices.specs.Operation.{Operation, subtract, onRows}
-use Rattle.matrices.specs.OperationLaws.{onRows-subtract-at, onRows-subtract-other}
+use Rattle.matrices.proofs.OperationLaws.{onRows-subtract-at, onRows-subtract-other}
 
 -- the operation that clears the entry of row i in column k
 unfoldable pub clearing : ℕ → ℕ → Matrix → Operation

@@ -9,8 +9,8 @@ use native.Mathlib.Decide.{ℕ-discrete}
 use borrow.Author.Tests.{eqb-true, eqb-false, not-true, not-false}
 use lib.Dec.{T, eqb}
 use lib.IntN.{ℤ, pos, natAbs}
-use Rattle.integers.specs.Order.{natAbs-zero}
-use Rattle.integers.specs.Divides.{divides-dvd, dvd-divides}
+use Rattle.integers.proofs.Order.{natAbs-zero}
+use Rattle.integers.proofs.Divides.{divides-dvd, dvd-divides}
 use Rattle.integers.specs.Division.{_∣ℤ_, divides}
 use Rattle.matrices.specs.Matrix.{Matrix}
 use Rattle.reduction_steps.specs.Step.{columnKeeps, rowKeeps, rowIndivisible, firstIndivisible, Row, noRow, row}

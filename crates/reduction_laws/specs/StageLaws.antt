@@ -7,12 +7,12 @@ use Prim.Native.Nat.{ℕ, zero, _≤_, _<_}
 use native.Mathlib.Omega.{arith}
 use native.Mathlib.Decide.{ℕ-discrete, decLt}
 use lib.IntN.{ℤ, pos}
-use Rattle.integers.specs.Divides.{dvd-sub, dvd-mul, dvd-neg, dvd-refl, zero-dvd}
+use Rattle.integers.proofs.Divides.{dvd-sub, dvd-mul, dvd-neg, dvd-refl, zero-dvd}
 use Rattle.integers.specs.Division.{_∣ℤ_}
 use Rattle.matrices.specs.Matrix.{Matrix, transpose}
 use Rattle.matrices.specs.Operation.{Operation, subtract, swap, negate, onRows, onColumns}
 use Rattle.matrices.specs.Within.{Within}
-use Rattle.matrices.specs.OperationLaws.{onRows-subtract-at, onRows-subtract-other, onRows-swap-first, onRows-swap-second, onRows-swap-other, onRows-negate-at, onRows-negate-other}
+use Rattle.matrices.proofs.OperationLaws.{onRows-subtract-at, onRows-subtract-other, onRows-swap-first, onRows-swap-second, onRows-swap-other, onRows-negate-at, onRows-negate-other}
 
 -- ---- operations with indices from k on
 

@@ -12,7 +12,7 @@ use borrow.Author.Tests.{leb-true, le-leb}
 use lib.IntN.{ℤ, pos, natAbs}
 use lib.ListN.{getD}
 use Rattle.lists.specs.Tabulate.{tabulate}
-use Rattle.lists.specs.TabulateLaws.{getD-tabulate, getD-tabulate-beyond, tabulate-ext}
+use Rattle.lists.proofs.TabulateLaws.{getD-tabulate, getD-tabulate-beyond, tabulate-ext}
 use Rattle.matrices.specs.Matrix.{Matrix, Eq}
 use Rattle.reduction_steps.specs.Table.{Table, entry, table, rowLargest, tableLargest, tableWithin}
 

@@ -5,6 +5,4 @@ pub mod Lines
 pub mod State
 pub mod Pivot
 pub mod Step
-pub mod Scan
-pub mod PivotLaws
 pub mod Examples

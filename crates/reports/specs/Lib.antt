@@ -2,9 +2,7 @@
 -- the coordinates"; document 02, Notes 4 and 5. The files named `Laws` say what the definitions come to; `ReportExamples` and `Examples` hold them to numbers.
 pub mod Reductions
 pub mod Report
-pub mod BitsLaws
 pub mod ReductionsLaws
-pub mod ReportLaws
 pub mod ReportExamples
 pub mod WideEnd
 pub mod Examples

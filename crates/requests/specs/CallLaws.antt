@@ -10,7 +10,7 @@ use native.Mathlib.Nat.{suc-ne-zero}
 use native.Mathlib.Omega.{arith}
 use lib.IntN.{ℤ}
 use Rattle.trials.specs.Trial.{first, Called, done, refused, numberTold, cleared, concluded}
-use Rattle.trials.specs.TrialLaws.{refused≢done}
+use Rattle.trials.proofs.TrialLaws.{refused≢done}
 use Rattle.reduction_steps.specs.State.{State}
 use Rattle.reports.specs.Reductions.{Reductions, tooWide, reduced}
 use Rattle.reports.specs.Report.{Counts, countsOf}

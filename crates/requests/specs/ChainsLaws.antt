@@ -25,7 +25,7 @@ use Rattle.complexes.specs.Boundary.{countBelow}
 use Rattle.trials.specs.Trial.{first}
 use Rattle.sheet_format.specs.Check.{some}
 use Rattle.sheet_format.specs.CheckLaws.{some-false}
-use Rattle.trials.specs.FirstLaws.{absent, absent-append, orElse, first-zero, first-append}
+use Rattle.trials.proofs.FirstLaws.{absent, absent-append, orElse, first-zero, first-append}
 use Rattle.requests.specs.Chains.{chainAt, coefficientExceeds, boundaryNotZero, cycleChecks, cyclesChecks, chainsChecks, FirstFault}
 
 pub coefficients-iff : (limit : ℕ) (z : List ℤ) → (coefficientExceeds limit z ≡ false) ↔ ((i : ℕ) → natAbs (getD z i (pos 0)) ≤ limit)

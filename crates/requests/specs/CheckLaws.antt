@@ -11,7 +11,7 @@ use Prim.Native.Nat.{ℕ, _≤_}
 use borrow.Author.Tests.{ltb-false, le-ltb}
 use lib.Dec.{ltb}
 use Rattle.trials.specs.Trial.{first}
-use Rattle.trials.specs.FirstLaws.{first-zero, first-append-told, first-append-passed, first-append-zero}
+use Rattle.trials.proofs.FirstLaws.{first-zero, first-append-told, first-append-passed, first-append-zero}
 use Rattle.sheet_format.specs.Layout.{top}
 use Rattle.sheet_format.specs.Check.{sheetChecks, refusal}
 use Rattle.requests.specs.Question.{Question}

@@ -16,7 +16,7 @@ use lib.Seq.{take-all}
 use lib.IntN.{ℤ}
 use Rattle.limits.specs.Limits.{entryLimit, coefficientLimit}
 use Rattle.lists.specs.Splice.{splices}
-use Rattle.lists.specs.SplicesLaws.{splices-nothing}
+use Rattle.lists.proofs.SplicesLaws.{splices-nothing}
 use Rattle.trials.specs.Trial.{first, done, cleared}
 use Rattle.reduction_steps.specs.State.{State}
 use Rattle.reports.specs.Reductions.{Reductions, tooWide, reduced, noTransforms}

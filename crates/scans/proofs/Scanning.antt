@@ -9,7 +9,7 @@ use native.Mathlib.Numerals.{add-one}
 use lib.IntN.{ℤ, pos, negsuc, natAbs}
 use Rattle.matrices.specs.Matrix.{Matrix}
 use Rattle.reduction_steps.specs.Pivot.{Choice, none, place, better, alongRow, downRows}
-use Rattle.reduction_steps.specs.PivotLaws.{alongRow-one, downRows-one}
+use Rattle.reduction_steps.proofs.PivotLaws.{alongRow-one, downRows-one}
 use Rattle.lines.specs.Slice.{at, lineAt, FirstNonzero}
 use Rattle.lines.specs.Matrices.{contents}
 use Rattle.lines.specs.declared.matrix.Matrix as lines

@@ -16,15 +16,15 @@ use lib.Signed.{_<ℤ_, remZ}
 use mir.Syntax.{w64}
 use mir.Val.{SFits, ofZ}
 use mir.Facts.{toZ-ofZ}
-use Rattle.integers.specs.Order.{natAbs-zero}
+use Rattle.integers.proofs.Order.{natAbs-zero}
 use Rattle.integers.specs.Division.{divides}
-use Rattle.integers.specs.Truncate.{natAbs-remZ}
+use Rattle.integers.proofs.Truncate.{natAbs-remZ}
 use Rattle.matrices.specs.Matrix.{Matrix}
 use Rattle.lines.specs.Slice.{at, lineAt, FirstNonzero}
 use Rattle.lines.specs.Matrices.{contents}
 use Rattle.lines.specs.declared.matrix.Matrix as lines
 use Rattle.words.specs.Read.{read, of-bits}
-use Rattle.words.specs.Division.{remainder-zero, zero-remainder}
+use Rattle.words.proofs.Division.{remainder-zero, zero-remainder}
 use Rattle.scans.specs.Scan.{ColumnReduced}
 use Rattle.reduction_steps.specs.Step.{columnKeeps, rowKeeps, rowIndivisible, noRow, row, firstIndivisible}
 

@@ -11,7 +11,7 @@ use Rattle.limits.specs.Limits.{libraryLimit}
 use Rattle.trials.specs.Trial.{first}
 use Rattle.sheet_format.specs.Check.{sheetChecks, refusal}
 use Rattle.sheet_format.specs.Sheet.{Bytes, IsSheet}
-use Rattle.sheet_format.specs.Accept.{accepted-iff}
+use Rattle.sheet_format.proofs.Accept.{accepted-iff}
 use Rattle.refusal.specs.Number.{numberOf}
 use Rattle.refusal.specs.declared.Refusal.{Refusal}
 use Rattle.refusal.specs.NumberLaws.{number-positive}

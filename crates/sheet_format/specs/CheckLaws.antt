@@ -15,10 +15,10 @@ use lib.ListN.{length}
 use borrow.Author.Tests.{ltb-false, le-ltb, eqb-true, eq-eqb, not-false}
 use Rattle.complexes.specs.Cell.{Cell, without, rises, precedes, listed, Listed}
 use Rattle.complexes.specs.Complex.{Sections, section, count, cell}
-use Rattle.complexes.specs.CellLaws.{listed-true, Listed-listed}
+use Rattle.complexes.proofs.CellLaws.{listed-true, Listed-listed}
 use Rattle.sheet_format.specs.Layout.{top, headerLength}
 use Rattle.sheet_format.specs.Check.{countField, offsetField, startAt, sectionsOf, some, sheetChecks, refusal, tooShort, countExceeds, offsetDiffers, lengthDiffers, verticesDoNotRise, cellsDoNotRise, faceMissing}
-use Rattle.trials.specs.FirstLaws.{first-zero}
+use Rattle.trials.proofs.FirstLaws.{first-zero}
 
 -- ---- some
 

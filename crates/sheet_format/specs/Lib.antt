@@ -4,9 +4,5 @@ pub mod Check
 pub mod Sheet
 pub mod CheckLaws
 pub mod SheetLaws
-pub mod Pieces
-pub mod LayoutLaws
-pub mod Accept
 pub mod OrderCases
 pub mod Starred
-pub mod Prefix

@@ -16,7 +16,7 @@ use Rattle.complexes.specs.Complex.{Sections, section, count, cell}
 use Rattle.sheet_format.specs.Layout.{top, headerLength, start, vertexNumbers}
 use Rattle.sheet_format.specs.Check.{fieldAt, countField, startAt, cellOf, cellsOf, sectionsOf}
 use Rattle.sheet_format.specs.Sheet.{Bytes}
-use Rattle.lists.specs.TabulateLaws.{length-tabulate, getD-tabulate}
+use Rattle.lists.proofs.TabulateLaws.{length-tabulate, getD-tabulate}
 
 -- ---- the counts
 

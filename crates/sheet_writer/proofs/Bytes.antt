@@ -17,7 +17,7 @@ use Rattle.lists.specs.SpliceLaws.{splice-splice}
 use Rattle.complexes.specs.Cell.{Cell}
 use Rattle.complexes.specs.Complex.{Sections, section, count}
 use Rattle.sheet_format.specs.Layout.{top, headerLength, field, cellBytes, sectionBytes, sectionsBytes, start, headerBytes, layout, longest}
-use Rattle.sheet_format.specs.LayoutLaws.{length-headerBytes, length-sectionBytes}
+use Rattle.sheet_format.proofs.LayoutLaws.{length-headerBytes, length-sectionBytes}
 use Rattle.sheet_format.specs.SheetLaws.{count-beyond, start-mono, start-le}
 use Rattle.cell_sets.specs.Set.{Holds}
 use Rattle.sheet_writer.specs.Write.{countOf, Small}

@@ -13,7 +13,7 @@ use mir.Syntax.{w64}
 use mir.Facts.{toZ-ofZ}
 use Rattle.words.specs.Read.{read}
 use Rattle.program_text.specs.Text.{decimal, spaced}
-use Rattle.program_text.specs.TextLaws.{spaced-suc}
+use Rattle.program_text.proofs.TextLaws.{spaced-suc}
 use Rattle.text.specs.Put.{Puts, PutsWithin}
 use Rattle.text.specs.Room.{numberRoom, fieldRoom}
 use Rattle.text.specs.PutLaws.{within-nothing, within-length, within-append, within-more, within-next}

@@ -12,7 +12,7 @@ use lib.Seq.{drop-drop}
 use lib.IntN.{ℤ, pos}
 use Rattle.limits.specs.Limits.{hostLimit}
 use Rattle.program_text.specs.Text.{line, generatorsText, reportText}
-use Rattle.program_text.specs.TextLaws.{generatorsText-suc}
+use Rattle.program_text.proofs.TextLaws.{generatorsText-suc}
 use Rattle.text.specs.Put.{PutsWithin}
 use Rattle.text.specs.Room.{lineRoom, headingRoom, generatorRoom, dimensionRoom}
 use Rattle.text.specs.PutLaws.{within-nothing, within-append, within-more, within-next}

@@ -2,8 +2,3 @@
 -- holds, and reading it. `Negate`, `Absolute`, `Product`, `Sum`, `Division`: what the operations of the code compute. `Tests`: the tests of a limit.
 pub mod Read
 pub mod Negate
-pub mod Absolute
-pub mod Product
-pub mod Sum
-pub mod Division
-pub mod Tests

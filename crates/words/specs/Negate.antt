@@ -7,8 +7,8 @@ use lib.IntN.{ℤ, pos, negsuc, negℤ, natAbs, _+ℤ_, _-ℤ_, +ℤ-one, negℤ
 use mir.Syntax.{Width, w64}
 use mir.Val.{SFits, hbits}
 use mir.Facts.{toZ-ofZ}
-use Rattle.integers.specs.Ring.{zero-add}
-use Rattle.integers.specs.Order.{natAbs-neg}
+use Rattle.integers.proofs.Ring.{zero-add}
+use Rattle.integers.proofs.Order.{natAbs-neg}
 use Rattle.limits.specs.Limits.{entryLimit}
 use Rattle.words.specs.Read.{read, sfits-below}
 

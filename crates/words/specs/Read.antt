@@ -10,7 +10,7 @@ use lib.Signed.{_<ℤ_, mag}
 use mir.Syntax.{Width, w32, w64}
 use mir.Val.{SFits, ofZ, toZ, hbits}
 use mir.Facts.{toZ-ofZ, toZ-pos, sfits-widen}
-use Rattle.integers.specs.Order.{pos-lt}
+use Rattle.integers.proofs.Order.{pos-lt}
 use Rattle.limits.specs.Limits.{entryLimit}
 
 abbrev pub read : Width → ℤ → ℤ

@@ -12,7 +12,7 @@ use lib.ListN.{length, length-append}
 use lib.IntN.{ℤ, pos, natAbs}
 use lib.Signed.{_≤ℤ_}
 use borrow.Author.Tests.{ne-eqb}
-use Rattle.integers.specs.Order.{nonneg-is}
+use Rattle.integers.proofs.Order.{nonneg-is}
 use Rattle.lists.specs.Tabulate.{tabulate}
 use Rattle.reduction_steps.specs.Table.{Table, entry}
 use Rattle.reports.specs.Report.{reported, columnsOf}

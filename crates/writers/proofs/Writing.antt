@@ -12,7 +12,7 @@ use lib.Signed.{_≤ℤ_}
 use Rattle.lists.specs.Splice.{splice}
 use Rattle.lists.specs.SpliceLaws.{splice-nil, splice-zero, splice-set, splice-splice, length-splice}
 use Rattle.reports.specs.Report.{reported}
-use Rattle.reports.specs.ReportLaws.{length-reported-le}
+use Rattle.reports.proofs.ReportLaws.{length-reported-le}
 use Rattle.lists.specs.Splice.{written}
 use Rattle.writers.specs.Written.{WrittenFrom}
 use Rattle.writers.proofs.Rows.{reported-one, reported-other, blocks, blocks-snoc, length-blocks}

@@ -7,7 +7,7 @@ use denote.Ref.{now}
 use lib.ListN.{length}
 use Rattle.requests.specs.Question.{asked}
 use Rattle.host_calls.specs.HostCallLaws.{reportRoom}
-use Rattle.answers.specs.HostSizes.{ReportSized}
+use Rattle.answers.proofs.HostSizes.{ReportSized}
 use Rattle.writers.specs.declared.reduced.Counts.{Counts}
 use Rattle.calls.specs.Answer.{countsIn}
 use Rattle.fildwuk.proofs.Through.{Lent, lend, lent-length, slots, size, writable, report-refuses, report-sizes, report-room, report-writes}

@@ -11,7 +11,7 @@ use lib.IntN.{ℤ, pos}
 use mir.Syntax.{w32}
 use mir.Facts.{toZ-ofZ}
 use Rattle.lists.specs.Tabulate.{tabulate}
-use Rattle.lists.specs.TabulateLaws.{length-tabulate, getD-tabulate}
+use Rattle.lists.proofs.TabulateLaws.{length-tabulate, getD-tabulate}
 use Rattle.host_calls.specs.Bytes.{coefficientIn}
 use Rattle.little_endian.proofs.read_chain.Statement.{statement}
 use Rattle.little_endian.proofs.read_chain.Tie as tie

@@ -10,7 +10,7 @@ use lib.Seq.{paste, paste-zero, paste-suc, length-paste, drop-drop, getD-drop, t
 use lib.IntN.{ℤ, pos, negsuc}
 use mir.Facts.{toZ-ofZ}
 use Rattle.host_calls.specs.Bytes.{lowBytes, numberBytes}
-use Rattle.host_calls.specs.BytesLaws.{length-lowBytes}
+use Rattle.host_calls.proofs.BytesLaws.{length-lowBytes}
 use Rattle.little_endian.specs.Bytes.{SameBits}
 use Rattle.little_endian.proofs.write_number.Statement.{statement}
 use Rattle.little_endian.proofs.write_number.Tie as tie

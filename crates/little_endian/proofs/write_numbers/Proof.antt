@@ -13,7 +13,7 @@ use mir.Facts.{toZ-ofZ}
 use Rattle.lists.specs.Splice.{splice}
 use Rattle.lists.specs.SpliceLaws.{splice-nil, length-splice, splice-splice}
 use Rattle.host_calls.specs.Bytes.{numberBytes, numbersBytes}
-use Rattle.host_calls.specs.BytesLaws.{length-numberBytes, length-numbersBytes, numbersBytes-snoc}
+use Rattle.host_calls.proofs.BytesLaws.{length-numberBytes, length-numbersBytes, numbersBytes-snoc}
 use Rattle.little_endian.proofs.write_numbers.Statement.{statement}
 use Rattle.little_endian.proofs.write_numbers.Tie as tie
 

@@ -8,7 +8,7 @@ use lib.ListN.{length}
 use Rattle.sheet_format.specs.Layout.{longest}
 use Rattle.limits.specs.Limits.{hostLimit}
 use Rattle.program_text.specs.Text.{programText}
-use Rattle.program_text.specs.TextLaws.{programText-take}
+use Rattle.program_text.proofs.TextLaws.{programText-take}
 use Rattle.text.specs.Put.{PutsWithin}
 use Rattle.text.specs.Room.{textRoom}
 use Rattle.printer.proofs.print_input.Statement.{statement}

@@ -7,7 +7,7 @@ use native.Mathlib.Omega.{arith}
 use denote.Ref.{now}
 use lib.ListN.{length, getD, set}
 use lib.IntN.{ℤ}
-use Rattle.integers.specs.Ring.{zero-add}
+use Rattle.integers.proofs.Ring.{zero-add}
 use Rattle.matrices.specs.Matrix.{null}
 use Rattle.complexes.specs.Complex.{count, cell, Complex}
 use Rattle.complexes.specs.Boundary.{sign, boundary}

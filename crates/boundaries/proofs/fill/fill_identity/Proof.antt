@@ -9,7 +9,7 @@ use native.Mathlib.Decide.{ℕ-discrete, decLt}
 use lib.ListN.{length, set}
 use lib.IntN.{ℤ, pos}
 use Rattle.matrices.specs.Matrix.{Eq, identity, null}
-use Rattle.matrices.specs.Product.{identity-at, identity-other}
+use Rattle.matrices.proofs.Product.{identity-at, identity-other}
 use Rattle.lines.specs.Matrices.{contents}
 use Rattle.lines.specs.declared.matrix.Matrix.{Matrix}
 use Rattle.lines.proofs.Operations.{upTo, upTo-below, upTo-from}

@@ -16,7 +16,7 @@ use Rattle.matrices.specs.Sum.{sum}
 use Rattle.complexes.specs.Boundary.{sign}
 use Rattle.lines.specs.Slice.{entryLimit, at, Small}
 use Rattle.words.specs.Read.{read, read-entry, entry-fits, cast-fits}
-use Rattle.words.specs.Sum.{term-fits, sum-fits, sum-is}
+use Rattle.words.proofs.Sum.{term-fits, sum-fits, sum-is}
 use Rattle.faces.proofs.Signs.{sign-unit}
 use Rattle.boundaries.proofs.Products.{signed, signed-sum-small}
 use Rattle.boundaries.proofs.product.line_product.Statement.{statement}

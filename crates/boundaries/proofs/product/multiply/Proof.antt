@@ -8,7 +8,7 @@ use native.Mathlib.Nat as NatL
 use native.Mathlib.Omega.{arith}
 use lib.ListN.{length}
 use lib.IntN.{ℤ, natAbs}
-use Rattle.matrices.specs.Product.{mul-ext-at}
+use Rattle.matrices.proofs.Product.{mul-ext-at}
 use Rattle.complexes.specs.Complex.{Sections, count, Complex}
 use Rattle.complexes.specs.Boundary.{boundary}
 use Rattle.sheet_format.specs.Layout.{top}

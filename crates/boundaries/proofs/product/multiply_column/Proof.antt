@@ -12,7 +12,7 @@ use lib.IntN.{ℤ, natAbs, _*ℤ_}
 use mir.Syntax.{w64}
 use mir.Facts.{toZ-ofZ, fits-lit}
 use Rattle.matrices.specs.Sum.{sum}
-use Rattle.matrices.specs.SumLaws.{sum-ext}
+use Rattle.matrices.proofs.SumLaws.{sum-ext}
 use Rattle.matrices.specs.Matrix as theory
 use Rattle.complexes.specs.Boundary.{sign}
 use Rattle.sheet_format.specs.Layout.{top}

@@ -14,7 +14,7 @@ use Rattle.complexes.specs.Complex.{count}
 use Rattle.trials.specs.Trial.{first, Called}
 use Rattle.reports.specs.Report as reports
 use Rattle.sheet_format.specs.Check.{sectionsOf}
-use Rattle.reduction_steps.specs.PivotLaws.{pivotRule-is-rule}
+use Rattle.reduction_steps.proofs.PivotLaws.{pivotRule-is-rule}
 use Rattle.requests.specs.Question.{asked}
 use Rattle.requests.specs.Question as question
 use Rattle.requests.specs.Chains.{chainAt, cyclesChecks}

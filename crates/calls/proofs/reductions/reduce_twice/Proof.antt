@@ -8,10 +8,10 @@ use denote.Ref.{now}
 use lib.IntN.{pos}
 use lib.ListN.{length, replicate}
 use Rattle.complexes.specs.Complex.{count}
-use Rattle.complexes.specs.ChainComplex.{ChainComplex}
+use Rattle.complexes.proofs.ChainComplex.{ChainComplex}
 use Rattle.sheet_format.specs.Check.{sectionsOf}
 use Rattle.limits.specs.Limits.{libraryLimit}
-use Rattle.reduction_steps.specs.PivotLaws.{pivotRule-is-rule}
+use Rattle.reduction_steps.proofs.PivotLaws.{pivotRule-is-rule}
 use Rattle.calls.specs.Admission.{SizesRead}
 use Rattle.calls.specs.Slices.{firstLayoutOf, secondLayoutOf, startPeak}
 use Rattle.calls.proofs.Sheet.{sheet-chains, cells-of, first-of, second-of}

@@ -3,7 +3,7 @@
 use mathlib.Core.Path.{_∙_}
 use borrow.Author.Needs.{needs}
 use denote.Ref.{now}
-use Rattle.reduction_steps.specs.PivotLaws.{pivotRule-is-rule}
+use Rattle.reduction_steps.proofs.PivotLaws.{pivotRule-is-rule}
 use Rattle.requests.specs.Question.{asked}
 use Rattle.calls.specs.declared.admission.Request.the-variants.{Report}
 use Rattle.calls.proofs.Admitting.{Lent, lengths, admit-refused, Granted, admit-granted, Reduces, twice-done, twice-refused}

@@ -11,7 +11,7 @@ use lib.ListN.{length, take, drop, take-append-drop}
 use lib.Seq.{take-suc, take-all}
 use denote.Ref.{now}
 use Rattle.lists.specs.Tabulate.{tabulate}
-use Rattle.lists.specs.TabulateLaws.{length-tabulate, getD-tabulate}
+use Rattle.lists.proofs.TabulateLaws.{length-tabulate, getD-tabulate}
 use Rattle.complexes.specs.Cell.{Cell, without, precedes}
 use Rattle.complexes.specs.Complex.{Sections, section}
 use Rattle.closures.specs.Closure.{elementTop}

@@ -10,7 +10,7 @@ use native.Mathlib.Omega.{arith}
 use lib.ListN.{length}
 use lib.Seq.{ext-getD}
 use denote.Ref.{now}
-use Rattle.lists.specs.TabulateLaws.{length-tabulate}
+use Rattle.lists.proofs.TabulateLaws.{length-tabulate}
 use Rattle.complexes.specs.Cell.{Cell, precedes}
 use Rattle.complexes.specs.Complex.{Sections, section}
 use Rattle.closures.specs.Insert.{insertAll}

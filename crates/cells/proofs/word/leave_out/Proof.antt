@@ -5,8 +5,8 @@ use Prim.Native.Nat.{ℕ, _+_, _*_, _/_, _%_, _≤_, _<_}
 use native.Mathlib.Nat.{mul-le-mul-right, div-le-self, div-add-mod', one-le-pow}
 use native.Mathlib.Omega.{arith}
 use Rattle.complexes.specs.Complex.{vertexBound}
-use Rattle.complexes.specs.FaceLaws.{length-without}
-use Rattle.complexes.specs.PackedLaws.{packed-without, numbered-without}
+use Rattle.complexes.proofs.FaceLaws.{length-without}
+use Rattle.complexes.proofs.PackedLaws.{packed-without, numbered-without}
 use Rattle.cells.proofs.word.leave_out.Statement.{statement}
 use Rattle.cells.proofs.word.leave_out.Tie as tie
 

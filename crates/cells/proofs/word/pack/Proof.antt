@@ -7,7 +7,7 @@ use native.Mathlib.Omega.{arith}
 use denote.Ref.{now}
 use Rattle.complexes.specs.Complex.{vertexBound}
 use Rattle.complexes.specs.Packed.{wordVertices, packed}
-use Rattle.complexes.specs.PackedLaws.{packed-take}
+use Rattle.complexes.proofs.PackedLaws.{packed-take}
 use Rattle.sheet_format.specs.Check.{cellOf}
 use Rattle.sheet_format.specs.Sheet.{Bytes}
 use Rattle.sheet_format.specs.SheetLaws.{length-cellOf, take-cellOf}

@@ -3,7 +3,7 @@ use borrow.Author.Needs.{needs}
 use Prim.Native.Nat.{_*_, _^_}
 use native.Mathlib.Nat.{one-mul, mod-eq-of-lt, pow-le-pow-right}
 use native.Mathlib.Omega.{arith}
-use Rattle.integers.specs.Power.{pow-mul}
+use Rattle.integers.proofs.Power.{pow-mul}
 use Rattle.complexes.specs.Complex.{vertexBound}
 use Rattle.cells.proofs.word.power.Statement.{statement}
 use Rattle.cells.proofs.word.power.Tie as tie

@@ -13,8 +13,8 @@ use lib.IntN.{ℤ, pos, natAbs, _+ℤ_, _*ℤ_}
 use mir.Syntax.{w64}
 use mir.Val.{SFits, toZ}
 use mir.Facts.{toZ-ofZ}
-use Rattle.integers.specs.Ring.{add-assoc, add-zero, mul-add, mul-zero}
-use Rattle.integers.specs.Order.{natAbs-add, natAbs-mul}
+use Rattle.integers.proofs.Ring.{add-assoc, add-zero, mul-add, mul-zero}
+use Rattle.integers.proofs.Order.{natAbs-add, natAbs-mul}
 use Rattle.complexes.specs.Complex.{count, cell, Complex}
 use Rattle.complexes.specs.Boundary.{sign}
 use Rattle.sheet_format.specs.Layout.{top}
@@ -22,7 +22,7 @@ use Rattle.sheet_format.specs.Check.{sectionsOf}
 use Rattle.limits.specs.Limits.{libraryLimit, coefficientLimit}
 use Rattle.lines.specs.Slice.{entryLimit}
 use Rattle.words.specs.Read.{read, sfits-below, read-wide}
-use Rattle.words.specs.Sum.{term-fits, sum-fits, sum-is}
+use Rattle.words.proofs.Sum.{term-fits, sum-fits, sum-is}
 use Rattle.faces.specs.Face.{IsFace}
 use Rattle.chains.specs.Sums.{Sums, AddsFaces}
 use Rattle.faces.proofs.Sheet.{complex}

@@ -17,23 +17,23 @@ use lib.IntN.{ℤ, pos, natAbs, _*ℤ_}
 use mir.Syntax.{w32, w64}
 use mir.Val.{SFits, ofZ}
 use mir.Facts.{toZ-ofZ}
-use Rattle.integers.specs.Ring.{mul-comm, mul-zero, add-zero}
-use Rattle.integers.specs.Order.{natAbs-mul, natAbs-zero}
+use Rattle.integers.proofs.Ring.{mul-comm, mul-zero, add-zero}
+use Rattle.integers.proofs.Order.{natAbs-mul, natAbs-zero}
 use Rattle.matrices.specs.Sum.{sum}
 use Rattle.matrices.specs.Vector.{apply}
 use Rattle.complexes.specs.Complex.{Sections, count}
 use Rattle.complexes.specs.Boundary.{countBelow, boundary}
-use Rattle.complexes.specs.ChainComplex.{ChainComplex}
+use Rattle.complexes.proofs.ChainComplex.{ChainComplex}
 use Rattle.sheet_format.specs.Layout.{top}
 use Rattle.sheet_format.specs.Check.{sectionsOf, some}
 use Rattle.sheet_format.specs.CheckLaws.{some-at, some-false}
 use Rattle.sheet_format.specs.SheetLaws.{count-sectionsOf}
-use Rattle.sheet_format.specs.Accept.{accepted-chains}
+use Rattle.sheet_format.proofs.Accept.{accepted-chains}
 use Rattle.requests.specs.Chains.{boundaryNotZero}
 use Rattle.limits.specs.Limits.{libraryLimit, coefficientLimit}
 use Rattle.words.specs.Read.{read, cast-fits, cast-is, zero-of-bits}
 use Rattle.chains.specs.Sums.{Sums, AddsFaces}
-use Rattle.matrices.specs.SumLaws.{natAbs-sum}
+use Rattle.matrices.proofs.SumLaws.{natAbs-sum}
 use Rattle.chains.proofs.chain.boundary_not_zero.Statement.{statement}
 use Rattle.chains.proofs.chain.boundary_not_zero.Tie as tie
 

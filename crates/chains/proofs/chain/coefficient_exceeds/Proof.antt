@@ -17,7 +17,7 @@ use mir.Val.{SFits}
 use Rattle.sheet_format.specs.CheckLaws.{some-at, some-false}
 use Rattle.requests.specs.Chains.{coefficientExceeds}
 use Rattle.words.specs.Negate.{opposite-fits}
-use Rattle.words.specs.Tests.{word-beyond-low, word-beyond-high, word-within}
+use Rattle.words.proofs.Tests.{word-beyond-low, word-beyond-high, word-within}
 use Rattle.chains.proofs.chain.coefficient_exceeds.Statement.{statement}
 use Rattle.chains.proofs.chain.coefficient_exceeds.Tie as tie
 

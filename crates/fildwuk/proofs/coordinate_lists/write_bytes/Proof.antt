@@ -12,7 +12,7 @@ use lib.IntN.{ℤ}
 use Rattle.lists.specs.Splice.{splice, splices}
 use Rattle.lists.specs.SpliceLaws.{take-splice-zero}
 use Rattle.reports.specs.Report.{kind}
-use Rattle.reports.specs.ReportLaws.{length-reported-le, length-coordinateList}
+use Rattle.reports.proofs.ReportLaws.{length-reported-le, length-coordinateList}
 use Rattle.host_calls.specs.Bytes.{numbersBytes}
 use Rattle.limits.specs.Limits.{hostLimit}
 use Rattle.writers.specs.Written.{stateIn}

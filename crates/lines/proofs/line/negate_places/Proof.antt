@@ -8,8 +8,8 @@ use native.Mathlib.Nat as NatL
 use borrow.Author.Needs.{needs}
 use lib.ListN.{length, set}
 use mir.Syntax.{w32}
-use Rattle.integers.specs.Ring.{zero-add}
-use Rattle.integers.specs.Order.{natAbs-neg}
+use Rattle.integers.proofs.Ring.{zero-add}
+use Rattle.integers.proofs.Order.{natAbs-neg}
 use mir.Val.{SFits}
 use lib.IntN.{ℤ, pos, negℤ, natAbs, _-ℤ_}
 use Rattle.lines.specs.Slice.{entryLimit, at, LineSet}

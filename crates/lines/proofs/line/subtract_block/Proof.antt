@@ -4,7 +4,7 @@ use lib.IntN.{ℤ, pos, _-ℤ_, _*ℤ_}
 use borrow.Author.Needs.{needs}
 use Prim.Native.Nat.{_+_}
 use Rattle.lines.specs.Slice.{block, at, Subtracted, difference}
-use Rattle.integers.specs.Ring.{mul-zero, add-zero}
+use Rattle.integers.proofs.Ring.{mul-zero, add-zero}
 use Rattle.words.specs.Read.{read-wide}
 use Rattle.lines.proofs.Peaks.{bounded-small}
 use Rattle.lines.proofs.Store.{lineSet-same}

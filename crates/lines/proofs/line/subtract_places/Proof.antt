@@ -16,7 +16,7 @@ use Rattle.lines.proofs.Peaks.{Raised, raised-by, raised-small}
 use Rattle.lines.proofs.Store.{lineSet-more}
 use Rattle.lines.proofs.Blocks.{Partly, begun, ended, factor-read}
 use Rattle.words.specs.Read.{read, read-entry, entry-fits, cast-fits}
-use Rattle.words.specs.Product.{product, less, product-fits, less-fits, read-less, less-small}
+use Rattle.words.proofs.Product.{product, less, product-fits, less-fits, read-less, less-small}
 use Rattle.lines.proofs.line.subtract_places.Statement.{statement}
 use Rattle.lines.proofs.line.subtract_places.Tie as tie
 

@@ -6,9 +6,9 @@ use lib.IntN.{ℤ, natAbs}
 use mir.Facts.{toZ-ofZ}
 use Rattle.limits.specs.Limits.{entryLimit}
 use Rattle.integers.specs.Division.{floor}
-use Rattle.integers.specs.Floor.{floor-zero, floor-one}
+use Rattle.integers.proofs.Floor.{floor-zero, floor-one}
 use Rattle.words.specs.Read.{of-bits, positive-bits}
-use Rattle.words.specs.Division.{quotient-fits, pred-fits, rounded-down, rounded-down-pred, floor-small}
+use Rattle.words.proofs.Division.{quotient-fits, pred-fits, rounded-down, rounded-down-pred, floor-small}
 use Rattle.numbers.proofs.quotient.quotient.Statement.{statement}
 use Rattle.numbers.proofs.quotient.quotient.Tie as tie
 

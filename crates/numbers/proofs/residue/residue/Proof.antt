@@ -7,9 +7,9 @@ use lib.Signed.{_≤ℤ_, _<ℤ_, ltZ, ltZ-yes, ltZ-no}
 use mir.Syntax.{w64}
 use mir.Val.{SFits, ofZ}
 use mir.Facts.{toZ-ofZ}
-use Rattle.integers.specs.Order.{lt-pos}
-use Rattle.integers.specs.Residue.{residue-zero}
-use Rattle.integers.specs.ResidueRemainder.{residue-lowered, residue-kept, natAbs-lack, natAbs-lowered}
+use Rattle.integers.proofs.Order.{lt-pos}
+use Rattle.integers.proofs.Residue.{residue-zero}
+use Rattle.integers.proofs.ResidueRemainder.{residue-lowered, residue-kept, natAbs-lack, natAbs-lowered}
 use Rattle.integers.specs.Division.{modulo, residue}
 use Rattle.words.specs.Read.{read, fits-below, zero-of-bits}
 use Rattle.numbers.proofs.residue.residue.Statement.{statement}

@@ -4,7 +4,7 @@ use mathlib.Core.Path.{_∙_}
 use native.Mathlib.Omega.{arith}
 use Prim.Native.Nat.{_+_}
 use Rattle.reduction_steps.specs.Pivot.{pivotRule}
-use Rattle.reduction_steps.specs.PivotLaws.{pivotRule-is-rule}
+use Rattle.reduction_steps.proofs.PivotLaws.{pivotRule-is-rule}
 use Rattle.reducer.proofs.Reductions.{Reducing, reducing-start, stagesLeft, reducing-next, next-less, reducing-again, again-less, reduced, reduction-refused}
 use Rattle.reducer.proofs.reduction.reduce_matrix.Statement.{statement}
 use Rattle.reducer.proofs.reduction.reduce_matrix.Tie as tie

@@ -10,7 +10,7 @@ use lib.ListN.{length, replicate}
 use borrow.Fn.Kinds.{In}
 use borrow.Fn.PlainCycle.{Measures, is, falls, and}
 use Rattle.reduction_steps.specs.Pivot.{place, pivotRule, Least}
-use Rattle.reduction_steps.specs.PivotLaws.{pivotRule-is-rule}
+use Rattle.reduction_steps.proofs.PivotLaws.{pivotRule-is-rule}
 use Rattle.reduction_steps.specs.Step.{Letter, at, row}
 use Rattle.lines.proofs.Peaks.{under-small}
 use Rattle.refusal.specs.declared.Refusal.the-variants.{TooWide}

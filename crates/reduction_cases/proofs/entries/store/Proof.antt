@@ -5,7 +5,7 @@ use mir.Syntax.{w32, w64}
 use borrow.Author.Needs.{needs}
 use Rattle.lines.specs.Slice.{entryLimit}
 use Rattle.words.specs.Read.{read, read-entry, entry-fits}
-use Rattle.words.specs.Tests.{within}
+use Rattle.words.proofs.Tests.{within}
 use Rattle.lines.proofs.Store.{small-set}
 use Rattle.reduction_cases.proofs.entries.store.Statement.{statement}
 use Rattle.reduction_cases.proofs.entries.store.Tie as tie

@@ -12,7 +12,7 @@ use mir.Val.{Fits, SFits}
 use mir.Facts.{toZ-ofZ}
 use borrow.Author.Needs.{needs}
 use borrow.Author.Tests.{ltb-true}
-use Rattle.integers.specs.Ring.{zero-add}
+use Rattle.integers.proofs.Ring.{zero-add}
 use Rattle.words.specs.Read.{read, cast-fits, cast-is}
 use Rattle.reduction_cases.proofs.print.print_number.Statement.{statement}
 use Rattle.reduction_cases.proofs.print.print_number.Tie as tie

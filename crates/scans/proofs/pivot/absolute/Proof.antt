@@ -3,7 +3,7 @@ use Prim.Native.Nat.{_^_, _<_}
 use native.Mathlib.Omega.{arith}
 use lib.IntN.{natAbs}
 use mir.Syntax.{w64}
-use Rattle.words.specs.Absolute.{absolute-below, absolute-above}
+use Rattle.words.proofs.Absolute.{absolute-below, absolute-above}
 use Rattle.words.specs.Negate.{negated-fits}
 use Rattle.scans.proofs.pivot.absolute.Statement.{statement}
 use Rattle.scans.proofs.pivot.absolute.Tie as tie

@@ -11,7 +11,7 @@ use Rattle.lists.specs.Splice.{splice}
 use Rattle.lists.specs.SpliceLaws.{splice-nil}
 use Rattle.complexes.specs.Cell.{Cell}
 use Rattle.sheet_format.specs.Layout.{field, cellBytes}
-use Rattle.sheet_format.specs.LayoutLaws.{length-cellBytes}
+use Rattle.sheet_format.proofs.LayoutLaws.{length-cellBytes}
 use Rattle.cells.specs.Word.{Packs}
 use Rattle.cell_sets.specs.Vertices.{VertexAt}
 use Rattle.sheet_writer.proofs.Bytes.{splice-behind, cellBytes-next}

@@ -9,7 +9,7 @@ use lib.ListN.{length, length-append}
 use Rattle.lists.specs.Splice.{splice}
 use Rattle.lists.specs.SpliceLaws.{splice-nil}
 use Rattle.sheet_format.specs.Layout.{top, field, start, headerBytes}
-use Rattle.sheet_format.specs.LayoutLaws.{length-headerBytes}
+use Rattle.sheet_format.proofs.LayoutLaws.{length-headerBytes}
 use Rattle.sheet_writer.specs.Write.{countOf}
 use Rattle.sheet_writer.proofs.Bytes.{splice-behind, header-next}
 use Rattle.sheet_writer.proofs.write.write_header.Statement.{statement}

@@ -14,7 +14,7 @@ use Rattle.lists.specs.SpliceLaws.{splice-nil}
 use Rattle.complexes.specs.Cell.{Cell}
 use Rattle.complexes.specs.Packed.{packed}
 use Rattle.sheet_format.specs.Layout.{cellBytes, sectionBytes}
-use Rattle.sheet_format.specs.LayoutLaws.{length-sectionBytes}
+use Rattle.sheet_format.proofs.LayoutLaws.{length-sectionBytes}
 use Rattle.closures.specs.Rising.{All, HasVertices}
 use Rattle.cells.specs.Word.{Packs}
 use Rattle.cell_sets.specs.Insert.{part}

@@ -9,7 +9,7 @@ use Rattle.lists.specs.Splice.{splice}
 use Rattle.lists.specs.SpliceLaws.{splice-zero}
 use Rattle.complexes.specs.Complex.{Sections, count}
 use Rattle.sheet_format.specs.Layout.{top, headerLength, sectionsBytes, headerBytes, layout}
-use Rattle.sheet_format.specs.LayoutLaws.{length-headerBytes}
+use Rattle.sheet_format.proofs.LayoutLaws.{length-headerBytes}
 use Rattle.cell_sets.specs.Set.{Holds}
 use Rattle.sheet_writer.specs.Write.{countOf}
 use Rattle.sheet_writer.proofs.Bytes.{splice-behind, counts-are, counts-small, header-fits}

@@ -5,7 +5,7 @@ use mathlib.Core.Path.{_≡_, sym, _∙_, ap}
 use native.Mathlib.Omega.{arith}
 use lib.ListN.{length}
 use Rattle.program_text.specs.Text.{digits}
-use Rattle.program_text.specs.DigitsLaws.{digits-small, digits-large, length-digits-large}
+use Rattle.program_text.proofs.DigitsLaws.{digits-small, digits-large, length-digits-large}
 use Rattle.text.specs.PutLaws.{puts-append}
 use borrow.Fn.Kinds.{In}
 use borrow.Fn.PlainCycle.{Measures, is, falls, and}

@@ -4,7 +4,7 @@ use mathlib.Core.Path.{ap}
 use native.Mathlib.Omega.{arith}
 use lib.ListN.{length}
 use borrow.Author.Needs.{needs}
-use Rattle.program_text.specs.DigitsLaws.{length-decimal}
+use Rattle.program_text.proofs.DigitsLaws.{length-decimal}
 use Rattle.text.specs.PutLaws.{puts-append}
 use Rattle.text.proofs.Size.{Negative, Positive, negative, positive}
 use Rattle.text.proofs.decimal.put_decimal.Statement.{statement}

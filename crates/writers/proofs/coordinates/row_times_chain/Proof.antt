@@ -13,10 +13,10 @@ use lib.IntN.{ℤ, pos, natAbs, _+ℤ_, _*ℤ_}
 use mir.Syntax.{w32, w64}
 use mir.Val.{SFits, toZ}
 use mir.Facts.{toZ-ofZ}
-use Rattle.integers.specs.Ring.{add-zero, mul-zero}
-use Rattle.integers.specs.Order.{natAbs-mul, natAbs-add}
+use Rattle.integers.proofs.Ring.{add-zero, mul-zero}
+use Rattle.integers.proofs.Order.{natAbs-mul, natAbs-add}
 use Rattle.matrices.specs.Sum.{sum}
-use Rattle.matrices.specs.SumLaws.{sum-ext}
+use Rattle.matrices.proofs.SumLaws.{sum-ext}
 use Rattle.matrices.specs.Vector.{apply}
 use Rattle.limits.specs.Limits.{libraryLimit, coefficientLimit}
 use Rattle.reduction_steps.specs.Table.{entry}

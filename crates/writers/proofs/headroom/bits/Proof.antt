@@ -1,7 +1,7 @@
 -- `headroom::bits` meets its contract. Assumes nothing.
 use native.Mathlib.Omega.{arith}
 use lib.Count.{leading-le}
-use Rattle.reports.specs.BitsLaws.{bits-leading}
+use Rattle.reports.proofs.BitsLaws.{bits-leading}
 use Rattle.writers.proofs.headroom.bits.Statement.{statement}
 use Rattle.writers.proofs.headroom.bits.Tie as tie
 

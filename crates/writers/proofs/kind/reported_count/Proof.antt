@@ -12,7 +12,7 @@ use lib.IntN.{ℤ}
 use mir.Syntax.{w64}
 use mir.Val.{ofZ}
 use Rattle.reports.specs.Report.{reported}
-use Rattle.reports.specs.ReportLaws.{length-reported-le}
+use Rattle.reports.proofs.ReportLaws.{length-reported-le}
 use Rattle.lines.specs.declared.matrix.Matrix.{Matrix}
 use Rattle.words.specs.Read.{of-bits}
 use Rattle.writers.specs.Written.{kindIn}

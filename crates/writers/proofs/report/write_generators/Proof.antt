@@ -11,7 +11,7 @@ use lib.IntN.{ℤ}
 use mir.Syntax.{w64}
 use mir.Val.{ofZ}
 use Rattle.lists.specs.Tabulate.{tabulate}
-use Rattle.lists.specs.TabulateLaws.{length-tabulate, tabulate-ext}
+use Rattle.lists.proofs.TabulateLaws.{length-tabulate, tabulate-ext}
 use Rattle.lists.specs.Splice.{splice}
 use Rattle.reduction_steps.specs.Table.{entry}
 use Rattle.reports.specs.Report.{reported}

@@ -10,7 +10,7 @@ use borrow.Author.Needs.{needs}
 use lib.ListN.{length, set}
 use lib.IntN.{ℤ}
 use Rattle.lists.specs.Tabulate.{tabulate}
-use Rattle.lists.specs.TabulateLaws.{length-tabulate}
+use Rattle.lists.proofs.TabulateLaws.{length-tabulate}
 use Rattle.lists.specs.Splice.{splice}
 use Rattle.lines.specs.Slice.{at}
 use Rattle.words.specs.Read.{cast-fits, cast-is}

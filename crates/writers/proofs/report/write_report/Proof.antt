@@ -11,7 +11,7 @@ use mir.Val.{SFits, toZ}
 use mir.Facts.{toZ-pos}
 use Rattle.reports.specs.Report as definition
 use Rattle.reports.specs.Report.{reported, columnsOf, torsionCount, reportList}
-use Rattle.reports.specs.ReportLaws.{length-reported-le}
+use Rattle.reports.proofs.ReportLaws.{length-reported-le}
 use Rattle.lists.specs.Splice.{written}
 use Rattle.operations.specs.Laid.{linesOf}
 use Rattle.writers.specs.Written.{kindIn, WrittenFrom, Counted, CanReport, WroteReport}

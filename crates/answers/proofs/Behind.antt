@@ -1,0 +1,112 @@
+-- What stands behind a call: on an accepted sheet the two reductions go too wide exactly as document 01 has it (two-wide), or they end and are right
+-- (behind, ends). There is one end only: ends-two.
+use mathlib.Core.Path.{_≡_, refl, sym, _∙_, ap, subst}
+use mathlib.Core.Logic.{_↔_}
+use mathlib.Core.Bool.{true}
+use Prim.Native.Nat.{ℕ, _≤_}
+use native.Mathlib.Omega.{arith}
+use Rattle.limits.specs.Limits.{entryLimit}
+use Rattle.trials.specs.Trial.{first}
+use Rattle.complexes.proofs.ChainComplex.{ChainComplex}
+use Rattle.sheet_format.specs.Sheet.{Bytes}
+use Rattle.sheet_format.proofs.Accept.{accepted-chains}
+use Rattle.reduction_steps.specs.State.{State, within}
+use Rattle.reduction_steps.specs.Step as machine
+use Rattle.reduction_steps.specs.Pivot.{IsRule}
+use Rattle.reduction_steps.proofs.PivotLaws.{pivotRule-is-rule}
+use Rattle.reports.specs.Reductions.{Reductions, noTransforms, tooWide, reduced, firstSizes, firstStart, secondSizes, secondStart, afterSecond, reductions}
+use Rattle.reports.specs.ReductionsLaws.{reductions-done, after-second}
+use Rattle.requests.specs.Question.{Question, cells, rule, two}
+use Rattle.requests.specs.Call.{Request, earlyChecks}
+use Rattle.requests.specs.CallLaws.{early-iff}
+use Rattle.answers.proofs.TwoReductions.{Right, reductions-right, reductions-within}
+use Rattle.answers.proofs.Headroom.{Headroom, no-transforms-bare, reductions-headroom}
+use Rattle.answers.proofs.WideLaws.{reaches-outcome, first-is, second-is, wide-iff}
+use Rattle.answers.proofs.LeastLimit.{AtLimit, reductions-limit}
+use Rattle.answers.specs.Outcome.{TooWide, EndsAt, Ends}
+
+-- what passes the early checks has a chain complex
+pub early-chains : (limit : ℕ) (q : Question) (request : Request) (output work : ℕ) → Bytes (q .sheet) → first (earlyChecks limit q request output work) ≡ 0
+    → ChainComplex limit (cells q)
+unfolding cells
+early-chains limit q request output work bytes e = accepted-chains limit (q .sheet) bytes (early-iff limit q request output work .0 e .0 .accepted)
+
+pub rule-is : (q : Question) → IsRule (rule q)
+unfolding rule
+rule-is q = pivotRule-is-rule
+
+-- two reductions that are right, with entries within their limit; their peak, and what they come to at other entry limits
+pub record Behind (q : Question) : Type 0 where
+  pub limit : ℕ
+  pub chains : ChainComplex limit (cells q)
+  pub rows : ℕ
+  pub rank : ℕ
+  pub state : State
+  pub reductions-are : two q ≡ reduced rows rank state
+  pub right : Right (cells q) (q .dimension) rows rank state
+  pub small : within entryLimit state ≡ true
+  pub headroom : Headroom entryLimit (cells q) (q .dimension) state
+  pub limits : (L : ℕ) → 1 ≤ L → AtLimit noTransforms (rule q) L (cells q) (q .dimension) rows rank state
+
+-- the machine comes to the end that the reductions give, at any entry limit
+pub ends-at : (q : Question) (s r : ℕ) (x : State) (L : ℕ) → reductions noTransforms (rule q) L (cells q) (q .dimension) ≡ reduced s r x → EndsAt L q s r x
+ends-at q s r x L e =
+    let d = reductions-done noTransforms (rule q) L (cells q) (q .dimension) s r x e in
+    record {
+      firstRank = d .firstRank;
+      firstState = d .firstState;
+      first = reaches-outcome L (rule q) (firstSizes noTransforms (cells q) (q .dimension)) (firstStart noTransforms (cells q) (q .dimension)) (machine.done (d .firstRank) (d .firstState)) (d .first);
+      narrow = d .narrow;
+      rows = d .rows;
+      second = reaches-outcome L (rule q) (secondSizes noTransforms (cells q) (q .dimension) (d .firstRank)) (secondStart noTransforms (cells q) (q .dimension) (d .firstRank) (d .firstState)) (machine.done r x) (d .second);
+    }
+
+module _ {limit : ℕ} (q : Question) (chains : ChainComplex limit (cells q)) where
+  pub two-wide : (two q ≡ tooWide) ↔ TooWide q
+  unfolding two
+  two-wide = wide-iff chains noTransforms (rule q) (rule-is q) entryLimit (q .dimension) (omega arith)
+
+  module _ (s r : ℕ) (x : State) where
+    pub two-right : two q ≡ reduced s r x → Right (cells q) (q .dimension) s r x
+    unfolding two
+    two-right e = reductions-right chains noTransforms (rule q) (rule-is q) entryLimit (q .dimension) (omega arith) s r x e
+
+    pub behind : two q ≡ reduced s r x → Behind q
+    unfolding two
+    behind e = record {
+      limit = limit;
+      chains = chains;
+      rows = s;
+      rank = r;
+      state = x;
+      reductions-are = e;
+      right = two-right e;
+      small = reductions-within chains noTransforms (rule q) (rule-is q) entryLimit (q .dimension) (omega arith) s r x e;
+      headroom = reductions-headroom chains noTransforms (rule q) (rule-is q) entryLimit (q .dimension) (omega arith) s r x e (no-transforms-bare (cells q) (q .dimension));
+      limits = reductions-limit chains noTransforms (rule q) (rule-is q) entryLimit (q .dimension) s r x e;
+    }
+
+    pub ends : two q ≡ reduced s r x → Ends q s r x
+    unfolding two
+    ends e = ends-at q s r x entryLimit e
+
+    pub ends-two : Ends q s r x → two q ≡ reduced s r x
+    unfolding two afterSecond
+    ends-two d =
+        let one : 1 ≤ entryLimit = omega arith in
+        let first = first-is chains noTransforms (rule q) (rule-is q) entryLimit (q .dimension) one (machine.done (d .firstRank) (d .firstState)) (d .first) tt in
+        let second = second-is chains noTransforms (rule q) (rule-is q) entryLimit (q .dimension) one (d .firstRank) (d .firstState) first (d .narrow) (machine.done r x) (d .second) tt in
+        after-second noTransforms (rule q) entryLimit (cells q) (q .dimension) (d .firstRank) (d .firstState) first (d .narrow) (machine.done r x) second
+        ∙ ap (λ (n : ℕ). reduced n r x) (sym (d .rows))
+
+-- what holds of two reductions that are done holds of them however they are found
+pub same-behind : {q : Question} (P : ℕ → ℕ → State → Type 0) (B D : Behind q) → P (B .rows) (B .rank) (B .state) → P (D .rows) (D .rank) (D .state)
+same-behind P B D = subst of (sym (B .reductions-are) ∙ D .reductions-are)
+  where
+    of : Reductions → Type 0
+    of tooWide = Unit {0}
+    of (reduced s r x) = P s r x
+
+-- the end that the machine comes to is what stands behind
+pub ends-reduced : {q : Question} (B : Behind q) {s r : ℕ} {x : State} → Ends q s r x → two q ≡ reduced s r x
+ends-reduced {q} B {s} {r} {x} e = ends-two q (B .chains) s r x e

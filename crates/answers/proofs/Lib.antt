@@ -1,0 +1,20 @@
+-- Laws that other crates cite.
+pub mod ReportedPlaces
+pub mod Starts
+pub mod TwoReductions
+pub mod KeptTransforms
+pub mod Headroom
+pub mod WideLaws
+pub mod LeastLimit
+pub mod ChainChecks
+pub mod Numbers
+pub mod ReportRight
+pub mod CoordinatesRight
+pub mod OnlyCoordinates
+pub mod Fits
+pub mod Behind
+pub mod ListLaws
+pub mod CallRight
+pub mod HostRight
+pub mod HostSizes
+pub mod ProgramText

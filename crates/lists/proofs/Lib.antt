@@ -1,0 +1,4 @@
+-- Laws that other crates cite.
+pub mod TabulateLaws
+pub mod SplicesLaws
+pub mod WrittenLaws

@@ -1,0 +1,4 @@
+-- Laws that other crates cite.
+pub mod DigitsLaws
+pub mod LineLaws
+pub mod TextLaws

@@ -1,0 +1,153 @@
+-- A sheet is accepted exactly when it holds a simplicial complex laid out as in document 01: demand 2, first half.
+--     accepted-iff        no refusal applies exactly when the bytes are the layout of a complex within the limit
+--     sections-layout, layout-sections, layout-injective     that complex is the one read from the bytes, and the only one
+--     accepted-complex    what is read from an accepted sheet is a complex
+--     accepted-chains     the cells that the calls work with make a chain complex
+use mathlib.Core.Path.{_≡_, sym, ap, _∙_, subst}
+use mathlib.Core.Logic.{_↔_}
+use mathlib.Core.List.{List, []}
+use Prim.Native.Nat.{ℕ, suc, _+_, _*_, _≤_, _<_}
+use native.Mathlib.Decide.{decLe}
+use native.Mathlib.Omega.{arith}
+use lib.ListN.{length, getD}
+use lib.Seq.{ext-getD}
+use Rattle.limits.specs.Limits.{libraryLimit}
+use Rattle.complexes.specs.Cell.{Cell}
+use Rattle.complexes.specs.Complex.{Sections, section, count, cell, Complex}
+use Rattle.complexes.proofs.ChainComplex.{ChainComplex, complex-chains}
+use Rattle.sheet_format.specs.Layout.{top, start, layout}
+use Rattle.sheet_format.specs.Check.{fieldAt, countField, startAt, cellOf, sectionsOf, refusal}
+use Rattle.sheet_format.specs.Sheet.{Bytes, IsSheet}
+use Rattle.sheet_format.specs.CheckLaws.{
+  Passes,
+  refusal-zero,
+  tooShort-false,
+  countExceeds-false,
+  offsetDiffers-false,
+  lengthDiffers-false,
+  verticesDoNotRise-false,
+  cellsDoNotRise-false,
+  faceMissing-false,
+}
+use Rattle.sheet_format.specs.SheetLaws.{countField-in, countField-out, countField-below, count-beyond, count-below, length-sectionsOf, count-sectionsOf, cell-sectionsOf, length-cellOf, getD-cellOf, start-ext, start-mono, fieldAt-lt}
+use Rattle.sheet_format.proofs.Pieces.{carries-self, carries-all}
+use Rattle.sheet_format.proofs.LayoutLaws.{Reads, length-layout, bytes-layout, carries-layout}
+
+-- ---- what is read from an accepted sheet
+
+pub accepted-complex : (limit : ℕ) (b : List ℕ) → Bytes b → refusal limit b ≡ 0 → Complex top limit (sectionsOf b)
+accepted-complex limit b h e = record {
+  dimensions = length-sectionsOf b;
+  within = λ p. rw (count-sectionsOf b p) (within p (decLe p top));
+  sized = λ p i l. ap length (at p i l) ∙ length-cellOf b (suc p) (startAt b p + 2 * (suc p * i));
+  numbered = λ p i j l m. rw (at p i l, getD-cellOf b (suc p) (startAt b p + 2 * (suc p * i)) j m)
+      (fieldAt-lt b h (startAt b p + 2 * (suc p * i) + 2 * j));
+  rising = λ p i l. verticesDoNotRise-false (sectionsOf b) .0 (passes .vertices) p i (below p i l) l;
+  ordered = λ p i l. cellsDoNotRise-false (sectionsOf b) .0 (passes .cells) p i (below p (suc i) l) l;
+  closed = λ p i j l m. faceMissing-false (sectionsOf b) .0 (passes .faces) p i j (below (suc p) i l) l m;
+}
+  where
+    passes : Passes limit b
+    passes = refusal-zero limit b .0 e
+
+    within : (p : ℕ) → Dec (p ≤ top) → countField b p ≤ limit
+    within p (yes l) = countExceeds-false limit b .0 (passes .counts) p l
+    within p (no l) = omega (arith, countField-out b p (omega arith))
+
+    below : (p i : ℕ) → i < count (sectionsOf b) p → p ≤ top
+    below p i l = countField-below b p i (rw (count-sectionsOf b p) at l)
+
+    at : (p i : ℕ) → i < count (sectionsOf b) p → cell (sectionsOf b) p i ≡ cellOf b (suc p) (startAt b p + 2 * (suc p * i))
+    at p i l = cell-sectionsOf b p i (below p i l) (rw (count-sectionsOf b p) at l)
+
+pub accepted-chains : (limit : ℕ) (b : List ℕ) → Bytes b → refusal limit b ≡ 0 → ChainComplex limit (sectionsOf b)
+accepted-chains limit b h e = complex-chains (accepted-complex limit b h e)
+
+-- ---- the bytes of a complex give the complex back
+
+module _ {limit : ℕ} {K : Sections} (complex : Complex top limit K) where
+  module _ {b : List ℕ} (r : Reads b K) where
+    reads-count : (p : ℕ) → countField b p ≡ count K p
+    reads-count p = pick (decLe p top)
+      where
+        pick : Dec (p ≤ top) → countField b p ≡ count K p
+        pick (yes l) = countField-in b p l ∙ r .counts p l
+        pick (no l) =
+            countField-out b p (omega arith) ∙ sym (count-beyond K p (omega (arith, complex .dimensions)))
+
+    reads-start : (p : ℕ) → startAt b p ≡ start (count K) p
+    reads-start p = start-ext (countField b) (count K) p (λ q l. reads-count q)
+
+    reads-cell : (p i : ℕ) → i < count K p → cell (sectionsOf b) p i ≡ cell K p i
+    reads-cell p i l =
+        cell-sectionsOf b p i (omega (arith, count-below K p i l, complex .dimensions)) (rw (reads-count p) l)
+        ∙ ap (λ (s : ℕ). cellOf b (suc p) (s + 2 * (suc p * i))) (reads-start p)
+        ∙ ext-getD 0 (cellOf b (suc p) at) (cell K p i) (length-cellOf b (suc p) at ∙ sym (complex .sized p i l))
+        (λ j m. let k : j < suc p = rw (length-cellOf b (suc p) at) at m in getD-cellOf b (suc p) at j k ∙ r .vertices p i j l k)
+      where
+        at : ℕ
+        at = start (count K) p + 2 * (suc p * i)
+
+    reads-sections : sectionsOf b ≡ K
+    reads-sections =
+        ext-getD [] (sectionsOf b) K (length-sectionsOf b ∙ sym (complex .dimensions))
+        (λ p _. ext-getD [] (section (sectionsOf b) p) (section K p) (same p) (λ i l. reads-cell p i (rw (same p) at l)))
+      where
+        same : (p : ℕ) → count (sectionsOf b) p ≡ count K p
+        same p = count-sectionsOf b p ∙ reads-count p
+
+  pub reads-layout : limit ≤ libraryLimit → Reads (layout K) K
+  reads-layout small = carries-layout complex small (layout K) (bytes-layout K) .0 (carries-self (layout K))
+
+  pub sections-layout : limit ≤ libraryLimit → sectionsOf (layout K) ≡ K
+  sections-layout small = reads-sections (reads-layout small)
+
+  pub accepted-layout : limit ≤ libraryLimit → refusal limit (layout K) ≡ 0
+  unfolding start
+  accepted-layout small = refusal-zero limit (layout K) .1 (record {
+    long = tooShort-false (layout K) .1 (rw (length-layout complex) (start-mono (count K) 0 (suc top) (omega arith)));
+    counts = countExceeds-false limit (layout K) .1 (λ p _. rw (reads-count r p) (complex .within p));
+    offsets = offsetDiffers-false (layout K) .1 (λ p l. r .offsets p l ∙ sym (reads-start r p));
+    ends = lengthDiffers-false (layout K) .1 (length-layout complex ∙ sym (reads-start r (suc top)));
+    vertices = rw (sections-layout small) (verticesDoNotRise-false K .1 (λ p i _ l. complex .rising p i l));
+    cells = rw (sections-layout small) (cellsDoNotRise-false K .1 (λ p i _ l. complex .ordered p i l));
+    faces = rw (sections-layout small) (faceMissing-false K .1 (λ p i j _ l m. complex .closed p i j l m));
+  })
+    where
+      r : Reads (layout K) K
+      r = reads-layout small
+
+pub layout-injective : {limit : ℕ} → limit ≤ libraryLimit → {K L : Sections} → Complex top limit K → Complex top limit L → layout K ≡ layout L → K ≡ L
+layout-injective small k l e = sym (sections-layout k small) ∙ ap sectionsOf e ∙ sections-layout l small
+
+-- ---- an accepted sheet is the layout of what is read from it
+
+accepted-reads : (limit : ℕ) (b : List ℕ) → refusal limit b ≡ 0 → Reads b (sectionsOf b)
+accepted-reads limit b e = record {
+  counts = λ p l. sym (countField-in b p l) ∙ sym (count-sectionsOf b p);
+  offsets = λ p l. offsetDiffers-false b .0 (refusal-zero limit b .0 e .offsets) p l ∙ starts p;
+  vertices = λ p i j l m.
+      let k : i < countField b p = rw (count-sectionsOf b p) at l in
+      ap (λ (s : ℕ). fieldAt b (s + 2 * (suc p * i) + 2 * j)) (sym (starts p))
+      ∙ sym (getD-cellOf b (suc p) (startAt b p + 2 * (suc p * i)) j m)
+      ∙ ap (λ (c : Cell). getD c j 0) (sym (cell-sectionsOf b p i (countField-below b p i k) k));
+}
+  where
+    starts : (p : ℕ) → startAt b p ≡ start (count (sectionsOf b)) p
+    starts p = start-ext (countField b) (count (sectionsOf b)) p (λ q _. sym (count-sectionsOf b q))
+
+pub layout-sections : (limit : ℕ) → limit ≤ libraryLimit → (b : List ℕ) → Bytes b → refusal limit b ≡ 0 → layout (sectionsOf b) ≡ b
+layout-sections limit small b h e =
+    carries-all b (layout (sectionsOf b)) (carries-layout complex small b h .1 (accepted-reads limit b e))
+    (length-layout complex
+    ∙ start-ext (count (sectionsOf b)) (countField b) (suc top) (λ q _. count-sectionsOf b q)
+    ∙ sym (lengthDiffers-false b .0 (refusal-zero limit b .0 e .ends)))
+  where
+    complex : Complex top limit (sectionsOf b)
+    complex = accepted-complex limit b h e
+
+pub accepted-iff : (limit : ℕ) → limit ≤ libraryLimit → (b : List ℕ) → Bytes b → (refusal limit b ≡ 0) ↔ IsSheet limit b
+accepted-iff limit small b h = (
+  λ e. record { cells = sectionsOf b; complex = accepted-complex limit b h e; bytes = layout-sections limit small b h e },
+  λ s. subst (λ (x : List ℕ). refusal limit x ≡ 0) (s .bytes) (accepted-layout (s .complex) small),
+)

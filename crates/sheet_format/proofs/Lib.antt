@@ -1,0 +1,5 @@
+-- Laws that other crates cite.
+pub mod Pieces
+pub mod LayoutLaws
+pub mod Accept
+pub mod Prefix
