@@ -142,7 +142,7 @@ def figure_faults():
 def counted():
     """How many edits, examples (lines of tables, fields of records) and claims the repository has."""
     examples = 0
-    for path in sorted(CRATES.glob("*/specs/*.antt")):
+    for path in sorted(CRATES.glob("*/specs/*.antt")) + sorted(CRATES.glob("*/proofs/*.antt")):
         text = read(path)
         examples += sum(len(Tables.of(path.parent.parent.name, path.stem).spine(each or right)) for each, right in TABLE.findall(text))
         for name in RECORD.findall(text):
@@ -181,7 +181,7 @@ def run_faults():
     listed = read(ROOT / "tests/run") + read(ROOT / "tests/check_stored") + read(ROOT / "tests/check_install")
     for pattern in ("check_*", "compare_*", "host/check_*"):
         for path in sorted((ROOT / "tests").glob(pattern)):
-            if not re.search(rf"\b{path.name}(?:\s|$)", listed, re.M):
+            if not re.search(rf"\b{path.name}(?:[\s\"]|$)", listed, re.M):
                 yield f"tests/run: {path.name} is not run"
 
 

@@ -28,6 +28,7 @@ CORE = {"the sheet", "the answers are right"}
 APART = {"consequences"}
 # The public functions: file and names. Their contracts tie the code to the claims.
 PUBLIC = [
+    ("sheet/src/reader.rt", ["read"]),
     ("calls/src/report.rt", ["report"]),
     ("calls/src/coordinates.rt", ["coordinate_lists", "coordinates"]),
     ("importer/src/import.rt", ["import"]),
@@ -39,7 +40,7 @@ PUBLIC = [
 TOKEN = re.compile(r"[^\s(){}\[\];,λ⟦⟧⌜⌝]+")
 USE = re.compile(r"^(?:ghost |pub )?use (\S+?)(?:\.\{([^}]*)\}| as (\S+?))?;?\s*$", re.M)
 PATH = re.compile(r"Rattle·(\w+?)(?:·(?:specs|proofs))?\.(specs|proofs)\.(?:(?:specs|proofs)\.)?(\w+)$")
-FUNCTION = re.compile(r'^(?:pub )?(?:extern "C" )?fn (\w+)', re.M)
+FUNCTION = re.compile(r'^ *(?:pub )?(?:extern "C" )?fn (\w+)', re.M)
 
 
 def module_of(path):
@@ -96,8 +97,8 @@ class Contracts(Module):
             if not places:
                 raise SystemExit(f"there is no public function {name}")
             begin = starts[places[0]].start()
-            end = text.index("\n{\n", begin)
-            clause = re.search(r"^    (?:requires|ensures)", text[begin:end], re.M)
+            end = re.compile(r"\n *\{\n").search(text, begin).start()
+            clause = re.search(r"^ +(?:requires|ensures)", text[begin:end], re.M)
             if not clause:
                 raise SystemExit(f"{name} promises nothing")
             self.add([name + " : "] + [line for line in text[begin + clause.start():end].split("\n") if line.strip()])

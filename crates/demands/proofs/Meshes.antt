@@ -36,4 +36,4 @@ pub importSheet : ImportSheet
 importSheet limit small text sheet = import-sheet limit small text sheet
 
 pub hostImportSheet : HostImportSheet
-hostImportSheet text sheet = import-number hostLimit (omega arith) text sheet
+hostImportSheet limit small text sheet = import-number limit small text sheet

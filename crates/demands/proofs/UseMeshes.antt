@@ -143,4 +143,4 @@ library-sheet : ImportSheet → ImportedSheet libraryLimit hollow (lent 40) (imp
 library-sheet importSheet = importSheet libraryLimit (omega arith) hollow (lent 40) 34 hollow-done
 
 host-sheet : HostImportSheet → ImportedSheet hostLimit hollow (lent 40) (importCall hostLimit hollow (lent 40) .output) (headerGives (importCall hostLimit hollow (lent 40) .output))
-host-sheet hostImportSheet = hostImportSheet hollow (lent 40) hollow-host-done
+host-sheet hostImportSheet = hostImportSheet hostLimit (omega arith) hollow (lent 40) hollow-host-done

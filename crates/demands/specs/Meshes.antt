@@ -5,7 +5,7 @@ use mathlib.Core.Bool.{true, false}
 use mathlib.Core.List.{List, _++_}
 use Prim.Native.Nat.{ℕ, _≤_}
 use lib.ListN.{length, drop}
-use Rattle.limits.specs.Limits.{libraryLimit, hostLimit}
+use Rattle.limits.specs.Limits.{libraryLimit}
 use Rattle.complexes.specs.Complex.{Sections}
 use Rattle.sheet_format.specs.Layout.{layout}
 use Rattle.closures.specs.Closure.{elementTop}
@@ -69,8 +69,8 @@ ImportSheet =
     (limit : ℕ) → limit ≤ libraryLimit → (text sheet : List ℕ) (n : ℕ) → importCall limit text sheet .answer ≡ done n →
     ImportedSheet limit text sheet (importCall limit text sheet .output) n
 
--- the same for the host call, which answers 0: the header of the sheet gives its length
+-- the same told from the answer 0 alone, as the calls for C have it: the header of the sheet gives its length
 abbrev pub HostImportSheet : Type 0
 HostImportSheet =
-    (text sheet : List ℕ) → numberTold (importCall hostLimit text sheet .answer) ≡ 0 →
-    ImportedSheet hostLimit text sheet (importCall hostLimit text sheet .output) (headerGives (importCall hostLimit text sheet .output))
+    (limit : ℕ) → limit ≤ libraryLimit → (text sheet : List ℕ) → numberTold (importCall limit text sheet .answer) ≡ 0 →
+    ImportedSheet limit text sheet (importCall limit text sheet .output) (headerGives (importCall limit text sheet .output))
