@@ -130,13 +130,22 @@ def first_tag(content):
     return int(words[3]) if int(words[2]) > 0 and words[3].isdigit() and len(words[3]) <= 9 else None
 
 
+def in_region(elements, region):
+    """Of elements with their lines, those whose first tag is in the region and whose dimension is the highest that has the tag, or whose kind has none."""
+    nodes = [NODES_OF_KIND.get(element.kind, 0) for element, _, _ in elements]
+    most = {}
+    for (_, _, content), count in zip(elements, nodes):
+        most[first_tag(content)] = max(count, most.get(first_tag(content), 0))
+    return [found for found, count in zip(elements, nodes) if first_tag(found[2]) in region and count in (0, most[first_tag(found[2])])]
+
+
 def of_text(text, number, limit, region=()):
     """What is due for a text that the import refuses with this number: the parts that must stand in the line, in their order."""
     try:
         nodes, elements = read_text(text)
     except Fault as fault:
         return fault.args
-    elements = [found for found in elements if not region or first_tag(found[2]) in region]
+    elements = in_region(elements, region) if region else elements
     if number == ELEMENT_FAULTY:
         for element, line, content in elements:
             fault = fault_of(element, nodes)
