@@ -223,6 +223,10 @@ int judge_text(const struct options *options, const struct text *text, const str
     struct docket docket = {options, text, &mesh, {NULL, 0}, {NULL, 0}, options->has_dimension ? options->dimension : DIMENSION};
     if (options->form == FORM_PLAIN)
         return failed("judge has no --plain (fildwuk judge --help)", console->err);
+    if (options->no_tag != NULL) {
+        region_no_tag(text, options->no_tag, console->err);
+        return STATUS_FAILED;
+    }
     enum mesh_answer answer = mesh_read(text, &mesh, &fault);
     if (answer == MESH_NO_MEMORY)
         return failed(strerror(ENOMEM), console->err);

@@ -106,10 +106,9 @@ static void write_names(const struct text *text, const struct mesh *mesh, uint32
         }
 }
 
-/* Says that no element has a tag, and which tags there are. */
-static int missing(const struct text *text, const struct mesh *mesh, uint32_t tag, FILE *err) {
+/* Writes the tags of the elements with their names, and ends the line. */
+static void write_tags(const struct text *text, const struct mesh *mesh, FILE *err) {
     uint32_t last = 0, next = 0;
-    fprintf(err, "fildwuk: no element has the physical tag %u", (unsigned)tag);
     for (int told = 0; next_tag(mesh, told == 0 ? NULL : &last, &next); told++, last = next) {
         if (told == TAGS_SHOWN) {
             fputs(", ..", err);
@@ -119,6 +118,26 @@ static int missing(const struct text *text, const struct mesh *mesh, uint32_t ta
         write_names(text, mesh, next, err);
     }
     fputs("\n", err);
+}
+
+/* Says that no element has a tag, and which tags there are. */
+static int missing(const struct text *text, const struct mesh *mesh, uint32_t tag, FILE *err) {
+    fprintf(err, "fildwuk: no element has the physical tag %u", (unsigned)tag);
+    write_tags(text, mesh, err);
+    return 0;
+}
+
+int region_no_tag(const struct text *text, const char *word, FILE *err) {
+    struct mesh mesh;
+    struct mesh_fault fault;
+    fputs("fildwuk: physical tags are wanted after --region, numbers, not ", err);
+    write_name(err, word);
+    if (mesh_read(text, &mesh, &fault) == MESH_READ) {
+        write_tags(text, &mesh, err);
+        mesh_free(&mesh);
+    } else {
+        fputs("\n", err);
+    }
     return 0;
 }
 

@@ -34,6 +34,11 @@ def escaped(data, most=SHOWN):
     return shown + (" .." if most < len(data) else "")
 
 
+def quoted(data):
+    """A line as a message quotes it."""
+    return f'"{escaped(data)}"' if len(data) <= SHOWN else f'"{escaped(data).removesuffix(" ..")}" ..'
+
+
 class Fault(Exception):
     """What is said of the first line that is not of the form, apart from what is wanted."""
 
@@ -48,7 +53,7 @@ class Counted(Lines):
     def take(self):
         line = next(self.rest, None)
         if line is None and self.tail:
-            raise Fault(f"Line {self.number + 1} does not end in a line feed: {escaped(self.tail)}")
+            raise Fault(f"Line {self.number + 1} does not end in a line feed: {quoted(self.tail)}")
         if line is None:
             raise Fault(f"The text ends after line {self.number} ")
         self.number, self.last = self.number + 1, line.removesuffix(b"\r")
@@ -56,7 +61,7 @@ class Counted(Lines):
 
     def differs(self):
         """What is said of the line taken last."""
-        return f"Line {self.number} is not of the form ", escaped(self.last) if self.last else "(an empty line)"
+        return f"Line {self.number} is not of the form ", quoted(self.last) if self.last else "(an empty line)"
 
 
 def pass_sections(lines):
@@ -72,7 +77,7 @@ def pass_sections(lines):
             while lines.take() != b"$End" + opening[1:]:
                 pass
         except Fault as fault:
-            raise Fault(f"The section of line {number} is not closed: {escaped(opening)}") from fault
+            raise Fault(f"The section of line {number} is not closed: {quoted(opening)}") from fault
 
 
 def read_elements(lines):
@@ -150,7 +155,7 @@ def of_text(text, number, limit, region=()):
         for element, line, content in elements:
             fault = fault_of(element, nodes)
             if fault:
-                return (f"Line {line}, {fault}: {escaped(content)}",)
+                return (f"Line {line}, {fault}: {quoted(content)}",)
     if number == SHEET_TOO_LONG:
         return (counts_beyond("It has ", [len(section) for section in closure(element.nodes for element, _, _ in elements)], limit),)
     raise AssertionError("the model does not refuse so")
