@@ -1,10 +1,15 @@
-/* What a magnetic solver does with Fildwuk: it reads a sheet, gives each free loop of dimension 1 an unknown current and none to a twisted one,
- * and asks for the coordinates of all its loops in one call. Usage: solver FILE.sheet */
+/* What a magnetic solver does with Fildwuk: it imports a mesh in MSH 2.2 ASCII or takes a sheet as it is, gives each free loop of dimension 1 an unknown
+ * current and none to a twisted one, and asks for the coordinates of all its loops in one call. Usage: solver FILE.msh, or solver FILE.sheet */
 #include <inttypes.h>
 #include <stdio.h>
+#include <string.h>
 
 #include "fildwuk.h"
 
+/* The file. A text of 48 cells in a dimension is far shorter. */
+static uint8_t text[1 << 20];
+
+/* One byte more than the longest sheet, so that a longer one is told by its length. */
 static uint8_t sheet[FILDWUK_SHEET_BYTES + 1];
 static uint8_t report[FILDWUK_REPORT_BYTES(FILDWUK_CELLS)];
 
@@ -15,6 +20,21 @@ static uint8_t lists[FILDWUK_COORDINATE_LISTS_BYTES(FILDWUK_CELLS, FILDWUK_CELLS
 static int refused(const char *call, uint32_t answer) {
     printf("%s refused with %" PRIu32 ": %s\n", call, answer, fildwuk_answer_text(answer));
     return 1;
+}
+
+/* Whether the file is a mesh: it starts with $, and no 0 follows, as it would in a sheet of 36 vertices. */
+static int is_mesh(size_t given) { return given > 0 && text[0] == '$' && (given == 1 || text[1] != 0); }
+
+/* Puts the sheet of the file into its place, and its length. */
+static uint32_t take_sheet(size_t given, size_t *length) {
+    if (!is_mesh(given)) {
+        *length = given < sizeof sheet ? given : sizeof sheet;
+        memcpy(sheet, text, *length);
+        return FILDWUK_DONE;
+    }
+    uint32_t answer = fildwuk_import(text, given, sheet, FILDWUK_SHEET_BYTES);
+    *length = answer == FILDWUK_DONE ? fildwuk_sheet_length(sheet) : 0;
+    return answer;
 }
 
 /* The loops of a report with t orders, each with n coefficients, as chains one after another. */
@@ -33,14 +53,22 @@ static void print_lists(size_t loops, size_t n) {
     }
 }
 
-int main(int argc, char **argv) {
-    FILE *file = argc == 2 ? fopen(argv[1], "rb") : NULL;
-    if (file == NULL) {
-        fprintf(stderr, "usage: solver FILE.sheet\n");
-        return 2;
-    }
-    size_t length = fread(sheet, 1, sizeof sheet, file);
-    fclose(file);
+/* Reads the file into `text`. Answers 0 where that fails, and says why. */
+static int read_file(const char *name, size_t *given) {
+    FILE *file = fopen(name, "rb");
+    *given = file == NULL ? 0 : fread(text, 1, sizeof text, file);
+    int failed = file == NULL || ferror(file);
+    if (failed)
+        perror(name);
+    else if (*given == sizeof text)
+        fprintf(stderr, "%s: too long for this example\n", name);
+    if (file != NULL)
+        fclose(file);
+    return !failed && *given < sizeof text;
+}
+
+/* Says what each loop of the sheet is for the solver, and the coordinates of all. */
+static int solve(size_t length) {
     uint32_t answer = fildwuk_report(sheet, length, 1, report, sizeof report);
     if (answer != FILDWUK_DONE)
         return refused("report", answer);
@@ -56,4 +84,16 @@ int main(int argc, char **argv) {
         return refused("coordinates", answer);
     print_lists(t + b, edges);
     return 0;
+}
+
+int main(int argc, char **argv) {
+    size_t given, length;
+    if (argc != 2) {
+        fprintf(stderr, "usage: solver FILE.msh, or solver FILE.sheet\n");
+        return 2;
+    }
+    if (!read_file(argv[1], &given))
+        return 2;
+    uint32_t answer = take_sheet(given, &length);
+    return answer == FILDWUK_DONE ? solve(length) : refused("import", answer);
 }

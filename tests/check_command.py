@@ -98,7 +98,9 @@ def word_facts(command):
         (RING, "--dimension", "1234567890"): b"one number is wanted after --dimension", (RING, "--plain", "--json"): b"one of --plain and --json",
         (RING, "--plain", "--plain"): b"one of --plain and --json", (RING, "--limit"): b"host or library is wanted after --limit",
         (RING, "--limit", "none"): b"host or library is wanted after --limit", (RING, "--region"): b"physical tags are wanted after --region",
-        (RING, "--region", "copper"): b"physical tags are wanted after --region", ("import", RING, "-o"): b"one file is wanted after -o",
+        ("--region", "copper", RING): b"physical tags are wanted after --region", (RING, "--region", "--json"): b"physical tags are wanted after --region",
+        (RING, "--groups", "-"): b"standard output has the report: a file is wanted after --groups",
+        (RING, "--view", "-"): b"standard output has the report: a file is wanted after --view", ("import", RING, "-o"): b"one file is wanted after -o",
         ("import", "-o", "a", "-o", "b", RING): b"one file is wanted after -o", ("import", RING, "--", "-o"): b"one file is wanted, not also -o",
         (RING, "--region", *["1"] * 1001): b"there are more than 1000 tags", ("judge", RING, "one"): b"a physical tag is a number, not one",
         ("jugde",): b"neither a command nor a file jugde", ("\x1b[2J",): b"neither a command nor a file \\x1b[2J",
@@ -114,9 +116,14 @@ def word_facts(command):
     yield "a file named as a command", command.run("./import", "--plain").output.startswith(b"H 0 1 0\n")
     yield "tags before the file", done(command.run("import", "--region", "1", RING), COARSE_RING)
     yield "tags twice", done(command.run("import", RING, "--region", "1", "--region", "1"), COARSE_RING)
+    told = failed(command.run(RING, "--region", "copper"), b'numbers, not copper; the tags are 1 "copper ring"\n')
+    yield "a name after --region", told
     plain, grouped = command.run(RING, "--plain"), command.run(RING, "--plain", "--groups", "groups.msh")
     yield "plain lines with groups", plain.output == grouped.output and grouped.errors.startswith(b'group 2 "H_1{0}1": ') and grouped.status == 0
-    yield "a dimension beyond 3", command.run("report", RING, "--dimension", "4").errors.endswith(b" is refused with 8: the dimension exceeds 3.\n")
+    for name in ("report", "judge"):
+        ran = command.run(name, RING, "--dimension", "4")
+        yield f"a dimension beyond 3, {name}", ran.status == 1 and ran.errors.endswith(b" is refused with 8: the dimension exceeds 3.\n")
+    yield "status 1 in the help", b"1 refused or judged wrong" in command.run("--help").output
 
 
 def input_facts(command):
@@ -164,6 +171,14 @@ def output_facts(command):
     yield "null device", done(command.run("import", RING, "-o", "/dev/null")) and Path("/dev/null").is_char_device()
     yield "missing folder", failed(command.run("import", RING, "-o", "none/a.sheet"), b"cannot write none/a.sheet: No such file")
     yield "folder for a sheet", failed(command.run("import", RING, "-o", "."), b"cannot write .: Is a directory")
+    for option in ("--groups", "--view"):
+        yield f"folder for {option}", failed(command.run(RING, option, "."), b"cannot write .: Is a directory")
+        yield f"missing folder for {option}", failed(command.run(RING, option, "none/a.msh"), b"cannot write none/a.msh: No such file")
+    yield "one file for both", failed(command.run(RING, "--groups", "a", "--view", "a"), b"--groups and --view name the same file")
+    command.file(OLD, "one")
+    os.link(command.folder / "one", command.folder / "two")
+    yield "one file by two names", failed(command.run(RING, "--groups", "one", "--view", "two"), b"--groups and --view name the same file")
+    yield "groups of a sheet", failed(command.run(SHEET, "--groups", "a"), b"--groups and --view are for a mesh")
     yield "pipe that nobody reads", command.shell(f'"$0" {RING} | true; exit "${{PIPESTATUS[0]}}"').status in (0, 128 + signal.SIGPIPE)
     yield "pipe that nobody reads, ignored", broken_pipe(command)
     yield "output by a dash", done(command.run("import", RING, "-o", "-"), COARSE_RING)
@@ -218,7 +233,8 @@ def same_file_facts(command):
     os.link(mesh, command.folder / "hard.msh")
     for name in ("mesh.msh", "./mesh.msh", "soft.msh", "hard.msh"):
         yield f"output {name}", failed(command.run("import", "mesh.msh", "-o", name), b"cannot write %s: it is the input" % name.encode())
-        yield f"groups {name}", b": it is the input\n" in command.run("mesh.msh", "--groups", name).errors
+        for option in ("--groups", "--view"):
+            yield f"{option} {name}", failed(command.run("mesh.msh", option, name), b"cannot write %s: it is the input" % name.encode())
         yield f"output {name} from standard input", failed(command.shell(f'"$0" import -o {name} <mesh.msh'), b": it is the input\n")
     yield "the input is as it was", mesh.read_bytes() == RING.read_bytes()
     yield "a device may be both", b"/dev/null is refused with 14: " in command.run("import", "/dev/null", "-o", "/dev/null").errors
@@ -251,6 +267,10 @@ def terminal_facts(command):
     yield "waits for a mesh or a sheet", status == 1 and b"fildwuk: waiting for a mesh or a sheet on the terminal; Ctrl-D ends it" in said
     status, said = on_terminal(command, "import", "-o", "/dev/null", typed=RING.read_bytes())
     yield "waits for a mesh", status == 0 and b"fildwuk: waiting for a mesh on the terminal" in said
+    status, said = on_terminal(command, "import", str(RING))
+    yield "no sheet for a terminal", status == FAILED and said.startswith(b"fildwuk: a sheet is no text for a terminal: name a file after -o") and b"\0" not in said
+    status, said = on_terminal(command, "import", str(RING), "-o", "-")
+    yield "a sheet for a terminal where it is asked for", status == 0 and b"\0" in said
     status, said = on_terminal(command, str(RING))
     yield "reads a file without waiting", status == 0 and b"waiting" not in said and b"Dimension 1: 1 free loop.\r\n" in said
     status, said = on_terminal(command, str(command.file(b"$MeshFormat\n\x1b[2J\x07\x9b\n")))

@@ -19,7 +19,13 @@ FOLDERS = ("crates", "tests", "bench", "tools", "docs", "examples", "target", "p
 IN_FOLDERS = re.compile(rf"(?<![\w/])(?:{'|'.join(FOLDERS)})/[\w./-]*\w")
 
 # Names of files that the reader has or makes.
-OTHERS = {"solver.c", "FILE.msh", "FILE.sheet", "OUT.msh", "NEW.msh", "ring.msh", "ring.sheet", "plane_and_loops.msh"}
+OTHERS = {"solver.c", "FILE.msh", "FILE.sheet", "OUT.msh", "NEW.msh", "ring.msh", "ring.sheet", "plane_and_loops.msh", "loops.msh"}
+
+
+# A mesh without loops, and what the first program of PYTHON.md prints of it.
+TRIANGLE = ("$MeshFormat\n2.2 0 8\n$EndMeshFormat\n$Nodes\n3\n1 0 0 0\n2 1 0 0\n3 0 1 0\n$EndNodes\n"
+            "$Elements\n1\n1 2 2 1 1 1 2 3\n$EndElements\n")
+NO_LOOPS = "0 free, orders [], peak 1, which needs 1 of 20 bits\n"
 
 
 def code(page):
@@ -61,14 +67,18 @@ def hollow_triangle(prefix):
 
 
 def python_page(prefix):
-    """What PYTHON.md prints for its programs, and what they print in the folder of the examples, with the libraries and programs of the tree."""
+    """What PYTHON.md prints for its programs, and what they print in the folder of the examples, with the libraries and programs of the tree; the first
+    one also on a mesh without loops."""
     page = (prefix / "share/doc/fildwuk/PYTHON.md").read_text()
     shown = re.findall(r"```python\n(.*?)```\n\nprints\n\n```\n(.*?)```", page, re.S)
     assert len(shown) == page.count("```python") == 2
     world = {**os.environ, "LD_LIBRARY_PATH": str(prefix / "lib"), "PATH": f"{prefix / 'bin'}:{os.environ['PATH']}"}
     runs = [subprocess.run([sys.executable, "-c", program], cwd=prefix / "share/doc/fildwuk/examples", capture_output=True, text=True, check=False,
                            env=world) for program, _ in shown]
-    return "".join(due for _, due in shown), "".join(run.stdout + run.stderr for run in runs)
+    with tempfile.TemporaryDirectory() as room:
+        (Path(room) / "copper_ring.msh").write_text(TRIANGLE, encoding="ascii")
+        runs.append(subprocess.run([sys.executable, "-c", shown[0][0]], cwd=room, capture_output=True, text=True, check=False, env=world))
+    return "".join(due for _, due in shown) + NO_LOOPS, "".join(run.stdout + run.stderr for run in runs)
 
 
 def block(page, before):
@@ -96,13 +106,26 @@ def options_of(prefix, *words):
 
 
 def manual(prefix):
-    """The commands and options that the command tells in its help, and those of them that the manual has."""
+    """The commands and options that the command tells in its help and the pages installed, and those of them that the manual has."""
     text = (prefix / "share/man/man1/fildwuk.1").read_text().replace("\\-", "-")
     shown = subprocess.run([prefix / "bin/fildwuk", "--help"], capture_output=True, text=True, check=True).stdout
     commands = re.findall(r"^  (\w+) ", shown, re.M)
     assert len(commands) >= 3
     told = sorted({*commands, *options_of(prefix), *(option for name in commands for option in options_of(prefix, name))})
+    told += sorted(f"share/doc/fildwuk/{path.name}" for path in (prefix / "share/doc/fildwuk").glob("*.md"))
     return "".join(f"{word}\n" for word in told), "".join(f"{word}\n" for word in told if re.search(rf"(?<![\w-]){word}\b", text))
+
+
+def manual_examples(prefix):
+    """The lines of the manual's examples with status 0, and the same with the status of each when they are run in the folder of the examples."""
+    text = (prefix / "share/man/man1/fildwuk.1").read_text().replace("\\-", "-")
+    lines = re.search(r"\.SH EXAMPLES\n.*?\.nf\n(.*?)\.fi", text, re.S)[1].splitlines()
+    assert len(lines) >= 4
+    with tempfile.TemporaryDirectory() as room:
+        folder = shutil.copytree(prefix / "share/doc/fildwuk/examples", Path(room) / "examples")
+        world = {**os.environ, "PATH": f"{prefix / 'bin'}:{os.environ['PATH']}"}
+        found = [subprocess.run(["bash", "-c", line], cwd=folder, capture_output=True, check=False, env=world).returncode for line in lines]
+    return "".join(f"{line}: 0\n" for line in lines), "".join(f"{line}: {status}\n" for line, status in zip(lines, found))
 
 
 def main():
@@ -112,7 +135,7 @@ def main():
         for place in missing(prefix, path):
             wrong += 1
             print(f"{path.relative_to(prefix)} names {place}, which is not installed")
-    examples = {"FORMAT.md": hollow_triangle, "PYTHON.md": python_page, "fildwuk.1": manual}
+    examples = {"FORMAT.md": hollow_triangle, "PYTHON.md": python_page, "fildwuk.1": manual, "the manual's examples": manual_examples}
     if shutil.which("gmsh"):
         examples["GMSH.md"] = gmsh_page
     for name, example in examples.items():

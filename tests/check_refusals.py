@@ -10,8 +10,9 @@ from pathlib import Path
 
 from command.runs import DONE, DRIVER, FAILED, REFUSED, in_process, is_mesh
 from command.told import object_of
-from command.where import escaped, of_sheet, of_text
+from command.where import of_sheet, of_text, quoted
 from compare_gmsh import damaged, due_answers, stored
+from compare_groups import text_of
 from make_sheets import fault_sheets, random_sheets
 from model import mesh_cases, mesh_texts, meshes
 from model.mesh import import_mesh
@@ -21,6 +22,9 @@ LIMITS = {"library": LIBRARY_COUNT_LIMIT, "host": PROGRAM_COUNT_LIMIT}
 SAVE = "`gmsh FILE -save -format msh22 -o NEW.msh` writes it as MSH 2.2 ASCII"
 RING = Path("examples/copper_ring.msh").read_bytes()
 GROUPS = Path("tests/meshes/groups.msh").read_bytes()
+
+SCRIPT = "It is a script of Gmsh: `gmsh -3 FILE -format msh22 -o NEW.msh` meshes it"
+TEXT = "It is text; a mesh starts with $MeshFormat and nothing before it"
 
 # A sheet with an order beyond the entry limit.
 TOO_WIDE = from_facets(meshes.tower(20))
@@ -39,7 +43,14 @@ STARTS = {
     b"$NOD\n8\n": f"It is MSH 1: {SAVE}",
     b"$NOD\r\n8\r\n": f"It is MSH 1: {SAVE}",
     b"    -1\n  2411\n": f"It is UNV: {SAVE}",
-    b"SetFactory(\"OpenCASCADE\");\n": "It is a script of Gmsh: `gmsh -3 FILE -format msh22 -o NEW.msh` meshes it",
+    b"SetFactory(\"OpenCASCADE\");\n": SCRIPT,
+    b"// a ring\nlc = 0.1;\nPoint(1) = {0, 0, 0, lc};\n": SCRIPT,
+    b"Merge \"ring.step\";\n": SCRIPT,
+    b"lc = 1;\r\nPoint (1) = {0, 0, 0};\r\n": SCRIPT,
+    b"*Heading\n ring\n*NODE\n1, 0, 0, 0\n": TEXT,
+    b"MeshVersionFormatted 2\nDimension 3\n": TEXT,
+    b"\n" + RING: TEXT, b" $MeshFormat\n4.1 0 8\n": TEXT, b"x" + RING: TEXT, b"solidarity": TEXT, b"x": TEXT, b"Sp\xc3\xbcle\n": TEXT,
+    b"x" * 256 + b"\0": TEXT,
     b"$MeshFormat\n4.1 0 8\n": f"It is MSH 4.1: {SAVE}",
     b"$MeshFormat\r\n4 0 8\r\n": f"It is MSH 4: {SAVE}",
     b"$MeshFormat\n4.1 1 8\n": f"It is MSH 4.1: {SAVE}",
@@ -52,9 +63,9 @@ STARTS = {
 }
 
 # Inputs that look a little like those, of which nothing is said.
-QUIET = [b"solidarity", b"\x1f", b"$MeshFormat", b"$MeshFormat\n", b"$MeshFormat\n4.1 0 8", b"$MeshFormat\n\n", b"$MeshFormat \n4.1 0 8\n",
+QUIET = [b"\x1f", b"x\0", b"\x7f", b"x" * 255 + b"\x1b", b"$MeshFormat", b"$MeshFormat\n", b"$MeshFormat\n4.1 0 8", b"$MeshFormat\n\n", b"$MeshFormat \n4.1 0 8\n",
          b"$MeshFormat\n4.1\x1b[2J 0 8\n", b"$MeshFormat\n2.20 0 8\n", b"$MeshFormat\n4.1 2 8\n", b"$MeshFormat\n2.2 2 8\n", b"$NOD",
-         b"$MeshFormat\n2.2 0 8\n$Nodes\n$ParametricNodes\n", RING + b"$NodeData\n", RING[:-1], b"x" + RING, b" $MeshFormat\n4.1 0 8\n",
+         b"$MeshFormat\n2.2 0 8\n$Nodes\n$ParametricNodes\n", RING + b"$NodeData\n", RING[:-1],
          RING.replace(b"\n1 4 2", b"\n1 4 x", 1)]
 
 # Bytes that are shown or not: letters of two to four bytes, control characters in UTF-8, letters that are written too long or cut, surrogates, beyond the
@@ -69,11 +80,16 @@ COARSER = "Mesh more coarsely (`gmsh -clscale 30`, or -clmin with a length), or 
 NOT_HOST = "Without --limit host the limit is 256"
 
 
+def is_text(data):
+    """Whether an input is text and no mesh."""
+    return data != b"" and not is_mesh(data) and all(byte >= 32 and byte != 127 or byte in b"\t\r\n" for byte in data[:256])
+
+
 def due_help(data, number, limit, parts):
     """The last line of a message, None where there is none. The stored and the damaged inputs are of no other format, but for those that start so."""
     if number == 15:
         return FIRST_ORDER if " is no point (15), " in parts[0] else None
-    if number in (2, 16) and limit == "host":
+    if number in (2, 16) and limit == "host" and not is_text(data):
         return NOT_HOST
     if number == 16:
         return COARSER
@@ -85,7 +101,7 @@ def due_help(data, number, limit, parts):
             return f"It has periodic sides: {SAVE} without them"
         if re.match(rb"\$MeshFormat\n2\.2 +1[ \n]", plain):
             return f"It is a binary file: {SAVE}"
-        return next((said for start, said in STARTS.items() if plain.startswith(start)), None)
+        return next((said for start, said in STARTS.items() if plain.startswith(start) and said != TEXT), TEXT if is_text(data) else None)
     return None
 
 
@@ -103,6 +119,9 @@ def wrong(name, data, limit, region, ran, as_json):
     lines, mesh = ran.lines(), is_mesh(data)
     number = object_of(as_json.output)["refusal"]
     parts = of_text(data, number, LIMITS[limit], region) if mesh else (of_sheet(data, number, LIMITS[limit]),)
+    if is_text(data) and number == 2:
+        told = object_of(as_json.output)["where"]
+        return None if ran.status == REFUSED and lines[1:] == [due_help(data, 2, limit, parts) + "."] and told is None else f"{lines[1:]}, a text"
     if ran.status != REFUSED or not lines[0].startswith(f"fildwuk: standard input is refused with {number}: "):
         return "head"
     if len(lines) < 2 or not lines[1].endswith(".") or not agrees(parts, lines[1][:-1]):
@@ -190,6 +209,14 @@ def check_regions(driver):
             b'9 "all"', b'9 "'), FAILED, 'fildwuk: no element has the physical tag 17; the tags are 1 "wall", 7, 8 "coil", 9'),
         "no tags": (["import", "--region", "1"], RING.replace(b"4 2 1", b"4 2 x"), FAILED, "fildwuk: no element has the physical tag 1"),
         "a text that is not of the form": (["import", "--region", "99"], GROUPS[:-2], REFUSED, None),
+        "a word that is no tag": (["report", "-", "--region", "air"], GROUPS, FAILED, 'fildwuk: physical tags are wanted after --region, numbers, not air; '
+                                  'the tags are 1 "wall", 7 "air, outside", 8 "coil $Nodes", 9 "all"'),
+        "a word that is no tag, judged": (["judge", "-", "--region", "air", "--json"], GROUPS, FAILED, 'fildwuk: physical tags are wanted after --region, '
+                                          'numbers, not air; the tags are 1 "wall", 7 "air, outside", 8 "coil $Nodes", 9 "all"'),
+        "a word that is no tag of a faulty text": (["import", "-", "--region", "\x1b"], GROUPS[:-2], FAILED,
+                                                   "fildwuk: physical tags are wanted after --region, numbers, not \\x1b"),
+        "a sheet and a word": (["report", "-", "--region", "air"], bytes(16), FAILED,
+                               "fildwuk: --region is for a mesh, and the input is a sheet, which has no tags"),
         "a sheet": (["report", "--region", "1"], bytes(16), FAILED, "fildwuk: --region is for a mesh, and the input is a sheet, which has no tags"),
     }
     ran = in_process([(words, data) for words, data, _, _ in cases.values()], driver)
@@ -204,14 +231,14 @@ def check_escapes(rng, driver):
     lines += [b"".join(rng.choice([b"a", *ODD]) for _ in range(rng.randint(1, 40))) for _ in range(300)]
     ran = in_process([(["import"], b"$MeshFormat\n" + line + b"\n") for line in lines], driver)
     for line, found in zip(lines, ran):
-        due = f"Line 2 is not of the form (wanted: 2.2 0 and a number): {escaped(line)}."
+        due = f"Line 2 is not of the form (wanted: 2.2 0 and a number): {quoted(line)}."
         yield f"the line {line!r}", None if found.lines()[1:2] == [due] else found.lines()
 
 
 def check_too_wide(driver):
     """Yields what differs in what is said of 13, in words and in the other forms, by name."""
     head = "fildwuk: standard input, dimension 1, is refused with 13: the reduction makes an entry beyond 1048575."
-    advice = "Parts that do not touch, asked for apart (--region TAG), or another numbering of the nodes may stay within it."
+    advice = "Parts that do not touch, asked for apart, or another numbering of the nodes may stay within it."
     forms = {"words": [], "plain": ["--plain"], "JSON": ["--json"]}
     ran = in_process([(["report", "--dimension", "1", *words], TOO_WIDE) for words in forms.values()], driver)
     for name, found in zip(forms, ran):
@@ -219,6 +246,9 @@ def check_too_wide(driver):
     (all_dimensions,) = in_process([(["report", "--plain"], TOO_WIDE)], driver)
     starts = [line[:4] for line in all_dimensions.output.decode().splitlines() if not line.startswith("G")]
     yield "13 in some dimensions", None if all_dimensions.status == REFUSED and starts == ["H 0 ", "R 13", "R 13", "H 3 "] else all_dimensions
+    mesh = text_of(meshes.tower(20)).encode()
+    (of_mesh,) = in_process([(["report", "--dimension", "1"], mesh)], driver)
+    yield "13 of a mesh", None if of_mesh.lines() == [head, advice.replace("apart,", "apart (--region TAG),")] else of_mesh
     yield "13 told in words", None if ran[0].output.endswith(b".\nDimension 1: refused with 13.\n") else ran[0].output
     yield "13 told in JSON", None if object_of(ran[2].output)["dimensions"] == [{"dimension": 1, "refusal": 13}] else ran[2].output
 

@@ -9,7 +9,7 @@ from pathlib import Path
 
 from command.runs import DONE, DRIVER, REFUSED, in_process, is_mesh
 from command.told import Dimension, from_json, from_words, head, object_of
-from command.where import Fault, fault_of, first_tag, read_text
+from command.where import Fault, fault_of, first_tag, in_region, read_text
 from compare_gmsh import due_answers, stored
 from make_sheets import fault_sheets, known_sheets, random_sheets
 from model import homology, mesh_cases, mesh_texts, meshes
@@ -36,9 +36,9 @@ def sheet_of(data, limit, region):
 
 
 def region_of(text, limit, region):
-    """The same of the elements whose first tag is in the region, of a text of the form."""
+    """The same of the elements of the region, of a text of the form."""
     nodes, elements = read_text(text)
-    chosen = [element for element, _, content in elements if first_tag(content) in region]
+    chosen = [element for element, _, _ in in_region(elements, region)]
     if any(fault_of(element, nodes) for element in chosen):
         return ELEMENT_FAULTY, None
     try:

@@ -7,6 +7,7 @@ without a word and saves the same oriented elements; GetDP integrates over the l
 """
 
 import argparse
+import json
 import subprocess
 import sys
 import tempfile
@@ -113,8 +114,9 @@ def group_fault(made):
     entities = {line.tags[1] for line in after.element_lines() if line.tags[0] in tags}
     if entities != {1000000 + tag for tag in tags}:
         return f"elementary tags {entities}"
-    told = [f'group {tag} "{name}": ' for _, tag, name in names]
-    return None if all(word in made.said for word in told) else "not told"
+    told = [f'  group {tag} "{name}": ' for _, tag, name in names] or ["  no generator, and so no group and no view\n"]
+    lines = [line for line in made.said.splitlines(True) if line.startswith(("  group ", "  view ", "  no generator"))]
+    return None if len(lines) == len(told) and all(map(str.startswith, lines, told)) else "not told"
 
 
 def view_fault(made):
@@ -131,6 +133,24 @@ def view_fault(made):
         return None
     chains = [chain_of([(tuple(numbers[point][0] for point in points), value) for points, value in elements], sheet.cells(made.p)) for _, elements in found]
     return None if chains == [list(g) for g in report.generators] else "other views"
+
+
+def told_fault(command, folder, made):
+    """What is wrong with the names that are told with a view alone, and with tags and names in JSON; None where nothing is."""
+    words = ["report", folder / "source.msh", *(["--region", made.region] if made.region else []), "--dimension", made.p]
+    report = homology.report(from_facets(facets_of(made)), made.p)
+    names = [due_name(made, report, k) for k in range(len(report.generators))]
+    said = run(command, *words, "--view", folder / "alone.pos")[1]
+    told = [f'  view "{name}": ' for name in names] or ["  no generator, and so no group and no view\n"]
+    lines = [line for line in said.splitlines(True) if line.startswith(("  group ", "  view ", "  no generator"))]
+    if len(lines) != len(told) or not all(map(str.startswith, lines, told)):
+        return "views not told"
+    tags = [tag for _, tag, name in Parts(made.groups).name_lines()][len(list(Parts(made.text).name_lines())):]
+    for kind, due in (("groups", tags), ("view", [None] * len(names))):
+        found = json.loads(run(command, *words, "--json", f"--{kind}", folder / "alone")[1])["dimensions"][0]["generators"]
+        if [(one.get("tag"), one["name"]) for one in found] != list(zip(due, names)):
+            return f"JSON of {kind}"
+    return None
 
 
 def make(command, folder, text, region, p):
@@ -169,7 +189,7 @@ def compare_files(command, folder):
     for (name, (text, region)), p in product(texts().items(), range(4)):
         try:
             made = make(command, folder, text, region, p)
-            fault = group_fault(made) or view_fault(made) or sheet_fault(command, folder, made)
+            fault = group_fault(made) or view_fault(made) or sheet_fault(command, folder, made) or told_fault(command, folder, made)
         except (ValueError, Refused) as error:
             fault = str(error)
         made_total += 1

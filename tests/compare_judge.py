@@ -22,7 +22,7 @@ from model.sheet import closure
 ROOT = Path(__file__).resolve().parent.parent
 COMMAND = ROOT / "target/host/fildwuk"
 KINDS = ("a basis", "index", "dependent", "multiple", "multiple up to a twisted part", "divisible", "divisible up to a twisted part", "outside", "open",
-         "bounds", "twisted", "free")
+         "bounds", "twisted", "free", "left out", "no groups", "a tag of the region in another dimension")
 MESHES = ROOT / "tests/meshes"
 
 
@@ -63,6 +63,9 @@ def words_fault(status, words, found):
             return "verdict"
         if multiple_due(group, thing) not in line:
             return "multiple"
+    left_out = [line for line in lines if line.endswith(": left out, it is part of the region")]
+    if [line.split(":")[0] for line in left_out] != [f"group {group['tag']}" for group in found["left_out"]]:
+        return "left out"
     if not found["basis"] and found["index"] > 1 and f"  they have index {found['index']} " not in words:
         return "index"
     if found["rank"] < found["free"] and f"  they have rank {found['rank']}, " not in words:
@@ -72,8 +75,11 @@ def words_fault(status, words, found):
 
 def fault_of(command, case):
     """What is wrong with the command on a case, None where nothing is, and what is due."""
-    due = judge(case.region, case.dimension, case.groups, case.tags)
-    status, output, _ = run(command, ["-", *case.words, "--json"], case.text)
+    due = {**judge(case.region, case.dimension, case.groups, case.tags), "left_out": case.left_out}
+    status, output, messages = run(command, ["-", *case.words, "--json"], case.text)
+    if not case.groups:
+        right = status == 1 and output == "" and messages.startswith("fildwuk: the file has no physical group of ")
+        return None if right and messages.endswith(f": {case.left_out[0]['tag']}\n" if case.left_out else ("s\n", "a\n")) else messages, due
     try:
         found = json.loads(output)
     except ValueError:
@@ -96,6 +102,9 @@ def compare_random(command, count, seed):
         fault, due = fault_of(command, case)
         met["cases"] += 1
         met["a basis"] += due["basis"]
+        met["left out"] += bool(due["left_out"] and due["groups"])
+        met["no groups"] += not due["groups"]
+        met["a tag of the region in another dimension"] += any(group["tag"] in case.tags for group in due["groups"])
         met["index"] += due["index"] > 1
         met["dependent"] += bool(due["relations"])
         for group in due["groups"]:
@@ -115,8 +124,15 @@ TRIANGLE = "$MeshFormat\n2.2 0 8\n$EndMeshFormat\n$Nodes\n3\n1 0 0 0\n2 1 0 0\n3
 FAULTS = [
     ("unknown tag", TRIANGLE.format(1, "1 2 2 5 1 1 2 3\n"), ["8"], 2, "", "no group of lines has the tag 8"),
     ("tag of another dimension", TRIANGLE.format(1, "1 2 2 5 1 1 2 3\n"), ["5"], 2, "", "no group of lines has the tag 5"),
-    ("no groups, no loops", TRIANGLE.format(1, "1 2 2 5 1 1 2 3\n"), [], 0, "together: a basis of the free loops, of which there are none", ""),
-    ("no groups, a loop", TRIANGLE.format(3, "1 1 2 0 1 1 2\n2 1 2 0 1 2 3\n3 1 2 0 1 1 3\n"), [], 1, "rank 0, the free loops have rank 1", ""),
+    ("no groups, no loops", TRIANGLE.format(1, "1 2 2 5 1 1 2 3\n"), [], 1, "", "fildwuk: the file has no physical group of lines\n"),
+    ("no groups, a loop", TRIANGLE.format(3, "1 1 2 0 1 1 2\n2 1 2 0 1 2 3\n3 1 2 0 1 1 3\n"), [], 1, "", "the file has no physical group of lines\n"),
+    ("no groups named", TRIANGLE.format(1, "1 2 2 5 1 1 2 3\n"), ["5"], 2, "", "has the tag 5; the file has no physical group of lines\n"),
+    ("tags there are", TRIANGLE.format(2, "1 2 2 5 1 1 2 3\n2 1 2 9 1 1 2\n").replace("$Nodes", '$PhysicalNames\n2\n1 4 "x"\n2 5 "y"\n$EndPhysicalNames\n$Nodes', 1),
+     ["5"], 2, "", 'no group of lines has the tag 5; the tags are 4 "x", 9\n'),
+    ("a tag of two dimensions", TRIANGLE.format(2, "1 2 2 1 1 1 2 3\n2 1 2 1 1 1 2\n"), ["--region", "1"], 1, "group 1, 1 line: no cycle", ""),
+    ("a stray wire is no region", TRIANGLE.format(3, "1 2 2 1 1 1 2 3\n2 1 2 1 1 1 2\n3 1 2 2 1 1 2\n"), ["2", "--region", "1"], 1,
+     "region: 3 vertices, 3 edges, 1 triangle, ", ""),
+    ("a wire left out", TRIANGLE.format(2, "1 1 2 1 1 1 2\n2 1 2 2 1 1 2\n"), ["--region", "1"], 1, "group 1: left out, it is part of the region\n", ""),
     ("line with one node twice", TRIANGLE.format(2, "1 2 2 5 1 1 2 3\n2 1 2 9 1 1 1\n"), [], 1, "the line in line 13 of the file is no edge", ""),
     ("line of three nodes", TRIANGLE.format(2, "1 2 2 5 1 1 2 3\n2 1 2 9 1 1 2 3\n"), [], 1, "the line in line 13 of the file is no edge", ""),
     ("line alone", TRIANGLE.format(1, "1 1 2 9 1 1 2\n"), [], 1, "name the groups by their tags, or the region by --region\n", ""),
@@ -125,8 +141,8 @@ FAULTS = [
     ("large coefficient", TRIANGLE.format(32769, "1 2 2 5 1 1 2 3\n" + LARGE), [], 1, "its coefficient 32768 at (1,2) is beyond 32767", ""),
     ("malformed", "$MeshFormat\n", [], 1, "", "refused with 14"),
     ("faulty element", TRIANGLE.format(2, "1 1 2 9 1 1 2\n2 2 2 5 1 1 2 2\n"), [], 1, "", "refused with 15"),
-    ("unknown region", TRIANGLE.format(1, "1 2 2 5 1 1 2 3\n"), ["--region", "6"], 2, "", "no element has the physical tag 6"),
-    ("dimension 4", TRIANGLE.format(1, "1 2 2 5 1 1 2 3\n"), ["--dimension", "4"], 2, "", "dimension 0 to 3"),
+    ("unknown region", TRIANGLE.format(2, "1 2 2 5 1 1 2 3\n2 1 2 9 1 1 2\n"), ["--region", "6"], 2, "", "no element has the physical tag 6"),
+    ("dimension 4", TRIANGLE.format(1, "1 2 2 5 1 1 2 3\n"), ["--dimension", "4"], 1, "", "refused with 8: the dimension exceeds 3."),
     ("plain", TRIANGLE.format(1, "1 2 2 5 1 1 2 3\n"), ["--plain"], 2, "", "--plain"),
     ("many groups", TRIANGLE.format(1002, "1 2 2 5 1 1 2 3\n" + "".join(f"{i} 1 2 {i} 1 1 2\n" for i in range(10, 1011))), [], 1, "",
      "1001 groups are more than are judged at once"),

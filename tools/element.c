@@ -45,16 +45,16 @@ static enum element_fault fault_of(const struct mesh *mesh, const struct mesh_el
 }
 
 int element_first_fault(const struct mesh *mesh, const struct tags *region, struct element_found *found) {
-    uint8_t *listed = listed_nodes(mesh);
+    uint8_t *listed = listed_nodes(mesh), *marks = region_marks(mesh, region);
+    int done = listed != NULL && marks != NULL;
     *found = (struct element_found){ELEMENT_SOUND, 0, 0};
-    if (listed == NULL)
-        return 0;
-    for (size_t i = 0; i < mesh->element_total && found->fault == ELEMENT_SOUND; i++) {
-        if (!region_has(region, &mesh->elements[i]))
+    for (size_t i = 0; done && i < mesh->element_total && found->fault == ELEMENT_SOUND; i++) {
+        if (!marks[i])
             continue;
         found->place = i;
         found->fault = fault_of(mesh, &mesh->elements[i], listed, &found->node);
     }
     free(listed);
-    return 1;
+    free(marks);
+    return done;
 }

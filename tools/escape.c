@@ -41,8 +41,8 @@ static size_t shown_length(const uint8_t *bytes, size_t left) {
     return length > 0 && length <= left && shown(character(bytes, length), length) ? length : 0;
 }
 
-void write_escaped(FILE *file, const uint8_t *bytes, size_t length, size_t most) {
-    size_t end = length < most ? length : most;
+/* Writes the bytes up to the end of the character that reaches a place. */
+static void write_up_to(FILE *file, const uint8_t *bytes, size_t length, size_t end) {
     for (size_t at = 0; at < end;) {
         size_t step = shown_length(bytes + at, length - at);
         if (step > 0)
@@ -51,8 +51,17 @@ void write_escaped(FILE *file, const uint8_t *bytes, size_t length, size_t most)
             fprintf(file, "\\x%02x", bytes[at]);
         at += step > 0 ? step : 1;
     }
-    if (end < length)
-        fputs(" ..", file);
+}
+
+void write_escaped(FILE *file, const uint8_t *bytes, size_t length, size_t most) {
+    write_up_to(file, bytes, length, length < most ? length : most);
+    fputs(length > most ? " .." : "", file);
+}
+
+void write_quoted(FILE *file, const uint8_t *bytes, size_t length, size_t most) {
+    fputc('"', file);
+    write_up_to(file, bytes, length, length < most ? length : most);
+    fputs(length > most ? "\" .." : "\"", file);
 }
 
 void write_name(FILE *file, const char *name) { write_escaped(file, (const uint8_t *)name, strlen(name), SIZE_MAX); }

@@ -10,6 +10,9 @@
 /* Writes the first `most` bytes, and ` ..` where there are more. */
 void write_escaped(FILE *file, const uint8_t *bytes, size_t length, size_t most);
 
+/* The same in quotes, with ` ..` after them. */
+void write_quoted(FILE *file, const uint8_t *bytes, size_t length, size_t most);
+
 /* Writes a name in full. */
 void write_name(FILE *file, const char *name);
 

@@ -3,7 +3,9 @@
 
 #include <errno.h>
 #include <string.h>
+#include <sys/stat.h>
 
+#include "hint.h"
 #include "output.h"
 #include "view.h"
 
@@ -11,9 +13,9 @@ enum { DIMENSION = 1 };
 
 uint32_t exports_dimension(const struct options *options) { return options->has_dimension ? options->dimension : DIMENSION; }
 
-static int misused(const char *why, FILE *err) {
+static int refused(const char *why, FILE *err) {
     fprintf(err, "fildwuk: %s\n", why);
-    return STATUS_FAILED;
+    return 0;
 }
 
 /* Writes the file of --groups, whose numbers are found. */
@@ -46,6 +48,27 @@ static int write_both(const struct options *options, const struct source *source
     return status != STATUS_DONE || options->groups == NULL ? status : write_groups(options, source, mesh, homology, groups, err);
 }
 
+/* Whether two names, which may be null, are those of one file. */
+static int is_same(const char *one, const char *other) {
+    struct stat first, second;
+    if (one == NULL || other == NULL)
+        return 0;
+    if (strcmp(one, other) == 0)
+        return 1;
+    return stat(one, &first) == 0 && stat(other, &second) == 0 && S_ISREG(first.st_mode) && first.st_dev == second.st_dev && first.st_ino == second.st_ino;
+}
+
+int exports_check(const struct options *options, const struct source *source, FILE *err) {
+    if (options->groups == NULL && options->view == NULL)
+        return 1;
+    if (!source->is_mesh && !hint_is_text(source->text))
+        return refused("--groups and --view are for a mesh, and the input is a sheet, which has no coordinates", err);
+    if (is_same(options->groups, options->view))
+        return refused("--groups and --view name the same file", err);
+    return (options->groups == NULL || output_check(options->groups, options->input, err)) &&
+           (options->view == NULL || output_check(options->view, options->input, err));
+}
+
 int exports_write(const struct options *options, const struct source *source, const struct homology *homology, struct groups *groups,
                   const struct console *console) {
     struct mesh mesh;
@@ -53,12 +76,10 @@ int exports_write(const struct options *options, const struct source *source, co
     *groups = (struct groups){0, 0, 0, 0};
     if (options->groups == NULL && options->view == NULL)
         return STATUS_DONE;
-    if (!source->is_mesh)
-        return misused("--groups and --view are for a mesh, and the input is a sheet, which has no coordinates", console->err);
-    if (options->groups != NULL && options->view != NULL && strcmp(options->groups, options->view) == 0)
-        return misused("--groups and --view name the same file", console->err);
-    if (mesh_read(source->text, &mesh, &fault) != MESH_READ)
-        return misused(strerror(ENOMEM), console->err);
+    if (mesh_read(source->text, &mesh, &fault) != MESH_READ) {
+        refused(strerror(ENOMEM), console->err);
+        return STATUS_FAILED;
+    }
     int status = write_both(options, source, &mesh, homology, groups, console->err);
     mesh_free(&mesh);
     return status;

@@ -11,9 +11,13 @@
 /* The dimension whose generators are written: that of --dimension, else 1. */
 uint32_t exports_dimension(const struct options *options);
 
+/* Whether the files that the options name can be written, as far as that is known before: they are of a mesh, are two files and neither is the input or a
+ * folder. Says why where it is not so. */
+int exports_check(const struct options *options, const struct source *source, FILE *err);
+
 /* Writes the files that the options name, of the report on that dimension. Answers STATUS_DONE, STATUS_REFUSED where the generators cannot be written
- * so, or STATUS_FAILED; after these two it has said why and left the files as they were. `groups` gets the numbers of the groups, for groups_tell,
- * where --groups is given. */
+ * so, or STATUS_FAILED; after these two it has said why and left the files as they were. `groups` gets the numbers of the groups, for groups_tell;
+ * they are 0 where --groups is not given. */
 int exports_write(const struct options *options, const struct source *source, const struct homology *homology, struct groups *groups,
                   const struct console *console);
 

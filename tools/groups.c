@@ -167,10 +167,15 @@ void groups_write(FILE *file, const struct text *text, const struct mesh *mesh, 
     copy(file, text, mesh->elements_end, text->length);
 }
 
-void groups_tell(FILE *file, const struct homology *homology, const struct tags *region, const struct groups *groups) {
+void groups_tell(FILE *file, const char *before, const struct homology *homology, const struct tags *region, const struct groups *groups) {
+    if (homology_generators(homology) == 0)
+        fprintf(file, "%sno generator, and so no group and no view\n", before);
     for (size_t k = 0; k < homology_generators(homology); k++) {
         size_t elements = groups_elements(homology, k);
-        fprintf(file, "group %zu \"", groups->first_tag + k);
+        if (groups->first_tag > 0)
+            fprintf(file, "%sgroup %zu \"", before, groups->first_tag + k);
+        else
+            fprintf(file, "%sview \"", before);
         generator_write_name(file, homology, region, k);
         fputs("\": ", file);
         generator_write_kind(file, homology, k);

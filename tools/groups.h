@@ -30,7 +30,8 @@ void groups_write(FILE *file, const struct text *text, const struct mesh *mesh, 
 /* The number of elements of group k, copies counted. */
 size_t groups_elements(const struct homology *homology, size_t k);
 
-/* Says each group's tag, name and elements in words. */
-void groups_tell(FILE *file, const struct homology *homology, const struct tags *region, const struct groups *groups);
+/* Says each group's tag, name and elements in words, each view's name and elements where there are no groups, which is where first_tag is 0, and where
+ * there is no generator, that the files have none. The lines start with `before`. */
+void groups_tell(FILE *file, const char *before, const struct homology *homology, const struct tags *region, const struct groups *groups);
 
 #endif

@@ -5,6 +5,8 @@
 
 #include "lines.h"
 
+enum { START_BYTES = 256, DELETE = 127 };
+
 static const char SAVE[] = "`gmsh FILE -save -format msh22 -o NEW.msh` writes it as MSH 2.2 ASCII";
 
 /* How files of a format start, what they are, and what helps. */
@@ -27,7 +29,6 @@ static const struct start STARTS[] = {
     {"$NOD\n", 5, "It is MSH 1", SAVE},
     {"$NOD\r\n", 6, "It is MSH 1", SAVE},
     {"    -1\n", 7, "It is UNV", SAVE},
-    {"SetFactory(", 11, "It is a script of Gmsh", "`gmsh -3 FILE -format msh22 -o NEW.msh` meshes it"},
 };
 
 /* Whether these bytes stand in the text. */
@@ -67,6 +68,24 @@ static void write_version(const struct text *text, FILE *file) {
         write_section(text, file);
 }
 
+int hint_is_text(const struct text *text) {
+    size_t looked_at = text->length < START_BYTES ? text->length : START_BYTES;
+    for (size_t i = 0; i < looked_at; i++)
+        if (!(text->bytes[i] >= ' ' && text->bytes[i] != DELETE) && memchr("\t\r\n", text->bytes[i], 3) == NULL)
+            return 0;
+    return text->length > 0 && !input_is_mesh(text);
+}
+
+/* Whether a text has a word that only a script of Gmsh has. */
+static int is_script(const struct text *text) {
+    static const char *const WORDS[] = {"SetFactory(", "Point(", "Point (", "Physical Point", "Physical Curve", "Physical Line", "Physical Surface",
+                                        "Physical Volume", "Extrude {", "Extrude{", "Merge \"", "Box(", "Mesh.CharacteristicLength", "Mesh.MeshSize"};
+    for (size_t i = 0; i < sizeof WORDS / sizeof *WORDS; i++)
+        if (has(text, WORDS[i]))
+            return 1;
+    return 0;
+}
+
 void hint_format(const struct text *text, FILE *file) {
     for (size_t i = 0; i < sizeof STARTS / sizeof *STARTS; i++)
         if (text->length >= STARTS[i].length && memcmp(text->bytes, STARTS[i].bytes, STARTS[i].length) == 0) {
@@ -75,4 +94,7 @@ void hint_format(const struct text *text, FILE *file) {
         }
     if (input_is_mesh(text))
         write_version(text, file);
+    else if (hint_is_text(text))
+        fputs(is_script(text) ? "It is a script of Gmsh: `gmsh -3 FILE -format msh22 -o NEW.msh` meshes it"
+                              : "It is text; a mesh starts with $MeshFormat and nothing before it", file);
 }

@@ -6,6 +6,9 @@
 
 #include "input.h"
 
+/* Whether the input is text and no mesh: its first bytes are printable, or ends of lines, and the first is no `$`. No sheet starts so. */
+int hint_is_text(const struct text *text);
+
 /* Writes what the input is, as a sentence without a line feed; nothing where its first bytes do not tell. */
 void hint_format(const struct text *text, FILE *file);
 

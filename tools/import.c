@@ -1,6 +1,8 @@
 /* The command `import`: the sheet of a mesh. */
 #include "import.h"
 
+#include <unistd.h>
+
 #include "fildwuk.h"
 #include "output.h"
 #include "refusal.h"
@@ -12,10 +14,12 @@ const char IMPORT_HELP[] =
     "\n"
     "Reads a mesh in MSH 2.2 ASCII, as `gmsh -format msh22` writes it, and writes the\n"
     "sheet of its cells and all their faces. Without FILE.msh, or where it is -,\n"
-    "standard input is read; without -o, standard output is written.\n"
+    "standard input is read; without -o, standard output is written, where it is no\n"
+    "terminal.\n"
     "\n"
     "  -o FILE.sheet    the file to write; it gets its name when it is complete\n"
-    "  --region TAG ..  only the elements with these physical tags\n"
+    "  --region TAG ..  only the elements with these physical tags, of the highest\n"
+    "                   dimension that has the tag\n"
     "  --limit host     at most 48 cells in a dimension, not 256\n"
     "\n"
     "Exit status: 0 the sheet is written, 1 the mesh is refused, 2 a file cannot be\n"
@@ -37,6 +41,10 @@ static int write_sheet(const struct options *options, const struct source *sourc
 
 int import_text(const struct options *options, const struct text *text, const struct console *console) {
     struct source source;
+    if (options->output == NULL && isatty(STDOUT_FILENO)) {
+        fputs("fildwuk: a sheet is no text for a terminal: name a file after -o, or - (fildwuk import --help)\n", console->err);
+        return STATUS_FAILED;
+    }
     if (!source_import(options, text, &source, console->err))
         return STATUS_FAILED;
     struct refusal refusal = {.number = source.answer, .options = options, .source = &source};

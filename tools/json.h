@@ -20,9 +20,9 @@ void json_start(const uint8_t *sheet, const struct options *options, FILE *file)
 /* Writes the start of the object of a report, with the limit, the region and the counts of the sheet. */
 void json_begin(const uint8_t *sheet, const struct options *options, FILE *file);
 
-/* Writes a dimension, also one that is refused; `first` is 1 for the first of them. `groups` has the tags of its generators, null where they have
- * none. */
-void json_dimension(const uint8_t *sheet, const struct homology *homology, const struct groups *groups, int first, FILE *file);
+/* Writes a dimension, also one that is refused; `first` is 1 for the first of them. `groups` has the tags of its generators, where they are
+ * written as groups or views, else it is null. */
+void json_dimension(const uint8_t *sheet, const struct homology *homology, const struct tags *region, const struct groups *groups, int first, FILE *file);
 
 /* Writes the end of the object. */
 void json_end(FILE *file);

@@ -16,9 +16,10 @@
 #include "mesh.h"
 #include "physical.h"
 #include "refusal.h"
+#include "region.h"
 #include "source.h"
 
-enum { DIMENSION = 1, TAGS_SHOWN = 20 };
+enum { DIMENSION = 1 };
 
 const char JUDGE_HELP[] =
     "usage: fildwuk judge FILE.msh [TAG ..] [--dimension P] [--region TAG ..]\n"
@@ -31,45 +32,46 @@ const char JUDGE_HELP[] =
     "is free, is a number times another; and of all together: whether they are a\n"
     "basis of the free loops, else their index, and how they depend on each other.\n"
     "\n"
-    "  --region TAG ..  the region is the elements with these physical tags; without\n"
-    "                   it, all elements but those of the groups judged\n"
+    "  --region TAG ..  the region is the elements with these physical tags, of the\n"
+    "                   highest dimension that has the tag; without it, all elements\n"
+    "                   but those of the groups judged\n"
     "  --dimension P    judge groups of points (0), lines (1, as without it),\n"
     "                   triangles (2, as cavities) or tetrahedra (3)\n"
     "  --json           one object for a script\n"
     "\n"
     "Exit status: 0 where all groups are cycles of the region and together a basis of\n"
-    "its free loops, twisted parts aside; 1 where they are not, or the mesh is\n"
-    "refused; 2 where a file cannot be read, or a tag is none of a group.\n";
+    "its free loops, twisted parts aside; 1 where they are not, the file has no such\n"
+    "group, or the mesh is refused; 2 where a file cannot be read, or a tag is none\n"
+    "of a group.\n";
 
 static int failed(const char *why, FILE *err) {
     fprintf(err, "fildwuk: %s\n", why);
     return STATUS_FAILED;
 }
 
-/* The mesh to be judged, the tags of the groups, and their dimension. */
+/* The mesh to be judged, the tags of the groups, those of groups that are left out as part of the region, and their dimension. */
 struct docket {
     const struct options *options;
     const struct text *text;
     const struct mesh *mesh;
-    struct tags tags;
+    struct tags tags, left_out;
     uint32_t dimension;
 };
 
 /* Says that a tag is none of a group, and which are. */
 static int unknown(const struct docket *docket, const struct tags *all, uint32_t tag, FILE *err) {
-    fprintf(err, "fildwuk: no group of %s has the tag %" PRIu32, physical_element_name(docket->dimension, 2), tag);
-    for (size_t i = 0; i < all->total && i < TAGS_SHOWN; i++)
-        fprintf(err, "%s%" PRIu32, i == 0 ? "; the tags are " : ", ", all->list[i]);
-    fputs(all->total > TAGS_SHOWN ? ", ..\n" : "\n", err);
+    const char *elements = physical_element_name(docket->dimension, 2);
+    fprintf(err, "fildwuk: no group of %s has the tag %" PRIu32, elements, tag);
+    physical_write_tags(err, "; the tags are ", docket->text, docket->mesh, docket->dimension, all);
+    if (all->total == 0)
+        fprintf(err, "; the file has no physical group of %s", elements);
+    fputc('\n', err);
     return STATUS_FAILED;
 }
 
-/* Puts the tags named, each once, in place of all. */
-static int name_tags(struct docket *docket, struct tags *all, FILE *err) {
+/* Takes the tags named, each once. */
+static int take_named(struct docket *docket, const struct tags *all, FILE *err) {
     const struct tags *named = &docket->options->tags;
-    docket->tags = (struct tags){calloc(named->total + 1, sizeof *docket->tags.list), 0};
-    if (docket->tags.list == NULL)
-        return failed(strerror(ENOMEM), err);
     for (size_t i = 0; i < named->total; i++) {
         if (!tags_have(all, named->list[i]))
             return unknown(docket, all, named->list[i], err);
@@ -79,20 +81,36 @@ static int name_tags(struct docket *docket, struct tags *all, FILE *err) {
     return STATUS_DONE;
 }
 
+/* Takes all tags but those of groups that are part of the region, which are left out. */
+static int take_all(struct docket *docket, const struct tags *all, FILE *err) {
+    const char *elements = physical_element_name(docket->dimension, 2);
+    for (size_t i = 0; i < all->total; i++) {
+        int left_out = region_takes(docket->mesh, &docket->options->region, docket->dimension, all->list[i]);
+        struct tags *taken = left_out ? &docket->left_out : &docket->tags;
+        taken->list[taken->total++] = all->list[i];
+    }
+    if (docket->tags.total > 0)
+        return STATUS_DONE;
+    fprintf(err, "fildwuk: the file has no physical group of %s", elements);
+    physical_write_tags(err, " but those of the region, which are left out: ", docket->text, docket->mesh, docket->dimension, &docket->left_out);
+    fputc('\n', err);
+    return STATUS_REFUSED;
+}
+
 /* Finds the tags to judge: those named, else all but those of the region. */
 static int find_tags(struct docket *docket, FILE *err) {
-    static const struct tags NONE = {NULL, 0};
     struct tags all;
-    int named = docket->options->tags.total > 0;
-    if (!physical_tags(docket->mesh, docket->dimension, named ? &NONE : &docket->options->region, &all))
+    size_t named = docket->options->tags.total;
+    if (!physical_tags(docket->mesh, docket->dimension, &all))
         return failed(strerror(ENOMEM), err);
-    int status = STATUS_DONE;
-    if (named) {
-        status = name_tags(docket, &all, err);
-        free(all.list);
-    } else {
-        docket->tags = all;
-    }
+    docket->tags.list = calloc(all.total + named + 1, sizeof *docket->tags.list);
+    docket->left_out.list = calloc(all.total + 1, sizeof *docket->left_out.list);
+    int status = STATUS_FAILED;
+    if (docket->tags.list == NULL || docket->left_out.list == NULL)
+        failed(strerror(ENOMEM), err);
+    else
+        status = named > 0 ? take_named(docket, &all, err) : take_all(docket, &all, err);
+    free(all.list);
     if (status == STATUS_DONE && docket->tags.total > JUDGEMENT_MOST) {
         fprintf(err, "fildwuk: %zu groups are more than are judged at once, which are %d: name their tags\n", docket->tags.total, JUDGEMENT_MOST);
         return STATUS_REFUSED;
@@ -135,6 +153,8 @@ static int judge_sheet(const struct docket *docket, const struct source *region,
     struct judgement judgement;
     enum judgement_answer answer = judgement_make(docket->mesh, region->sheet.bytes, region->sheet.length, homology, &docket->tags, &judgement);
     int status = STATUS_FAILED;
+    judgement.mesh = docket->mesh;
+    judgement.left_out = &docket->left_out;
     if (answer == JUDGEMENT_DONE) {
         status = judgement.together == TOGETHER_BASIS ? STATUS_DONE : STATUS_REFUSED;
         if (docket->options->form == FORM_JSON)
@@ -175,7 +195,15 @@ static int judge_mesh(struct docket *docket, const struct console *console) {
     }
     input_free(&chosen);
     free(docket->tags.list);
+    free(docket->left_out.list);
     return status;
+}
+
+/* Says that a dimension is refused, as the proved calls refuse it. */
+static int refuse_dimension(const struct docket *docket, const struct console *console) {
+    struct source source = {.text = docket->text, .is_mesh = 1};
+    struct refusal refusal = {FILDWUK_DIMENSION_EXCEEDS_TOP, docket->options, &source, 0, 0};
+    return refuse(&refusal, console);
 }
 
 /* Says why a text is refused that is not of the form. */
@@ -192,17 +220,19 @@ static int refuse_text(const struct options *options, const struct text *text, c
 int judge_text(const struct options *options, const struct text *text, const struct console *console) {
     struct mesh mesh;
     struct mesh_fault fault;
-    struct docket docket = {options, text, &mesh, {NULL, 0}, options->has_dimension ? options->dimension : DIMENSION};
-    if (docket.dimension >= SHEET_DIMENSIONS)
-        return failed("groups have dimension 0 to 3 (fildwuk judge --help)", console->err);
+    struct docket docket = {options, text, &mesh, {NULL, 0}, {NULL, 0}, options->has_dimension ? options->dimension : DIMENSION};
     if (options->form == FORM_PLAIN)
         return failed("judge has no --plain (fildwuk judge --help)", console->err);
+    if (options->no_tag != NULL) {
+        region_no_tag(text, options->no_tag, console->err);
+        return STATUS_FAILED;
+    }
     enum mesh_answer answer = mesh_read(text, &mesh, &fault);
     if (answer == MESH_NO_MEMORY)
         return failed(strerror(ENOMEM), console->err);
     if (answer == MESH_MALFORMED)
         return refuse_text(options, text, console);
-    int status = judge_mesh(&docket, console);
+    int status = docket.dimension < SHEET_DIMENSIONS ? judge_mesh(&docket, console) : refuse_dimension(&docket, console);
     mesh_free(&mesh);
     return status;
 }

@@ -5,6 +5,7 @@
 #include "escape.h"
 #include "json.h"
 #include "judge_words.h"
+#include "physical.h"
 
 enum { NAME_MOST = 1000 };
 
@@ -14,12 +15,12 @@ static void write_wide(FILE *file, wide number) {
 }
 
 /* Writes a group's name as a string, with what a terminal would obey escaped first; null where it has none. */
-static void write_name_of(FILE *file, const struct text *text, const struct judged *judged) {
+static void write_name_of(FILE *file, const struct text *text, const struct mesh_name *found) {
     char *bytes = NULL;
     size_t length = 0;
-    FILE *name = judged->name == NULL ? NULL : open_memstream(&bytes, &length);
+    FILE *name = found == NULL ? NULL : open_memstream(&bytes, &length);
     if (name != NULL)
-        write_escaped(name, text->bytes + judged->name->name.start, judged->name->name.end - judged->name->name.start, NAME_MOST);
+        write_escaped(name, text->bytes + found->name.start, found->name.end - found->name.start, NAME_MOST);
     if (name != NULL && fclose(name) == 0)
         json_string(bytes, file);
     else
@@ -59,7 +60,7 @@ static void write_group(FILE *file, const struct text *text, const struct judgem
     static const char *const VERDICTS[] = {"outside", "large", "open", "bounds", "twisted", "free"};
     const struct judged *judged = &judgement->groups[i];
     fprintf(file, "%s\n{\"tag\": %" PRIu32 ", \"name\": ", i == 0 ? "" : ",", judged->tag);
-    write_name_of(file, text, judged);
+    write_name_of(file, text, judged->name);
     fprintf(file, ", \"elements\": %zu, \"cycle\": %s, \"verdict\": \"%s\"", judged->elements, judged_is_cycle(judged) ? "true" : "false",
             VERDICTS[judged->verdict]);
     if (judged_is_cycle(judged))
@@ -67,6 +68,17 @@ static void write_group(FILE *file, const struct text *text, const struct judgem
     else
         write_fault(file, judged);
     fputc('}', file);
+}
+
+/* Writes the groups that are part of the region, and so not judged. */
+static void write_left_out(FILE *file, const struct text *text, const struct judgement *judgement) {
+    fputs("],\n\"left_out\": [", file);
+    for (size_t i = 0; i < judgement->left_out->total; i++) {
+        uint32_t tag = judgement->left_out->list[i];
+        fprintf(file, "%s{\"tag\": %" PRIu32 ", \"name\": ", i == 0 ? "" : ", ", tag);
+        write_name_of(file, text, physical_name(judgement->mesh, judgement->homology->dimension, tag));
+        fputc('}', file);
+    }
 }
 
 /* Writes a relation as pairs of a coefficient and a tag. */
@@ -125,5 +137,6 @@ void judge_write_json(FILE *file, const struct options *options, const struct te
     fputs("], \"groups\": [", file);
     for (size_t i = 0; i < judgement->total; i++)
         write_group(file, text, judgement, i);
+    write_left_out(file, text, judgement);
     write_together(file, judgement);
 }

@@ -3,11 +3,8 @@
 
 #include <inttypes.h>
 
-#include "escape.h"
 #include "physical.h"
 #include "words.h"
-
-enum { NAME_SHOWN = 100 };
 
 static const char *thing(const struct judgement *judgement, size_t number) { return words_name(judgement->homology->dimension, number); }
 
@@ -36,12 +33,19 @@ static void write_region(FILE *file, const uint8_t *sheet, const struct judgemen
 
 static void write_group(FILE *file, const struct text *text, const struct judgement *judgement, const struct judged *judged) {
     fprintf(file, "group %" PRIu32, judged->tag);
-    if (judged->name != NULL) {
-        fputs(" \"", file);
-        write_escaped(file, text->bytes + judged->name->name.start, judged->name->name.end - judged->name->name.start, NAME_SHOWN);
-        fputc('"', file);
-    }
+    physical_write_name(file, text, judged->name);
     fprintf(file, ", %zu %s: ", judged->elements, physical_element_name(judgement->homology->dimension, judged->elements));
+}
+
+/* Says which groups are part of the region, and so not judged. */
+static void write_left_out(FILE *file, const struct text *text, const struct judgement *judgement) {
+    uint32_t dimension = judgement->homology->dimension;
+    for (size_t i = 0; i < judgement->left_out->total; i++) {
+        uint32_t tag = judgement->left_out->list[i];
+        fprintf(file, "group %" PRIu32, tag);
+        physical_write_name(file, text, physical_name(judgement->mesh, dimension, tag));
+        fputs(": left out, it is part of the region\n", file);
+    }
 }
 
 /* Writes the coordinates: residues with their orders, then the numbers of the free part. */
@@ -199,6 +203,7 @@ void judge_write_words(FILE *file, const struct options *options, const struct t
         write_group(file, text, judgement, &judgement->groups[i]);
         write_verdict(file, judgement, i);
     }
+    write_left_out(file, text, judgement);
     if (judgement->together == TOGETHER_BASIS) {
         fprintf(file, "together: a basis of the free %s%s\n", thing(judgement, 2), judgement->total == 0 ? ", of which there are none" : "");
         return;

@@ -56,6 +56,8 @@ enum together {
 
 struct judgement {
     const struct homology *homology;
+    const struct mesh *mesh;     /* this and the next are put there by the caller, for the writers */
+    const struct tags *left_out; /* the groups that are part of the region, and so not judged */
     struct judged *groups;
     size_t total;
     enum together together;

@@ -60,11 +60,16 @@ static int set_file(struct words *words, const char **place, const char *what, c
 
 static int set_output(struct words *words, struct options *options) { return set_file(words, &options->output, "one file is wanted after ", "-o"); }
 
-static int set_groups(struct words *words, struct options *options) {
-    return set_file(words, &options->groups, "one file is wanted after ", "--groups");
+/* The same of a file that is written beside the report, which standard output has. */
+static int set_beside(struct words *words, const char **place, const char *option) {
+    if (!set_file(words, place, "one file is wanted after ", option))
+        return 0;
+    return strcmp(*place, "-") != 0 || misused(words, "standard output has the report: a file is wanted after ", option);
 }
 
-static int set_view(struct words *words, struct options *options) { return set_file(words, &options->view, "one file is wanted after ", "--view"); }
+static int set_groups(struct words *words, struct options *options) { return set_beside(words, &options->groups, "--groups"); }
+
+static int set_view(struct words *words, struct options *options) { return set_beside(words, &options->view, "--view"); }
 
 static int set_dimension(struct words *words, struct options *options) {
     if (options->has_dimension || words->next == words->end || !read_number(*words->next, &options->dimension))
@@ -93,10 +98,15 @@ static int set_limit(struct words *words, struct options *options) {
     return 1;
 }
 
-/* Takes the numbers that follow as tags, one at least. */
+/* Takes the numbers that follow as tags, one at least. Another word after the file is kept, so that the tags of the file can be told. */
 static int set_region(struct words *words, struct options *options) {
     uint32_t tag;
-    if (words->next == words->end || !read_number(*words->next, &tag))
+    int none = words->next == words->end || !read_number(*words->next, &tag);
+    if (none && words->next < words->end && words->next[0][0] != '-' && options->input != NULL && options->no_tag == NULL) {
+        options->no_tag = *words->next++;
+        return 1;
+    }
+    if (none)
         return misused(words, "physical tags are wanted after ", "--region");
     for (; words->next < words->end && read_number(*words->next, &tag); words->next++)
         if (!add_tag(words, &options->region, tag))

@@ -38,6 +38,7 @@ struct options {
     enum form form;
     enum limit limit;
     struct tags region;  /* empty where --region is not given */
+    const char *no_tag;  /* the word after --region that is no number; null where there is none */
     struct tags tags;    /* the numbers after the file */
     int help;
 };

@@ -32,6 +32,27 @@ static int is_input(const char *name, const char *input) {
     return S_ISREG(read.st_mode) && read.st_dev == written.st_dev && read.st_ino == written.st_ino;
 }
 
+/* Whether the folder that a name stands in is there. Answers 0 where it is not, with errno. */
+static int has_folder(const char *name) {
+    const char *slash = strrchr(name, '/');
+    char *folder = slash == NULL ? strdup(".") : strndup(name, slash == name ? 1 : (size_t)(slash - name));
+    int there = folder != NULL && access(folder, X_OK) == 0, why = errno;
+    free(folder);
+    errno = why;
+    return there;
+}
+
+int output_check(const char *name, const char *input, FILE *err) {
+    struct stat there;
+    if (is_input(name, input))
+        return failed(name, "it is the input", err);
+    if (is_standard(name))
+        return 1;
+    if (stat(name, &there) == 0)
+        return !S_ISDIR(there.st_mode) || failed(name, strerror(EISDIR), err);
+    return has_folder(name) || failed(name, strerror(errno), err);
+}
+
 int output_begin(struct output *output, const char *name, const char *input, FILE *err) {
     *output = (struct output){NULL, name, NULL, 0};
     if (is_input(name, input))

@@ -23,6 +23,9 @@ struct output {
     size_t length;
 };
 
+/* Whether an output of this name can be begun and is no folder and in a folder that there is; says why where it is not so. Names are as below. */
+int output_check(const char *name, const char *input, FILE *err);
+
 /* Begins the output of this name; null and `-` stand for standard output. `input` is the name of the command's input, null and `-` for standard
  * input: a named regular file that is both is refused. Answers 1, or 0 where it fails and says why. */
 int output_begin(struct output *output, const char *name, const char *input, FILE *err);

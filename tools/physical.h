@@ -17,12 +17,18 @@ uint32_t physical_kind(uint32_t dimension);
 /* `point`, `line`, `triangle`, `tetrahedron`, or their plural where the number is not 1. */
 const char *physical_element_name(uint32_t dimension, size_t number);
 
-/* Lists the tags of the groups of a dimension, rising: those of its elements and of its names, but for 0 and the tags of the region. Answers 0 where
- * there is no memory. The list is to be given to free. */
-int physical_tags(const struct mesh *mesh, uint32_t dimension, const struct tags *region, struct tags *found);
+/* Lists the tags of the groups of a dimension, rising: those of its elements and of its names, but for 0. Answers 0 where there is no memory. The list is
+ * to be given to free. */
+int physical_tags(const struct mesh *mesh, uint32_t dimension, struct tags *found);
 
 /* The name of a group, null where it has none. */
 const struct mesh_name *physical_name(const struct mesh *mesh, uint32_t dimension, uint32_t tag);
+
+/* Writes a name of the text in quotes with a space before it; nothing where it is null. */
+void physical_write_name(FILE *file, const struct text *text, const struct mesh_name *name);
+
+/* Writes the tags of groups of a dimension with their names, up to 20 of them, after these words; nothing where there are none. */
+void physical_write_tags(FILE *file, const char *before, const struct text *text, const struct mesh *mesh, uint32_t dimension, const struct tags *tags);
 
 /* Tags in rising order, each with its place in the list they come from, so that the group of an element is found quickly. */
 struct physical_place {

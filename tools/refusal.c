@@ -23,7 +23,7 @@ const char *refusal_meaning(uint32_t number) {
 void refusal_where(const struct refusal *refusal, FILE *file) {
     if (refusal->number >= FIRST_OF_MESH)
         where_mesh(refusal->source->text, refusal->options, refusal->number, file);
-    else
+    else if (refusal->number == FILDWUK_SHEET_TOO_SHORT || !hint_is_text(refusal->source->text))
         where_sheet(&refusal->source->sheet, limit_cells(refusal->options->limit), refusal->number, file);
 }
 
@@ -33,10 +33,11 @@ static void write_help(const struct refusal *refusal, FILE *file) {
     if (number <= FILDWUK_LENGTH_DIFFERS || number == FILDWUK_MESH_MALFORMED)
         hint_format(refusal->source->text, file);
     if (number == FILDWUK_TOO_WIDE)
-        fputs("Parts that do not touch, asked for apart (--region TAG), or another numbering of the nodes may stay within it", file);
+        fprintf(file, "Parts that do not touch, asked for apart%s, or another numbering of the nodes may stay within it",
+                refusal->source->is_mesh ? " (--region TAG)" : "");
     if (number == FILDWUK_ELEMENT_FAULTY && where_mesh_other_kind(refusal->source->text, refusal->options))
         fputs("Elements are points, lines, triangles and tetrahedra of first order: mesh without Recombine and Mesh.ElementOrder", file);
-    if (number == FILDWUK_SHEET_TOO_LONG || number == FILDWUK_COUNT_EXCEEDS_LIMIT)
+    if (number == FILDWUK_SHEET_TOO_LONG || (number == FILDWUK_COUNT_EXCEEDS_LIMIT && !hint_is_text(refusal->source->text)))
         fputs(refusal->options->limit == LIMIT_HOST ? "Without --limit host the limit is 256" : "", file);
     if (number == FILDWUK_SHEET_TOO_LONG && refusal->options->limit == LIMIT_LIBRARY)
         fputs("Mesh more coarsely (`gmsh -clscale 30`, or -clmin with a length), or take a part (--region TAG)", file);

@@ -10,8 +10,47 @@
 
 enum { NAME_SHOWN = 40, TAGS_SHOWN = 20 };
 
-int region_has(const struct tags *region, const struct mesh_element *element) {
-    return region->total == 0 || (element->has_physical && tags_have(region, element->physical));
+/* The place of an element's tag in the region, SIZE_MAX where it has none there. */
+static size_t place_of(const struct tags *region, const struct mesh_element *element) {
+    for (size_t i = 0; element->has_physical && i < region->total; i++)
+        if (region->list[i] == element->physical)
+            return i;
+    return SIZE_MAX;
+}
+
+/* The most nodes that an element with this tag has, of the kinds that are read: one more than the highest dimension; 0 where there is none. */
+static size_t most_nodes(const struct mesh *mesh, uint32_t tag) {
+    size_t most = 0;
+    for (size_t i = 0; i < mesh->element_total; i++) {
+        const struct mesh_element *element = &mesh->elements[i];
+        size_t nodes = mesh_nodes_of_kind(element->kind);
+        if (element->has_physical && element->physical == tag && nodes > most)
+            most = nodes;
+    }
+    return most;
+}
+
+/* Marks the elements of the region, whose tags have these most nodes. */
+static void mark(const struct mesh *mesh, const struct tags *region, const size_t *most, uint8_t *marks) {
+    for (size_t i = 0; i < mesh->element_total; i++) {
+        size_t place = place_of(region, &mesh->elements[i]), nodes = mesh_nodes_of_kind(mesh->elements[i].kind);
+        marks[i] = region->total == 0 || (place != SIZE_MAX && (nodes == 0 || nodes == most[place]));
+    }
+}
+
+uint8_t *region_marks(const struct mesh *mesh, const struct tags *region) {
+    size_t *most = calloc(region->total + 1, sizeof *most);
+    uint8_t *marks = most == NULL ? NULL : calloc(mesh->element_total + 1, 1);
+    for (size_t i = 0; marks != NULL && i < region->total; i++)
+        most[i] = most_nodes(mesh, region->list[i]);
+    if (marks != NULL)
+        mark(mesh, region, most, marks);
+    free(most);
+    return marks;
+}
+
+int region_takes(const struct mesh *mesh, const struct tags *region, uint32_t dimension, uint32_t tag) {
+    return tags_have(region, tag) && most_nodes(mesh, tag) == dimension + 1;
 }
 
 static int no_memory(FILE *err) {
@@ -21,9 +60,7 @@ static int no_memory(FILE *err) {
 
 /* Makes the text with the elements of the region alone. Answers 0 where there is no memory. */
 static int choose(const struct text *text, const struct mesh *mesh, const struct tags *region, struct text *chosen) {
-    uint8_t *keep = malloc(mesh->element_total + 1);
-    for (size_t i = 0; keep != NULL && i < mesh->element_total; i++)
-        keep[i] = (uint8_t)region_has(region, &mesh->elements[i]);
+    uint8_t *keep = region_marks(mesh, region);
     int done = keep != NULL && chosen_text(text, mesh, keep, chosen);
     free(keep);
     return done;
@@ -69,10 +106,9 @@ static void write_names(const struct text *text, const struct mesh *mesh, uint32
         }
 }
 
-/* Says that no element has a tag, and which tags there are. */
-static int missing(const struct text *text, const struct mesh *mesh, uint32_t tag, FILE *err) {
+/* Writes the tags of the elements with their names, and ends the line. */
+static void write_tags(const struct text *text, const struct mesh *mesh, FILE *err) {
     uint32_t last = 0, next = 0;
-    fprintf(err, "fildwuk: no element has the physical tag %u", (unsigned)tag);
     for (int told = 0; next_tag(mesh, told == 0 ? NULL : &last, &next); told++, last = next) {
         if (told == TAGS_SHOWN) {
             fputs(", ..", err);
@@ -82,6 +118,26 @@ static int missing(const struct text *text, const struct mesh *mesh, uint32_t ta
         write_names(text, mesh, next, err);
     }
     fputs("\n", err);
+}
+
+/* Says that no element has a tag, and which tags there are. */
+static int missing(const struct text *text, const struct mesh *mesh, uint32_t tag, FILE *err) {
+    fprintf(err, "fildwuk: no element has the physical tag %u", (unsigned)tag);
+    write_tags(text, mesh, err);
+    return 0;
+}
+
+int region_no_tag(const struct text *text, const char *word, FILE *err) {
+    struct mesh mesh;
+    struct mesh_fault fault;
+    fputs("fildwuk: physical tags are wanted after --region, numbers, not ", err);
+    write_name(err, word);
+    if (mesh_read(text, &mesh, &fault) == MESH_READ) {
+        write_tags(text, &mesh, err);
+        mesh_free(&mesh);
+    } else {
+        fputs("\n", err);
+    }
     return 0;
 }
 

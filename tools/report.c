@@ -27,12 +27,14 @@ const char REPORT_HELP[] =
     "without it, or where it is -, standard input is read.\n"
     "\n"
     "  --dimension P    one dimension alone, 0 to 3\n"
-    "  --region TAG ..  only the elements of the mesh with these physical tags\n"
+    "  --region TAG ..  only the elements of the mesh with these physical tags, of\n"
+    "                   the highest dimension that has the tag\n"
     "  --plain          the lines that the program homology prints\n"
     "  --json           one JSON object\n"
     "  --limit host     by the host calls: at most 48 cells in a dimension, not 256\n"
-    "  --groups FILE    writes the mesh with each generator as a physical group\n"
-    "  --view FILE      writes each generator as a view of Gmsh\n"
+    "  --groups FILE    writes the mesh with each generator of one dimension, that of\n"
+    "                   --dimension or 1, as a physical group\n"
+    "  --view FILE      writes each of these generators as a view of Gmsh\n"
     "\n"
     "Exit status: 0 done, 1 the input is refused, 2 a file cannot be read or written,\n"
     "or a word is wrong. After 1 and 2 standard error has the reason.\n";
@@ -62,28 +64,30 @@ static void write_words(const struct job *job, const struct homology *homology) 
         fprintf(job->console->out, "Dimension %u: refused with %u.\n", (unsigned)homology->dimension, (unsigned)homology->answer);
 }
 
-/* Writes a dimension in the form asked for, with the groups that were written of it, null where none were. */
+/* Writes a dimension in the form asked for, with the groups or views that were written of it, null where none were. */
 static void write_dimension(const struct job *job, const struct homology *homology, const struct groups *groups, int first) {
     const struct console *console = job->console;
     if (job->options->form == FORM_PLAIN)
         plain_dimension(homology, console->out);
     else if (job->options->form == FORM_JSON)
-        json_dimension(job->source->sheet.bytes, homology, groups, first, console->out);
+        json_dimension(job->source->sheet.bytes, homology, &job->options->region, groups, first, console->out);
     else
         write_words(job, homology);
-    if (groups != NULL && job->options->form != FORM_JSON)
-        groups_tell(job->options->form == FORM_WORDS ? console->out : console->err, homology, &job->options->region, groups);
+    if (groups != NULL && job->options->form == FORM_WORDS)
+        groups_tell(console->out, "  ", homology, &job->options->region, groups);
+    if (groups != NULL && job->options->form == FORM_PLAIN)
+        groups_tell(console->err, "", homology, &job->options->region, groups);
 }
 
 /* Reports on a dimension: writes the files that are asked for, then the dimension. Answers the status. */
 static int report_dimension(const struct job *job, const struct homology *homology, int first) {
     struct groups groups;
-    int status = STATUS_DONE, grouped = 0;
+    int status = STATUS_DONE, written = 0;
     if (homology->answer == FILDWUK_DONE && homology->dimension == exports_dimension(job->options)) {
         status = exports_write(job->options, job->source, homology, &groups, job->console);
-        grouped = status == STATUS_DONE && job->options->groups != NULL;
+        written = status == STATUS_DONE && (job->options->groups != NULL || job->options->view != NULL);
     }
-    write_dimension(job, homology, grouped ? &groups : NULL, first);
+    write_dimension(job, homology, written ? &groups : NULL, first);
     if (homology->answer == FILDWUK_DONE)
         return status;
     struct refusal refusal = {homology->answer, job->options, job->source, 1, homology->dimension};
@@ -152,7 +156,9 @@ int report_text(const struct options *options, const struct text *text, const st
     if (!source_find(options, text, &source, console->err))
         return STATUS_FAILED;
     struct job job = {options, &source, console};
-    int status = source.answer == FILDWUK_DONE ? report_sheet(&job) : refuse(&job, source.answer);
+    int status = STATUS_FAILED;
+    if (exports_check(options, &source, console->err))
+        status = source.answer == FILDWUK_DONE ? report_sheet(&job) : refuse(&job, source.answer);
     source_free(&source);
     return status;
 }

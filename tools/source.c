@@ -7,6 +7,7 @@
 
 #include "fildwuk.h"
 #include "fildwuk_library.h"
+#include "hint.h"
 #include "region.h"
 #include "sheet.h"
 
@@ -26,6 +27,8 @@ static void import(const struct text *text, enum limit limit, struct source *sou
 int source_import(const struct options *options, const struct text *text, struct source *source, FILE *err) {
     struct text chosen = {NULL, 0};
     *source = (struct source){.text = text, .is_mesh = 1};
+    if (options->no_tag != NULL)
+        return region_no_tag(text, options->no_tag, err);
     if (options->region.total > 0 && !region_choose(text, &options->region, &chosen, err))
         return 0;
     source->sheet.bytes = calloc(1, FILDWUK_LIBRARY_SHEET_BYTES);
@@ -38,7 +41,7 @@ int source_import(const struct options *options, const struct text *text, struct
 int source_find(const struct options *options, const struct text *text, struct source *source, FILE *err) {
     if (input_is_mesh(text))
         return source_import(options, text, source, err);
-    if (options->region.total > 0)
+    if ((options->region.total > 0 || options->no_tag != NULL) && !hint_is_text(text))
         return failed("--region is for a mesh, and the input is a sheet, which has no tags", err);
     *source = (struct source){.text = text, .sheet = {malloc(text->length + 1), text->length}};
     if (source->sheet.bytes == NULL)

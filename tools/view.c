@@ -51,7 +51,7 @@ static int is_plain(const struct text *text, const struct mesh_node *node, FILE 
         if (view_is_number(text->bytes + words[i].start, length))
             continue;
         fprintf(err, "fildwuk: no view is written: a coordinate of node %" PRIu32 " is no plain number: ", node->number);
-        write_escaped(err, text->bytes + words[i].start, length, WORD_SHOWN);
+        write_quoted(err, text->bytes + words[i].start, length, WORD_SHOWN);
         fputc('\n', err);
         return 0;
     }

@@ -13,7 +13,7 @@ enum { SHOWN = 60 };
 
 static void write_range(const struct text *text, struct range range, FILE *file) {
     if (range.start < range.end)
-        write_escaped(file, text->bytes + range.start, range.end - range.start, SHOWN);
+        write_quoted(file, text->bytes + range.start, range.end - range.start, SHOWN);
 }
 
 /* Writes the first line that is not of the form. */

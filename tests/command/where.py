@@ -34,6 +34,11 @@ def escaped(data, most=SHOWN):
     return shown + (" .." if most < len(data) else "")
 
 
+def quoted(data):
+    """A line as a message quotes it."""
+    return f'"{escaped(data)}"' if len(data) <= SHOWN else f'"{escaped(data).removesuffix(" ..")}" ..'
+
+
 class Fault(Exception):
     """What is said of the first line that is not of the form, apart from what is wanted."""
 
@@ -48,7 +53,7 @@ class Counted(Lines):
     def take(self):
         line = next(self.rest, None)
         if line is None and self.tail:
-            raise Fault(f"Line {self.number + 1} does not end in a line feed: {escaped(self.tail)}")
+            raise Fault(f"Line {self.number + 1} does not end in a line feed: {quoted(self.tail)}")
         if line is None:
             raise Fault(f"The text ends after line {self.number} ")
         self.number, self.last = self.number + 1, line.removesuffix(b"\r")
@@ -56,7 +61,7 @@ class Counted(Lines):
 
     def differs(self):
         """What is said of the line taken last."""
-        return f"Line {self.number} is not of the form ", escaped(self.last) if self.last else "(an empty line)"
+        return f"Line {self.number} is not of the form ", quoted(self.last) if self.last else "(an empty line)"
 
 
 def pass_sections(lines):
@@ -72,7 +77,7 @@ def pass_sections(lines):
             while lines.take() != b"$End" + opening[1:]:
                 pass
         except Fault as fault:
-            raise Fault(f"The section of line {number} is not closed: {escaped(opening)}") from fault
+            raise Fault(f"The section of line {number} is not closed: {quoted(opening)}") from fault
 
 
 def read_elements(lines):
@@ -130,18 +135,27 @@ def first_tag(content):
     return int(words[3]) if int(words[2]) > 0 and words[3].isdigit() and len(words[3]) <= 9 else None
 
 
+def in_region(elements, region):
+    """Of elements with their lines, those whose first tag is in the region and whose dimension is the highest that has the tag, or whose kind has none."""
+    nodes = [NODES_OF_KIND.get(element.kind, 0) for element, _, _ in elements]
+    most = {}
+    for (_, _, content), count in zip(elements, nodes):
+        most[first_tag(content)] = max(count, most.get(first_tag(content), 0))
+    return [found for found, count in zip(elements, nodes) if first_tag(found[2]) in region and count in (0, most[first_tag(found[2])])]
+
+
 def of_text(text, number, limit, region=()):
     """What is due for a text that the import refuses with this number: the parts that must stand in the line, in their order."""
     try:
         nodes, elements = read_text(text)
     except Fault as fault:
         return fault.args
-    elements = [found for found in elements if not region or first_tag(found[2]) in region]
+    elements = in_region(elements, region) if region else elements
     if number == ELEMENT_FAULTY:
         for element, line, content in elements:
             fault = fault_of(element, nodes)
             if fault:
-                return (f"Line {line}, {fault}: {escaped(content)}",)
+                return (f"Line {line}, {fault}: {quoted(content)}",)
     if number == SHEET_TOO_LONG:
         return (counts_beyond("It has ", [len(section) for section in closure(element.nodes for element, _, _ in elements)], limit),)
     raise AssertionError("the model does not refuse so")

@@ -46,7 +46,8 @@ class Element:
 
 @dataclass
 class Case:
-    """A text with the words after the file's name, the facets of the region and its tags, the dimension and the groups that are judged."""
+    """A text with the words after the file's name, the facets of the region and its tags, the dimension, the groups that are judged, and
+    those that are left out as part of the region."""
 
     text: str
     words: list
@@ -54,6 +55,7 @@ class Case:
     dimension: int
     groups: list = field(default_factory=list)
     tags: list = field(default_factory=list)
+    left_out: list = field(default_factory=list)
 
 
 def spread(rng, chain, cells):
@@ -137,10 +139,12 @@ def random_case(rng):
     families = good_family(rng, facets, p) if rng.random() < 0.3 else [make_elements(rng, facets, p) for _ in range(rng.randint(0, 5))]
     tags = rng.sample(range(10, 60), len(families) + 1)
     named = rng.random() < 0.5
-    own = 0 if not named and any(len(facet) == p + 1 for facet in facets) else rng.choice([0, 3, 4])
+    flat, own = any(len(facet) == p + 1 for facet in facets), rng.choice([0, 3, 4])
+    if families and own and all(len(facet) > p + 1 for facet in facets) and rng.random() < 0.3:
+        tags[0] = own
     elements = [Element(own, facet) for facet in facets]
     top = max(v for facet in facets for v in facet)
-    by_region = rng.random() < 0.4 and own != 0
+    by_region = own != 0 and (rng.random() < 0.4 or (flat and not named))
     if by_region:
         elements.append(Element(7, tuple(range(top + 1, top + (4 if p == 3 else 5)))))
     for tag, family in zip(tags, families):
@@ -160,13 +164,17 @@ def choose(rng, case, elements, names, tags, own, named, by_region):
     p = case.dimension
     there = [tag for tag in tags if any(e.tag == tag for e in elements) or any(tag == name[1] for name in names)]
     judged = rng.sample(there, rng.randint(1, len(there))) if named and there else sorted(there)
-    if not (named and there) and own and any(e.tag == own and len(e.nodes) == p + 1 for e in elements) and not by_region:
-        judged = sorted([*judged, own])
+    most = max(len(e.nodes) for e in elements if e.tag == own)
+    if not (named and there) and own and own not in judged and any(e.tag == own and len(e.nodes) == p + 1 for e in elements):
+        if by_region and most == p + 1:
+            case.left_out = [{"tag": own, "name": None}]
+        else:
+            judged = sorted([*judged, own])
     case.words = list(map(str, judged)) if named and there else []
     case.words += ["--dimension", str(p)] if p != 1 or rng.random() < 0.1 else []
     case.tags = [own] if by_region else []
     case.words += ["--region", str(own)] if by_region else []
-    inside = [e for e in elements if (e.tag == own if by_region else e.tag not in judged or len(e.nodes) != p + 1)]
+    inside = [e for e in elements if (e.tag == own and len(e.nodes) == most if by_region else e.tag not in judged or len(e.nodes) != p + 1)]
     case.region = [e.nodes for e in inside]
     told = {tag: name for q, tag, name in names if q == p}
     for tag in judged:
