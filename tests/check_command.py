@@ -268,7 +268,10 @@ def terminal_facts(command):
     status, said = on_terminal(command, "import", "-o", "/dev/null", typed=RING.read_bytes())
     yield "waits for a mesh", status == 0 and b"fildwuk: waiting for a mesh on the terminal" in said
     status, said = on_terminal(command, "import", str(RING))
-    yield "no sheet for a terminal", status == FAILED and said.startswith(b"fildwuk: a sheet is no text for a terminal: name a file after -o") and b"\0" not in said
+    told = said.startswith(b"fildwuk: a sheet is no text for a terminal: name a file after -o")
+    yield "no sheet for a terminal", status == FAILED and told and b"\0" not in said
+    status, said = on_terminal(command, "import")
+    yield "no sheet for a terminal, before anything is read", status == FAILED and b"waiting" not in said
     status, said = on_terminal(command, "import", str(RING), "-o", "-")
     yield "a sheet for a terminal where it is asked for", status == 0 and b"\0" in said
     status, said = on_terminal(command, str(RING))

@@ -14,12 +14,13 @@ import tempfile
 from pathlib import Path
 
 # The name of a file with one of the endings that the sources have, and a path in one of their folders.
-NAMED = re.compile(r"(?<![\w<$./-])(?:[\w.-]+/)*[\w-]+\.(?:md|c|h|py|antt|rt|txt|msh|sheet|a|so|pc|cmake|(?<=[a-z]\.)1)\b(?!>)")
+NAMED = re.compile(r"(?<![\w<$./-])(?:[\w.-]+/)*[\w-]+\.(?:md|c|h|py|antt|rt|txt|msh|geo|sheet|a|so|pc|cmake|(?<=[a-z]\.)1)\b(?!>)")
 FOLDERS = ("crates", "tests", "bench", "tools", "docs", "examples", "target", "package", "include")
 IN_FOLDERS = re.compile(rf"(?<![\w/])(?:{'|'.join(FOLDERS)})/[\w./-]*\w")
 
 # Names of files that the reader has or makes.
-OTHERS = {"solver.c", "FILE.msh", "FILE.sheet", "OUT.msh", "NEW.msh", "ring.msh", "ring.sheet", "plane_and_loops.msh", "loops.msh"}
+OTHERS = {"solver.c", "FILE.msh", "FILE.sheet", "OUT.msh", "NEW.msh", "ring.msh", "ring.geo", "ring.sheet", "plane.geo", "plane_and_loops.msh", "loops.msh",
+          "same_tag.msh"}
 
 
 # A mesh without loops, and what the first program of PYTHON.md prints of it.

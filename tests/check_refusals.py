@@ -63,10 +63,10 @@ STARTS = {
 }
 
 # Inputs that look a little like those, of which nothing is said.
-QUIET = [b"\x1f", b"x\0", b"\x7f", b"x" * 255 + b"\x1b", b"$MeshFormat", b"$MeshFormat\n", b"$MeshFormat\n4.1 0 8", b"$MeshFormat\n\n", b"$MeshFormat \n4.1 0 8\n",
+QUIET = [b"\x1f", b"x\0", b"\x7f", b"x" * 255 + b"\x1b", b"$MeshFormat", b"$MeshFormat\n", b"$MeshFormat\n4.1 0 8", b"$MeshFormat\n\n",
+         b"$MeshFormat \n4.1 0 8\n",
          b"$MeshFormat\n4.1\x1b[2J 0 8\n", b"$MeshFormat\n2.20 0 8\n", b"$MeshFormat\n4.1 2 8\n", b"$MeshFormat\n2.2 2 8\n", b"$NOD",
-         b"$MeshFormat\n2.2 0 8\n$Nodes\n$ParametricNodes\n", RING + b"$NodeData\n", RING[:-1],
-         RING.replace(b"\n1 4 2", b"\n1 4 x", 1)]
+         b"$MeshFormat\n2.2 0 8\n$Nodes\n$ParametricNodes\n", RING + b"$NodeData\n", RING[:-1], RING.replace(b"\n1 4 2", b"\n1 4 x", 1)]
 
 # Bytes that are shown or not: letters of two to four bytes, control characters in UTF-8, letters that are written too long or cut, surrogates, beyond the
 # last character, and characters that turn the direction or are not seen.

@@ -121,14 +121,14 @@ def compare_random(command, count, seed):
 
 LARGE = "".join(f"{i + 2} 1 2 9 1 1 2\n" for i in range(32768))
 TRIANGLE = "$MeshFormat\n2.2 0 8\n$EndMeshFormat\n$Nodes\n3\n1 0 0 0\n2 1 0 0\n3 0 1 0\n$EndNodes\n$Elements\n{}\n{}$EndElements\n"
+NAMED = TRIANGLE.replace("$Nodes", '$PhysicalNames\n2\n1 4 "x"\n2 5 "y"\n$EndPhysicalNames\n$Nodes', 1)
 FAULTS = [
     ("unknown tag", TRIANGLE.format(1, "1 2 2 5 1 1 2 3\n"), ["8"], 2, "", "no group of lines has the tag 8"),
     ("tag of another dimension", TRIANGLE.format(1, "1 2 2 5 1 1 2 3\n"), ["5"], 2, "", "no group of lines has the tag 5"),
     ("no groups, no loops", TRIANGLE.format(1, "1 2 2 5 1 1 2 3\n"), [], 1, "", "fildwuk: the file has no physical group of lines\n"),
     ("no groups, a loop", TRIANGLE.format(3, "1 1 2 0 1 1 2\n2 1 2 0 1 2 3\n3 1 2 0 1 1 3\n"), [], 1, "", "the file has no physical group of lines\n"),
     ("no groups named", TRIANGLE.format(1, "1 2 2 5 1 1 2 3\n"), ["5"], 2, "", "has the tag 5; the file has no physical group of lines\n"),
-    ("tags there are", TRIANGLE.format(2, "1 2 2 5 1 1 2 3\n2 1 2 9 1 1 2\n").replace("$Nodes", '$PhysicalNames\n2\n1 4 "x"\n2 5 "y"\n$EndPhysicalNames\n$Nodes', 1),
-     ["5"], 2, "", 'no group of lines has the tag 5; the tags are 4 "x", 9\n'),
+    ("tags there are", NAMED.format(2, "1 2 2 5 1 1 2 3\n2 1 2 9 1 1 2\n"), ["5"], 2, "", 'no group of lines has the tag 5; the tags are 4 "x", 9\n'),
     ("a tag of two dimensions", TRIANGLE.format(2, "1 2 2 1 1 1 2 3\n2 1 2 1 1 1 2\n"), ["--region", "1"], 1, "group 1, 1 line: no cycle", ""),
     ("a stray wire is no region", TRIANGLE.format(3, "1 2 2 1 1 1 2 3\n2 1 2 1 1 1 2\n3 1 2 2 1 1 2\n"), ["2", "--region", "1"], 1,
      "region: 3 vertices, 3 edges, 1 triangle, ", ""),

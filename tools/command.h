@@ -16,12 +16,14 @@ struct console {
     FILE *out, *err;
 };
 
-/* A command: its name, one line about it, the text of its --help, what it reads (as "a mesh"), the options it takes (bits of enum option), and what it
- * does with the text that it has read; that answers the exit status. */
+/* A command: its name, one line about it, the text of its --help, what it reads (as "a mesh"), the options it takes (bits of enum option), what it
+ * does with the text that it has read, which answers the exit status, and whether it can begin at all, asked before anything is read: null where it always
+ * can, else it says why not and answers 0. */
 struct command {
     const char *name, *line, *help, *what;
     uint32_t takes;
     int (*run)(const struct options *options, const struct text *text, const struct console *console);
+    int (*can_begin)(const struct options *options, FILE *err);
 };
 
 #endif

@@ -29,6 +29,8 @@ static void write_help(FILE *out) {
 /* Runs a command on the input that its options name. */
 static int run_on_input(const struct command *command, const struct options *options, const struct console *console) {
     struct text text;
+    if (command->can_begin != NULL && !command->can_begin(options, console->err))
+        return STATUS_FAILED;
     if (!input_read(options->input, command->what, &text, console->err))
         return STATUS_FAILED;
     int status = command->run(options, &text, console);

@@ -39,12 +39,15 @@ static int write_sheet(const struct options *options, const struct source *sourc
     return output_end(&output, console->err) ? STATUS_DONE : STATUS_FAILED;
 }
 
+int import_can_begin(const struct options *options, FILE *err) {
+    if (options->output != NULL || !isatty(STDOUT_FILENO))
+        return 1;
+    fputs("fildwuk: a sheet is no text for a terminal: name a file after -o, or - (fildwuk import --help)\n", err);
+    return 0;
+}
+
 int import_text(const struct options *options, const struct text *text, const struct console *console) {
     struct source source;
-    if (options->output == NULL && isatty(STDOUT_FILENO)) {
-        fputs("fildwuk: a sheet is no text for a terminal: name a file after -o, or - (fildwuk import --help)\n", console->err);
-        return STATUS_FAILED;
-    }
     if (!source_import(options, text, &source, console->err))
         return STATUS_FAILED;
     struct refusal refusal = {.number = source.answer, .options = options, .source = &source};

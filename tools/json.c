@@ -85,7 +85,8 @@ static void write_names(const struct homology *homology, const struct tags *regi
 }
 
 /* Writes generator k: its order, 0 where it is free, the tag and name under which it is written, and its chain as pairs of a coefficient and a cell. */
-static void write_generator(const uint8_t *sheet, const struct homology *homology, const struct tags *region, const struct groups *groups, size_t k, FILE *file) {
+static void write_generator(const uint8_t *sheet, const struct homology *homology, const struct tags *region, const struct groups *groups, size_t k,
+                            FILE *file) {
     const int64_t *coefficients = homology_generator(homology, k);
     const char *before = "";
     fprintf(file, "{\"order\": %" PRId64, homology_order(homology, k));
