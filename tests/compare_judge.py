@@ -78,8 +78,9 @@ def fault_of(command, case):
     due = {**judge(case.region, case.dimension, case.groups, case.tags), "left_out": case.left_out}
     status, output, messages = run(command, ["-", *case.words, "--json"], case.text)
     if not case.groups:
-        right = status == 1 and output == "" and messages.startswith("fildwuk: the file has no physical group of ")
-        return None if right and messages.endswith(f": {case.left_out[0]['tag']}\n" if case.left_out else ("s\n", "a\n")) else messages, due
+        right = messages.startswith("fildwuk: the file has no physical group of ")
+        if not right or not messages.endswith(f": {case.left_out[0]['tag']}\n" if case.left_out else ("s\n", "a\n")):
+            return messages, due
     try:
         found = json.loads(output)
     except ValueError:
@@ -89,7 +90,7 @@ def fault_of(command, case):
         return f"status {status}, other {', '.join(differ)}", due
     again, words, messages = run(command, ["-", *case.words], case.text)
     fault = words_fault(again, words, found)
-    return (f"words: {fault}" if fault else "messages" if messages else None), due
+    return (f"words: {fault}" if fault else "messages" if messages and case.groups else None), due
 
 
 def compare_random(command, count, seed):
@@ -125,8 +126,10 @@ NAMED = TRIANGLE.replace("$Nodes", '$PhysicalNames\n2\n1 4 "x"\n2 5 "y"\n$EndPhy
 FAULTS = [
     ("unknown tag", TRIANGLE.format(1, "1 2 2 5 1 1 2 3\n"), ["8"], 2, "", "no group of lines has the tag 8"),
     ("tag of another dimension", TRIANGLE.format(1, "1 2 2 5 1 1 2 3\n"), ["5"], 2, "", "no group of lines has the tag 5"),
-    ("no groups, no loops", TRIANGLE.format(1, "1 2 2 5 1 1 2 3\n"), [], 1, "", "fildwuk: the file has no physical group of lines\n"),
-    ("no groups, a loop", TRIANGLE.format(3, "1 1 2 0 1 1 2\n2 1 2 0 1 2 3\n3 1 2 0 1 1 3\n"), [], 1, "", "the file has no physical group of lines\n"),
+    ("no groups, no loops", TRIANGLE.format(1, "1 2 2 5 1 1 2 3\n"), [], 0, "together: a basis of the free loops, of which there are none",
+     "fildwuk: the file has no physical group of lines\n"),
+    ("no groups, a loop", TRIANGLE.format(3, "1 1 2 0 1 1 2\n2 1 2 0 1 2 3\n3 1 2 0 1 1 3\n"), [], 1, "rank 0, the free loops have rank 1",
+     "the file has no physical group of lines\n"),
     ("no groups named", TRIANGLE.format(1, "1 2 2 5 1 1 2 3\n"), ["5"], 2, "", "has the tag 5; the file has no physical group of lines\n"),
     ("tags there are", NAMED.format(2, "1 2 2 5 1 1 2 3\n2 1 2 9 1 1 2\n"), ["5"], 2, "", 'no group of lines has the tag 5; the tags are 4 "x", 9\n'),
     ("a tag of two dimensions", TRIANGLE.format(2, "1 2 2 1 1 1 2 3\n2 1 2 1 1 1 2\n"), ["--region", "1"], 1, "group 1, 1 line: no cycle", ""),

@@ -81,20 +81,19 @@ static int take_named(struct docket *docket, const struct tags *all, FILE *err) 
     return STATUS_DONE;
 }
 
-/* Takes all tags but those of groups that are part of the region, which are left out. */
-static int take_all(struct docket *docket, const struct tags *all, FILE *err) {
+/* Takes all tags but those of groups that are part of the region, which are left out. Where none is left, that is said, and none are judged. */
+static void take_all(struct docket *docket, const struct tags *all, FILE *err) {
     const char *elements = physical_element_name(docket->dimension, 2);
     for (size_t i = 0; i < all->total; i++) {
         int left_out = region_takes(docket->mesh, &docket->options->region, docket->dimension, all->list[i]);
         struct tags *taken = left_out ? &docket->left_out : &docket->tags;
         taken->list[taken->total++] = all->list[i];
     }
-    if (docket->tags.total > 0)
-        return STATUS_DONE;
-    fprintf(err, "fildwuk: the file has no physical group of %s", elements);
-    physical_write_tags(err, " but those of the region, which are left out: ", docket->text, docket->mesh, docket->dimension, &docket->left_out);
-    fputc('\n', err);
-    return STATUS_REFUSED;
+    if (docket->tags.total == 0) {
+        fprintf(err, "fildwuk: the file has no physical group of %s", elements);
+        physical_write_tags(err, " but those of the region, which are left out: ", docket->text, docket->mesh, docket->dimension, &docket->left_out);
+        fputc('\n', err);
+    }
 }
 
 /* Finds the tags to judge: those named, else all but those of the region. */
@@ -108,8 +107,12 @@ static int find_tags(struct docket *docket, FILE *err) {
     int status = STATUS_FAILED;
     if (docket->tags.list == NULL || docket->left_out.list == NULL)
         failed(strerror(ENOMEM), err);
-    else
-        status = named > 0 ? take_named(docket, &all, err) : take_all(docket, &all, err);
+    else if (named > 0)
+        status = take_named(docket, &all, err);
+    else {
+        take_all(docket, &all, err);
+        status = STATUS_DONE;
+    }
     free(all.list);
     if (status == STATUS_DONE && docket->tags.total > JUDGEMENT_MOST) {
         fprintf(err, "fildwuk: %zu groups are more than are judged at once, which are %d: name their tags\n", docket->tags.total, JUDGEMENT_MOST);
