@@ -3,7 +3,7 @@
 use mathlib.Core.Path.{_≡_, refl, sym, _∙_, ap}
 use mathlib.Core.Logic.{_≢_}
 use mathlib.Core.List.{List}
-use Prim.Native.Nat.{ℕ, zero, suc, _+_, _*_, _-_, _≤_, _<_}
+use Prim.Native.Nat.{ℕ, zero, suc, _+_, _*_, _-_, _≤_, _<_, max}
 use native.Mathlib.Nat.{le-trans, pos-of-ne-zero}
 use native.Mathlib.Numerals.{add-one}
 use native.Mathlib.Omega.{arith}
@@ -17,6 +17,7 @@ use Rattle.sheet_format.specs.CheckLaws.{Passes, refusal-zero, countExceeds-fal
 use Rattle.sheet_format.specs.SheetLaws.{count-sectionsOf}
 use Rattle.fields.specs.Read.{ReadsBelow}
 use Rattle.limits.specs.Limits.{libraryLimit}
+use Rattle.requests.specs.Call.{workSlots}
 use Rattle.faces.specs.Face.{Accepted}
 use Rattle.operations.specs.Layouts.{firstLayout, secondLayout}
 use Rattle.calls.specs.Admission.{SizesRead}
@@ -72,6 +73,9 @@ sizes-read b {p} c r d = record {
 module _ {K : Sections} {p : ℕ} {n : Sizes} (h : SizesRead K p n) where
   pub cells-of : n .cells ≡ count K p
   cells-of = ap (λ (k : Sizes). k .cells) (h .is)
+
+  pub slots-of : n .cells * (2 * n .cells + max (n .rows) (n .columns)) ≡ workSlots K p
+  slots-of = ap (λ (k : Sizes). k .cells * (2 * k .cells + max (k .rows) (k .columns))) (h .is)
 
   pub first-of : firstLayout (n .cells) (n .rows) (n .columns) ≡ firstLayoutOf K p
   first-of = ap (λ (k : Sizes). firstLayout (k .cells) (k .rows) (k .columns)) (h .is)

@@ -2,11 +2,12 @@
 use mathlib.Core.Path.{_≡_}
 use mathlib.Core.List.{List}
 use Prim.Native.Nat.{ℕ, zero, suc, _≤_}
-use lib.IntN.{ℤ}
+use lib.IntN.{ℤ, pos}
 use Rattle.complexes.specs.Complex.{Sections, count}
 use Rattle.complexes.specs.Boundary.{countBelow}
 use Rattle.reports.specs.Reductions as reports
 use Rattle.reports.specs.Reductions.{noTransforms, firstStart}
+use Rattle.lines.specs.Slice.{at}
 use Rattle.operations.specs.Laid.{stateOf}
 use Rattle.operations.specs.Layouts.{firstLayout, secondLayout}
 use Rattle.operations.specs.declared.layout.Layout.{Layout}
@@ -46,3 +47,7 @@ pub record ReducedTwice (K : Sections) (p : ℕ) (y : reports.Reductions) (n : �
 abbrev pub TwiceReduced : Sections → ℕ → reports.Reductions → ℕ → Reductions → List ℤ → Type 0
 TwiceReduced K p y n (Done x) w′ = ReducedTwice K p y n x w′
 TwiceReduced K p y n (Refused x) w′ = (y ≡ reports.tooWide) × Cleared n x w′
+
+-- the slice reads 0 from place n on
+pub record ZeroFrom (n : ℕ) (w′ : List ℤ) : Type 0 where
+  pub zero-at : (i : ℕ) → n ≤ i → at w′ i ≡ pos 0

@@ -1,7 +1,8 @@
 // The two reductions of a dimension.
 ghost use mathlib.Core.Path.{_≡_};
 ghost use Prim.Native.Nat.{_≤_};
-ghost use lib.ListN.{length};
+ghost use lib.ListN.{length, replicate};
+ghost use lib.IntN.{pos};
 ghost use Rattle.sheet_format.specs.Layout.{top};
 ghost use Rattle.sheet_format.specs.Check.{sectionsOf};
 ghost use Rattle.reduction_steps.specs.Pivot.{pivotRule};
@@ -9,7 +10,7 @@ ghost use Rattle.requests.specs.Call.{workSlots};
 ghost use Rattle.reports.specs.Reductions.{reductionsOf};
 ghost use Rattle.faces.specs.Face.{Accepted};
 ghost use Rattle.calls.specs.Admission.{SizesRead};
-ghost use Rattle.calls.specs.Slices.{firstLayoutOf, startPeak, Filled, TwiceReduced};
+ghost use Rattle.calls.specs.Slices.{firstLayoutOf, startPeak, Filled, TwiceReduced, ZeroFrom};
 use crate::admission::Sizes;
 use boundaries::fill::fill_boundary;
 use boundaries::fill::fill_identity;
@@ -29,14 +30,14 @@ pub enum Reductions {
     Refused(Refusal),
 }
 
-// Sets up the first reduction: the boundary matrix of dimension p, V and its inverse.
+// Sets up the first reduction in a slice that reads 0: the boundary matrix of dimension p, V and its inverse.
 fn fill_first(s: &[u8], p: usize, layout: Layout, w: &mut [i32])
     requires { ⌜ Accepted (now s) × (p ≤ top) ⌝ }
     requires { ⌜ workSlots (sectionsOf (now s)) p ≤ length (now w) ⌝ }
     requires { ⌜ layout ≡ firstLayoutOf (sectionsOf (now s)) p ⌝ }
+    requires { ⌜ now w ≡ replicate (length (now w)) (pos 0) ⌝ }
     ensures { λ r. ⌜ Filled (sectionsOf (now (s .entry))) p (length (now (w .entry))) (now (w .exit)) ⌝ }
 {
-    clear(w);
     if 0 < p {
         fill_boundary(s, p - 1, layout.matrix, w);
     }
@@ -51,11 +52,12 @@ fn start_peak(cells: usize) -> u64
     if cells == 0 { 0 } else { 1 }
 }
 
-// Reduces the boundary matrix of dimension p, then Q times the one of p + 1.
-pub fn reduce_twice(s: &[u8], p: usize, sizes: Sizes, w: &mut [i32]) -> Reductions
+// Reduces the boundary matrix of dimension p, then Q times the one of p + 1, in the part of the work slice that their layouts use, which reads 0.
+fn reduce_part(s: &[u8], p: usize, sizes: Sizes, w: &mut [i32]) -> Reductions
     requires { ⌜ Accepted (now s) × (p ≤ top) ⌝ }
     requires { ⌜ workSlots (sectionsOf (now s)) p ≤ length (now w) ⌝ }
     requires { ⌜ SizesRead (sectionsOf (now s)) p sizes ⌝ }
+    requires { ⌜ now w ≡ replicate (length (now w)) (pos 0) ⌝ }
     ensures { λ r. ⌜ TwiceReduced (sectionsOf (now (s .entry))) p (reductionsOf pivotRule (sectionsOf (now (s .entry))) p) (length (now (w .entry))) r (now (w .exit)) ⌝ }
 {
     let first = Layout::first(sizes.cells, sizes.rows, sizes.columns);
@@ -77,4 +79,17 @@ pub fn reduce_twice(s: &[u8], p: usize, sizes: Sizes, w: &mut [i32]) -> Reductio
         rank: last,
         peak,
     })
+}
+
+// The two reductions of dimension p. The work slice is cleared first, and the slots behind those of the layouts are not lent.
+pub fn reduce_twice(s: &[u8], p: usize, sizes: Sizes, w: &mut [i32]) -> Reductions
+    requires { ⌜ Accepted (now s) × (p ≤ top) ⌝ }
+    requires { ⌜ workSlots (sectionsOf (now s)) p ≤ length (now w) ⌝ }
+    requires { ⌜ SizesRead (sectionsOf (now s)) p sizes ⌝ }
+    ensures { λ r. ⌜ TwiceReduced (sectionsOf (now (s .entry))) p (reductionsOf pivotRule (sectionsOf (now (s .entry))) p) (length (now (w .entry))) r (now (w .exit)) ⌝ }
+    ensures { λ r. ⌜ ZeroFrom (workSlots (sectionsOf (now (s .entry))) p) (now (w .exit)) ⌝ }
+{
+    clear(w);
+    let slots = Layout::work_slots(sizes.cells, sizes.rows, sizes.columns);
+    reduce_part(s, p, sizes, &mut w[..slots])
 }

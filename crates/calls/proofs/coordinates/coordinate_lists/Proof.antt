@@ -180,7 +180,7 @@ returns-4 c =
     let m = counted t in
     on-lists m
     (lists-wide (given t) (lists m) (chains-of (known m)) (regranted m) (size m) (passed t)
-    (twice-refused (lengths (given t)) (reduce .reduce-twice .result) (c .enum-told2 .given .1) (reduce .reduce-twice .ensures)))
+    (twice-refused (lengths (given t)) (reduce .reduce-twice .result) (c .enum-told2 .given .1) (reduce .reduce-twice .ensures .0)))
 
 -- ---- the coordinates
 
@@ -192,7 +192,7 @@ module _ (c : tie.After-known-told4) where
   checked = reduces .before .before
 
   reduced : Reduces (lengths (given checked)) (c .before .reduced .given .0 .0) (reduces .reduce-twice .last .1 .1 .1 .0)
-  reduced = twice-done (lengths (given checked)) (reduces .reduce-twice .result) (c .before .reduced .given .1) (reduces .reduce-twice .ensures)
+  reduced = twice-done (lengths (given checked)) (reduces .reduce-twice .result) (c .before .reduced .given .1) (reduces .reduce-twice .ensures .0)
 
 write-lists-requires : tie.Need-write-lists-requires
 write-lists-requires c κs =

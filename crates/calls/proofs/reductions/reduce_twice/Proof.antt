@@ -1,228 +1,100 @@
--- `reductions::reduce_twice` meets its contract: each call's answer is one step of the definition of the two reductions (`Outcomes`).
--- Assumes nothing.
-use mathlib.Core.Path.{_≡_, refl, sym, _∙_, ap}
-use Prim.Native.Nat.{ℕ}
+-- `reductions::reduce_twice` meets its contract: the part of a slice of zeros is lent and comes back with zeros behind it (`Part`). Assumes nothing.
+use mathlib.Core.Path.{_≡_, refl, sym, subst, _∙_, ap}
+use mathlib.Core.List.{List, _++_}
+use Prim.Native.Nat.{ℕ, _-_, _≤_}
+use native.Mathlib.Nat.{le-of-eq}
 use native.Mathlib.Omega.{arith}
 use borrow.Author.Needs.{needs}
 use denote.Ref.{now}
-use lib.IntN.{pos}
-use lib.ListN.{length, replicate}
-use Rattle.complexes.specs.Complex.{count}
-use Rattle.complexes.proofs.ChainComplex.{ChainComplex}
+use lib.IntN.{ℤ, pos}
+use lib.ListN.{length, take, drop, length-replicate}
+use lib.Seq.{length-take-le, length-front}
 use Rattle.sheet_format.specs.Check.{sectionsOf}
-use Rattle.limits.specs.Limits.{libraryLimit}
-use Rattle.reduction_steps.proofs.PivotLaws.{pivotRule-is-rule}
-use Rattle.calls.specs.Admission.{SizesRead}
-use Rattle.calls.specs.Slices.{firstLayoutOf, secondLayoutOf, startPeak}
-use Rattle.calls.proofs.Sheet.{sheet-chains, cells-of, first-of, second-of}
-use Rattle.calls.proofs.Filling.{laid}
-use Rattle.lines.proofs.Peaks.{under-small}
-use Rattle.calls.proofs.Outcomes.{cleared-length, reduces-done, reduces-refused, became-done, became-wide, FirstDone, SecondStarted, first-refused, first-done, laid-then, Q-width, product-width, Q-held}
-use Rattle.calls.proofs.Outcomes.{product-refused, second-started, second-refused, second-done}
+use Rattle.reduction_steps.specs.Pivot.{pivotRule}
+use Rattle.requests.specs.Call.{workSlots}
+use Rattle.reports.specs.Reductions.{reductionsOf}
+use Rattle.calls.specs.Slices.{TwiceReduced, ZeroFrom}
+use Rattle.calls.proofs.Sheet.{slots-of}
+use Rattle.calls.proofs.Part.{zeros, part-zeros, rest-zeros, zero-behind, twice-whole}
 use Rattle.calls.proofs.reductions.reduce_twice.Statement.{statement}
 use Rattle.calls.proofs.reductions.reduce_twice.Tie as tie
 
--- ---- the layouts
+work-slots-requires : tie.Need-work-slots-requires
+work-slots-requires c κs =
+    let sizes = c .before .before .before .before .pre .1 .1 in (sizes .cells-below, sizes .rows-below, sizes .columns-below)
 
-first-requires : tie.Need-first-requires
-first-requires c κs = let sizes = c .before .pre .1 .1 in (sizes .cells-below, sizes .rows-below, sizes .columns-below)
-
-module _ (c : tie.After-first) where
+module _ (c : tie.After-work-slots) where
   abbrev start : tie.Start
-  start = c .before .before
+  start = c .before .before .before .before .before
 
-  chains : ChainComplex libraryLimit (sectionsOf (now (start .args .s)))
-  chains = sheet-chains (record { small = λ i. c .before .shared-slice-known .given i .fits }) (start .pre .0 .0)
+  -- the length of the work slice
+  abbrev n : ℕ
+  n = length (now (start .args .w))
 
-  sizes : SizesRead (sectionsOf (now (start .args .s))) (start .args .p) (start .args .sizes)
-  sizes = start .pre .1 .1
+  -- the slots that are lent
+  abbrev m : ℕ
+  m = c .work-slots .result
 
-  first-is : c .first .result ≡ firstLayoutOf (sectionsOf (now (start .args .s))) (start .args .p)
-  first-is = c .first .ensures ∙ first-of sizes
+  -- the work slice, cleared
+  abbrev slice : List ℤ
+  slice = c .before .before .clear .last .0
 
--- ---- the first reduction
+  slice-is : slice ≡ zeros n
+  slice-is = c .before .before .clear .ensures
 
-fill-first-requires : tie.Need-fill-first-requires
-fill-first-requires c κs = let s = start (c .before) in (s .pre .0, (s .pre .1 .0, first-is (c .before)))
+  slots-are : m ≡ workSlots (sectionsOf (now (start .args .s))) (start .args .p)
+  slots-are = c .work-slots .ensures ∙ slots-of (start .pre .1 .1)
 
-reduce-matrix-requires : tie.Need-reduce-matrix-requires
-reduce-matrix-requires c κs =
-    let first = c .before .before .before .before .before in
-    let s = start first in
-    let filled = c .before .before .before .fill-first .ensures in (
-      rw (filled .kept .same-length)
-          (laid (sectionsOf (now (s .args .s))) (s .args .p) (length (now (s .args .w))) (s .pre .1 .0) (first .first .result) (first-is first)),
-      rw (c .start-peak .ensures, cells-of (sizes first)) (filled .kept .under),
-    )
+  within : m ≤ length slice
+  within = omega (arith, slots-are, start .pre .1 .0, ap length slice-is, length-replicate n (pos 0))
 
-enum-known-rank : tie.Need-enum-known-rank
-enum-known-rank c = c .match .keys1
+  part-length : length (take m slice) ≡ m
+  part-length = length-take-le m slice within
 
-enum-told : tie.Need-enum-told
-enum-told c = c .match .keys2
+  part-is : take m slice ≡ zeros (length (take m slice))
+  part-is = subst (λ (w : List ℤ). take m w ≡ zeros (length (take m w))) (sym slice-is) (part-zeros m n)
 
-module _ (c : tie.After-reduce-matrix) where
-  abbrev at-first : tie.After-first
-  at-first = c .before .before .before .before .before .before
+slice-relend-prefix-reduce-part : tie.Need-slice-relend-prefix-reduce-part
+slice-relend-prefix-reduce-part c = within c
 
-  -- the peak at the start
-  started-from : let s = start at-first in c .before .start-peak .result ≡ startPeak (count (sectionsOf (now (s .args .s))) (s .args .p))
-  started-from = c .before .start-peak .ensures ∙ ap startPeak (cells-of (sizes at-first))
+slice-aggregate-reduce-part : tie.Need-slice-aggregate-reduce-part
+slice-aggregate-reduce-part c = sym (part-length (c .before))
+
+reduce-part-requires : tie.Need-reduce-part-requires
+reduce-part-requires c κs =
+    let k = c .before in
+    let s = start k in (s .pre .0, (le-of-eq (sym (part-length k ∙ slots-are k)), (s .pre .1 .1, part-is k)))
+
+module _ (c : tie.After-reduce-part) where
+  abbrev lent : tie.After-work-slots
+  lent = c .before .before
+
+  -- what the part holds after the reductions
+  abbrev left : List ℤ
+  left = c .reduce-part .last .1 .1 .1 .0
+
+  whole : left ++ drop (m lent) (slice lent) ≡ left ++ zeros (n lent - m lent)
+  whole = ap (λ (w : List ℤ). left ++ w) (ap (drop (m lent)) (slice-is lent) ∙ rest-zeros (m lent) (n lent))
+
+same-length : tie.Need-same-length
+same-length c =
+    let called = c .before in
+    length-front (slice (lent called)) (left called) (m (lent called)) (called .reduce-part .kept .1 .1 .1 .0) ∙ ap length (slice-is (lent called)) ∙ length-replicate (n (lent called)) (pos 0)
 
 returns : tie.Need-returns
 returns c =
-    let called = c .before .before .before in
-    let first = at-first called in
-    let s = start first in
-    first-refused pivotRule-is-rule (sectionsOf (now (s .args .s))) (s .args .p) (length (now (s .args .w))) (chains first) (s .pre .1 .0) (first .first .result) (first-is first)
-    (called .before .before .before .before .fill-first .ensures) (started-from called) (reduces-refused (first .first .result) (called .reduce-matrix .result) (c .enum-told .given .1) (called .reduce-matrix .ensures))
-
-same-length : tie.Need-same-length
-same-length c = cleared-length (returns c .1)
-
--- ---- the product
-
-module _ (c : tie.After-known-told) where
-  abbrev first-called : tie.After-reduce-matrix
-  first-called = c .before .before .before .before
-
-  abbrev began : tie.After-first
-  began = at-first (c .before .before .before .before)
-
-  abbrev rank : ℕ
-  rank = c .before .rank .given .0 .0
-
-  abbrev halfway : ℕ
-  halfway = c .before .rank .given .0 .1 .0
-
-  first : let s = start began in
-      FirstDone pivotRule-is-rule (sectionsOf (now (s .args .s))) (s .args .p) (length (now (s .args .w))) (chains began) (s .pre .1 .0) rank halfway (first-called .reduce-matrix .last .1 .0)
-  first =
-      let s = start began in
-      first-done pivotRule-is-rule (sectionsOf (now (s .args .s))) (s .args .p) (length (now (s .args .w))) (chains began) (s .pre .1 .0) (began .first .result) (first-is began)
-      (first-called .before .before .before .before .fill-first .ensures) (started-from first-called) (reduces-done (began .first .result) (first-called .reduce-matrix .result) (c .before .rank .given .1) (first-called .reduce-matrix .ensures))
-
-second-requires : tie.Need-second-requires
-second-requires c κs =
-    let n = sizes (began c) in (n .cells-below, n .rows-below, n .columns-below, rw (cells-of n) (first c .rank-within))
-
-second-is : (c : tie.After-second) →
-    let s = start (began (c .before)) in c .second .result ≡ secondLayoutOf (sectionsOf (now (s .args .s))) (s .args .p) (rank (c .before))
-second-is c = c .second .ensures ∙ second-of (sizes (began (c .before))) (rank (c .before))
-
-multiply-requires : tie.Need-multiply-requires
-multiply-requires c κs =
-    let told = c .before .before in
-    let s = start (began told) in
-    let W = c .before .second .result in
-    let is = second-is (c .before) in
-    let l = laid-then pivotRule-is-rule (sectionsOf (now (s .args .s))) (s .args .p) (length (now (s .args .w))) (chains (began told)) (s .pre .1 .0) (first told) W is in (
-      s .pre .0 .0,
-      (
-        (
-          Q-width pivotRule-is-rule (sectionsOf (now (s .args .s))) (s .args .p) (length (now (s .args .w))) (chains (began told)) (s .pre .1 .0) (first told) W is,
-          product-width pivotRule-is-rule (sectionsOf (now (s .args .s))) (s .args .p) (length (now (s .args .w))) (chains (began told)) (s .pre .1 .0) (first told) W is,
-          sym (l .row-follower-lines),
-        ),
-        (
-          Q-held pivotRule-is-rule (sectionsOf (now (s .args .s))) (s .args .p) (length (now (s .args .w))) (chains (began told)) (s .pre .1 .0) (first told) W is,
-          omega (arith, l .after-matrix, l .after-row-inverse),
-          under-small (first told .kept .under),
-        ),
-      ),
+    let called = c .before in
+    let k = lent called in
+    let K = sectionsOf (now (start k .args .s)) in
+    let p = start k .args .p in
+    let behind = n k - m k in (
+      subst (TwiceReduced K p (reductionsOf pivotRule K p) (n k) (called .reduce-part .result)) (sym (whole called))
+          (twice-whole (left called) behind K p (reductionsOf pivotRule K p) (length (take (m k) (slice k))) (n k) (called .reduce-part .result) (omega (arith, part-length k, within k, ap length (slice-is k), length-replicate (n k) (pos 0)))
+          (called .reduce-part .ensures)),
+      subst (ZeroFrom (workSlots K p)) (sym (whole called)) (zero-behind (left called) behind (le-of-eq (called .reduce-part .kept .1 .1 .1 .0 ∙ part-length k ∙ slots-are k))),
     )
-
-enum-known-product : tie.Need-enum-known-product
-enum-known-product c = c .match2 .keys1
-
-enum-told-2 : tie.Need-enum-told-2
-enum-told-2 c = c .match2 .keys2
-
-returns-2 : tie.Need-returns-2
-returns-2 c =
-    let called = c .before .before .before .before .before .before in
-    let told = called .before .before .before in
-    let s = start (began told) in
-    let W = called .before .before .second .result in
-    let beyond = became-wide (called .multiply .result) (c .before .before .before .enum-told2 .given .1) (called .multiply .ensures) in (
-      product-refused pivotRule-is-rule (sectionsOf (now (s .args .s))) (s .args .p) (length (now (s .args .w))) (chains (began told)) (s .pre .1 .0) (first told) W
-          (second-is (called .before .before)) beyond,
-      record {
-        number = refl;
-        zeros =
-            c .before .clear .ensures
-            ∙ ap (λ (k : ℕ). replicate k (pos 0)) (beyond .same-length ∙ first told .kept .same-length);
-      },
-    )
-
-same-length-2 : tie.Need-same-length-2
-same-length-2 c = cleared-length (returns-2 c .1)
-
--- ---- the second reduction
-
-module _ (c : tie.After-larger) where
-  abbrev multiplied : tie.After-multiply
-  multiplied = c .before .before .before .before .before
-
-  abbrev first-told : tie.After-known-told
-  first-told = multiplied .before .before .before
-
-  started : let s = start (began first-told) in
-      SecondStarted pivotRule-is-rule (sectionsOf (now (s .args .s))) (s .args .p) (length (now (s .args .w))) (chains (began first-told)) (s .pre .1 .0) (rank first-told) (halfway first-told)
-      (first-called first-told .reduce-matrix .last .1 .0) (c .larger .result) (multiplied .multiply .last .1 .1 .1 .1 .0)
-  started =
-      let s = start (began first-told) in
-      second-started pivotRule-is-rule (sectionsOf (now (s .args .s))) (s .args .p) (length (now (s .args .w))) (chains (began first-told)) (s .pre .1 .0) (first first-told)
-      (multiplied .before .before .second .result) (second-is (multiplied .before .before))
-      (became-done (multiplied .multiply .result) (c .before .before .product .given .1) (multiplied .multiply .ensures)) (c .larger .ensures)
-
-reduce-matrix-requires-2 : tie.Need-reduce-matrix-requires-2
-reduce-matrix-requires-2 c κs =
-    let told = first-told (c .before) in
-    let s = start (began told) in
-    let second = multiplied (c .before) .before .before in
-    let kept = started (c .before) .kept in (
-      rw (kept .same-length)
-          (laid-then pivotRule-is-rule (sectionsOf (now (s .args .s))) (s .args .p) (length (now (s .args .w))) (chains (began told)) (s .pre .1 .0) (first told) (second .second .result)
-          (second-is second)),
-      kept .under,
-    )
-
-enum-known-last : tie.Need-enum-known-last
-enum-known-last c = c .match3 .keys1
-
-enum-told-3 : tie.Need-enum-told-3
-enum-told-3 c = c .match3 .keys2
-
-returns-3 : tie.Need-returns-3
-returns-3 c =
-    let called = c .before .before .before in
-    let told = first-told (called .before .before) in
-    let s = start (began told) in
-    let second = multiplied (called .before .before) .before .before in
-    second-refused pivotRule-is-rule (sectionsOf (now (s .args .s))) (s .args .p) (length (now (s .args .w))) (chains (began told)) (s .pre .1 .0) (started (called .before .before))
-    (second .second .result) (second-is second)
-    (reduces-refused (second .second .result) (called .reduce-matrix2 .result) (c .enum-told3 .given .1) (called .reduce-matrix2 .ensures))
-
-same-length-3 : tie.Need-same-length-3
-same-length-3 c = cleared-length (returns-3 c .1)
-
-returns-4 : tie.Need-returns-4
-returns-4 c =
-    let called = c .before .before .before .before in
-    let told = first-told (called .before .before) in
-    let s = start (began told) in
-    let second = multiplied (called .before .before) .before .before in
-    second-done pivotRule-is-rule (sectionsOf (now (s .args .s))) (s .args .p) (length (now (s .args .w))) (chains (began told)) (s .pre .1 .0) (started (called .before .before))
-    (second .second .result) (second-is second)
-    (reduces-done (second .second .result) (called .reduce-matrix2 .result) (c .before .last .given .1) (called .reduce-matrix2 .ensures))
-
-same-length-4 : tie.Need-same-length-4
-same-length-4 c = returns-4 c .kept .same-length
 
 pub reduce-twice-spec : {M : Type 1} → statement M
 reduce-twice-spec =
     tie.close
-    (tie.spec first-requires fill-first-requires (λ c κs. search needs) reduce-matrix-requires enum-known-rank enum-told same-length returns second-requires
-    multiply-requires enum-known-product enum-told-2 (λ c κs. search needs) same-length-2 returns-2 (λ c κs. tt) reduce-matrix-requires-2 enum-known-last enum-told-3
-    same-length-3 returns-3 same-length-4 returns-4)
+    (tie.spec (λ c κs. search needs) work-slots-requires slice-relend-prefix-reduce-part slice-aggregate-reduce-part reduce-part-requires same-length returns)

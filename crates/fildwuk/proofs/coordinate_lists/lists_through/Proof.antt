@@ -187,7 +187,7 @@ returns-4 c =
     rw (c .number4 .ensures)
     (on-lists m
     (lists-wide (q k) (lists m) (bytes k) (output k) (entered k .pre) (regranted m) (size m) (passed t)
-    (twice-refused (given (entered k)) (reduce .reduce-twice .result) (c .before .enum-told2 .given .1) (reduce .reduce-twice .ensures) .0)))
+    (twice-refused (given (entered k)) (reduce .reduce-twice .result) (c .before .enum-told2 .given .1) (reduce .reduce-twice .ensures .0) .0)))
 
 -- ---- the coordinates
 
@@ -200,7 +200,7 @@ module _ (c : tie.After-known-told4) where
 
   reduced : Reduces (given (entered (known (counted checked)))) (c .before .reduced .given .0 .0) (reduces .reduce-twice .last .1 .1 .1 .0)
   reduced =
-      twice-done (given (entered (known (counted checked)))) (reduces .reduce-twice .result) (c .before .reduced .given .1) (reduces .reduce-twice .ensures)
+      twice-done (given (entered (known (counted checked)))) (reduces .reduce-twice .result) (c .before .reduced .given .1) (reduces .reduce-twice .ensures .0)
 
 write-bytes-requires : tie.Need-write-bytes-requires
 write-bytes-requires c κs =
