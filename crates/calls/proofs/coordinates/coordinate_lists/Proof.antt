@@ -25,9 +25,9 @@ use Rattle.writers.specs.Written.{coordinatesOf}
 use Rattle.calls.specs.Admission.{Admits}
 use Rattle.calls.specs.Answer.{CallAnswers}
 use Rattle.calls.specs.declared.answer.Answer.{Answer}
-use Rattle.calls.specs.declared.admission.Sizes.{Sizes}
+use Rattle.two_reductions.specs.declared.sizes.Sizes.{Sizes}
 use Rattle.calls.specs.declared.admission.Request.the-variants.{Coordinates}
-use Rattle.calls.proofs.Sheet.{cells-of}
+use Rattle.two_reductions.proofs.Sheet.{cells-of}
 use Rattle.calls.proofs.Admitting.{Lent, lengths, admit-refused, Granted, admit-granted, regrant, Reduces, twice-done, twice-refused}
 use Rattle.calls.proofs.Writing.{can-count}
 use Rattle.calls.proofs.ListAnswers.{listsCalled, lists-refuse, length-refuses, cycles-refuse, lists-wide, can-list, lists-done}

@@ -20,9 +20,9 @@ use Rattle.host_calls.specs.HostListsLaws.{nonempty-host-lists}
 use Rattle.limits.specs.Limits.{hostLimit, coefficientLimit}
 use Rattle.chains.specs.Check.{checkNumber}
 use Rattle.calls.specs.Admission.{Admits}
-use Rattle.calls.specs.declared.admission.Sizes.{Sizes}
+use Rattle.two_reductions.specs.declared.sizes.Sizes.{Sizes}
 use Rattle.calls.specs.declared.admission.Request.the-variants.{Coordinates}
-use Rattle.calls.proofs.Sheet.{cells-of}
+use Rattle.two_reductions.proofs.Sheet.{cells-of}
 use Rattle.calls.proofs.Admitting.{Lengths, cellsOf, admit-refused, Granted, admit-granted, regrant, Reduces, twice-done, twice-refused}
 use Rattle.fildwuk.specs.Answer.{HostAnswers}
 use Rattle.fildwuk.specs.Lists.{listBytes}
