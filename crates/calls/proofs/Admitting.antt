@@ -20,17 +20,18 @@ use Rattle.requests.specs.CheckLaws.{Passed, callChecks-zero}
 use Rattle.refusal.specs.Number.{numberOf}
 use Rattle.refusal.specs.declared.Refusal.{Refusal}
 use Rattle.passes.specs.Answer.{Cleared}
-use Rattle.writers.specs.declared.reduced.Reduced.{Reduced}
-use Rattle.calls.specs.Slices.{ReducedTwice, TwiceReduced}
-use Rattle.calls.specs.Admission.{sizesIn, slotsFor, spaceFor, admission, SizesRead, Admits}
-use Rattle.calls.specs.declared.admission.Sizes.{Sizes}
+use Rattle.two_reductions.specs.declared.reduced.Reduced.{Reduced}
+use Rattle.two_reductions.specs.Slices.{ReducedTwice, TwiceReduced}
+use Rattle.two_reductions.specs.Sizes.{sizesIn, SizesRead}
+use Rattle.calls.specs.Admission.{slotsFor, spaceFor, admission, Admits}
+use Rattle.two_reductions.specs.declared.sizes.Sizes.{Sizes}
 use Rattle.calls.specs.declared.admission.Request.{Request}
 use Rattle.calls.specs.declared.admission.Request.the-variants.{Coordinates}
 use Rattle.calls.specs.declared.admission.Admission.{Admission}
 use Rattle.calls.specs.declared.admission.Admission.the-variants.{Admitted, Refused}
-use Rattle.calls.specs.declared.reductions.Reductions as answer
-use Rattle.calls.specs.declared.reductions.Reductions.the-variants as variants
-use Rattle.calls.proofs.Sheet.{accepted-library, sheet-chains}
+use Rattle.two_reductions.specs.declared.reductions.Reductions as answer
+use Rattle.two_reductions.specs.declared.reductions.Reductions.the-variants as variants
+use Rattle.two_reductions.proofs.Sheet.{accepted-library, sheet-chains}
 
 -- the count limit and the question of a call, and the lengths of its output and its work slice
 pub record Lengths : Type 0 where

@@ -17,7 +17,7 @@ use Rattle.refusal.specs.NumberLaws.{number-positive}
 use Rattle.refusal.specs.declared.Refusal.{Refusal}
 use Rattle.refusal.specs.declared.Refusal.the-variants as refusal
 use Rattle.writers.specs.Written.{countsIn}
-use Rattle.writers.specs.declared.reduced.Counts.{Counts}
+use Rattle.writers.specs.declared.counts.Counts.{Counts}
 use Rattle.calls.specs.Answer.{CallAnswers}
 use Rattle.calls.specs.declared.answer.Answer.the-variants.{Done, Refused}
 

@@ -1,12 +1,5 @@
--- What the proofs of the crate share: where the matrices stand (`Places`), the sheet (`Sheet`), the start of the first
--- reduction (`Filling`) and of the second (`Between`), what the two come to (`Outcomes`) and that it can be written (`Writing`), the refusals before
--- them (`Refusals`), what `admit` answered (`Admitting`), the early checks of chains (`ListChecks`),
--- and what the calls answer (`Answering`, `ReportAnswers`, `ListAnswers`).
-mod Places
-pub mod Sheet
-mod Filling
-mod Between
-mod Outcomes
+-- What the proofs of the crate share: that what the two reductions leave can be written (`Writing`), the refusals before them (`Refusals`), what
+-- `admit` answered (`Admitting`), the early checks of chains (`ListChecks`), and what the calls answer (`Answering`, `ReportAnswers`, `ListAnswers`).
 pub mod Writing
 mod Refusals
 pub mod Admitting

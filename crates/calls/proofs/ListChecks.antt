@@ -22,7 +22,7 @@ use Rattle.refusal.specs.Number.{numberOf}
 use Rattle.refusal.specs.NumberLaws.{number-positive}
 use Rattle.refusal.specs.declared.Refusal.{Refusal}
 use Rattle.calls.specs.Admission.{admission}
-use Rattle.calls.specs.declared.admission.Sizes.{Sizes}
+use Rattle.two_reductions.specs.declared.sizes.Sizes.{Sizes}
 use Rattle.calls.specs.declared.admission.Request.the-variants.{Coordinates}
 use Rattle.calls.proofs.Admitting.{Lengths, cellsOf, slotsAsked, spaceAsked, Granted}
 

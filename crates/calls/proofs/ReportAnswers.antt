@@ -19,13 +19,14 @@ use Rattle.requests.specs.CheckLaws.{callChecks-zero}
 use Rattle.refusal.specs.Number.{numberOf}
 use Rattle.refusal.specs.declared.Refusal.{Refusal}
 use Rattle.refusal.specs.declared.Refusal.the-variants as refusal
-use Rattle.writers.specs.Written.{stateIn, WroteReport}
-use Rattle.writers.specs.declared.reduced.Counts.{Counts}
-use Rattle.writers.specs.declared.reduced.Reduced.{Reduced}
+use Rattle.two_reductions.specs.Slices.{stateIn}
+use Rattle.writers.specs.Written.{WroteReport}
+use Rattle.writers.specs.declared.counts.Counts.{Counts}
+use Rattle.two_reductions.specs.declared.reduced.Reduced.{Reduced}
 use Rattle.passes.specs.Answer.{Cleared}
 use Rattle.calls.specs.Admission.{admission}
 use Rattle.calls.specs.Answer.{CallAnswers}
-use Rattle.calls.specs.declared.admission.Sizes.{Sizes}
+use Rattle.two_reductions.specs.declared.sizes.Sizes.{Sizes}
 use Rattle.calls.specs.declared.admission.Request.the-variants.{Report}
 use Rattle.calls.specs.declared.answer.Answer.the-variants.{Done, Refused}
 use Rattle.calls.proofs.Admitting.{Lent, lengths, cellsOf, slotsAsked, spaceAsked, Granted, twice, Reduces}

@@ -17,11 +17,11 @@ use Rattle.answers.proofs.TwoReductions.{Right, reductions-right}
 use Rattle.lines.specs.Slice.{at}
 use Rattle.lines.proofs.Peaks.{under-small}
 use Rattle.operations.specs.Laid.{Laid}
-use Rattle.writers.specs.Written.{stateIn, Kinds, CanReport, CanCount, CanCoordinate}
-use Rattle.writers.specs.declared.reduced.Reduced.{Reduced}
-use Rattle.operations.specs.Layouts.{secondLayout}
-use Rattle.calls.specs.Slices.{ReducedTwice}
-use Rattle.calls.proofs.Places.{second-laid}
+use Rattle.writers.specs.Written.{Kinds, CanReport, CanCount, CanCoordinate}
+use Rattle.two_reductions.specs.declared.reduced.Reduced.{Reduced}
+use Rattle.two_reductions.specs.Layouts.{secondLayout}
+use Rattle.two_reductions.specs.Slices.{stateIn, ReducedTwice}
+use Rattle.two_reductions.proofs.Places.{second-laid}
 
 module _ {rule : Rule} (is : IsRule rule) {K : Sections} {p n : ℕ} {x : Reduced} {w : List ℤ} (chains : ChainComplex libraryLimit K) (slots : workSlots K p ≤ n)
     (h : ReducedTwice K p (reductionsOf rule K p) n x w) where

@@ -1,28 +1,17 @@
--- The sizes of a dimension, and what `admit` answers.
+-- What `admit` answers.
 use mathlib.Core.Path.{_≡_}
-use Prim.Native.Nat.{ℕ, suc, _+_, _*_, _<_, max}
-use Rattle.complexes.specs.Complex.{Sections, count}
-use Rattle.complexes.specs.Boundary.{countBelow}
+use Prim.Native.Nat.{ℕ, _+_, _*_, max}
 use Rattle.trials.specs.Trial.{first}
 use Rattle.sheet_format.specs.Check.{sectionsOf}
 use Rattle.requests.specs.Question.{Question}
 use Rattle.requests.specs.Call.{callChecks}
 use Rattle.refusal.specs.Number.{numberOf}
-use Rattle.calls.specs.declared.admission.Sizes.{Sizes}
+use Rattle.two_reductions.specs.Sizes.{sizesIn, SizesRead}
+use Rattle.two_reductions.specs.declared.sizes.Sizes.{Sizes}
 use Rattle.calls.specs.declared.admission.Request.{Request}
 use Rattle.calls.specs.declared.admission.Request.the-variants.{Report, Coordinates}
 use Rattle.calls.specs.declared.admission.Admission.{Admission}
 use Rattle.calls.specs.declared.admission.Admission.the-variants.{Admitted, Refused}
-
-abbrev pub sizesIn : Sections → ℕ → Sizes
-sizesIn K p = record { cells = count K p; rows = countBelow K p; columns = count K (suc p) }
-
--- the sizes of dimension p of the cells K; each fits a field
-pub record SizesRead (K : Sections) (p : ℕ) (r : Sizes) : Type 0 where
-  pub is : r ≡ sizesIn K p
-  pub cells-below : r .cells < 65536
-  pub rows-below : r .rows < 65536
-  pub columns-below : r .columns < 65536
 
 -- the slots that check 9 asks of the output
 abbrev pub slotsFor : Request → Sizes → ℕ

@@ -1,26 +1,16 @@
 // The checks 1 to 9, which come before the work of every call on a dimension.
 ghost use mathlib.Core.Path.{_≡_};
-ghost use Prim.Native.Nat.{_<_, _≤_};
+ghost use Prim.Native.Nat.{_<_};
 ghost use lib.Dec.{ltb};
-ghost use Rattle.complexes.specs.Boundary.{countBelow};
-ghost use Rattle.fields.specs.Read.{ReadsBelow};
-ghost use Rattle.sheet_format.specs.Layout.{top};
-ghost use Rattle.sheet_format.specs.Check.{sectionsOf};
 ghost use Rattle.requests.specs.Question.{asked};
-ghost use Rattle.calls.specs.Admission.{SizesRead, slotsFor, spaceFor, Admits};
+ghost use Rattle.calls.specs.Admission.{slotsFor, spaceFor, Admits};
 use fields::field::TOP;
-use fields::field::count;
-use operations::layout::Layout;
 use refusal::Refusal;
 use sheet::reader::Reading;
 use sheet::reader::Sheet;
-
-// The counts that a dimension p works with: n_p cells, n_(p-1) rows of its boundary matrix, n_(p+1) columns of the next.
-pub struct Sizes {
-    pub cells: usize,
-    pub rows: usize,
-    pub columns: usize,
-}
+use two_reductions::layouts::work_slots;
+use two_reductions::sizes::Sizes;
+use two_reductions::sizes::sizes_of;
 
 // What a call asks of a dimension: its report, or the coordinates of a number of chains.
 pub enum Request {
@@ -32,25 +22,6 @@ pub enum Request {
 pub enum Admission {
     Admitted(Sizes),
     Refused(Refusal),
-}
-
-// The number of rows of the boundary matrix of dimension p.
-fn rows_of(s: &[u8], p: usize) -> usize
-    ensures { λ r. ⌜ ReadsBelow 65536 (countBelow (sectionsOf (now (s .entry))) p) r ⌝ }
-{
-    if p == 0 { 0 } else { count(s, p - 1) }
-}
-
-// The sizes of dimension p.
-fn sizes_of(s: &[u8], p: usize) -> Sizes
-    requires { ⌜ p ≤ top ⌝ }
-    ensures { λ r. ⌜ SizesRead (sectionsOf (now (s .entry))) p r ⌝ }
-{
-    Sizes {
-        cells: count(s, p),
-        rows: rows_of(s, p),
-        columns: count(s, p + 1),
-    }
 }
 
 impl Request {
@@ -71,7 +42,7 @@ impl Request {
         requires { ⌜ (sizes .cells < 65536) × (sizes .rows < 65536) × (sizes .columns < 65536) ⌝ }
         ensures { λ r. ⌜ r ≡ spaceFor self sizes ⌝ }
     {
-        Layout::work_slots(sizes.cells, sizes.rows, sizes.columns)
+        work_slots(sizes.cells, sizes.rows, sizes.columns)
     }
 }
 

@@ -1,6 +1,6 @@
 // What a call answers.
 use refusal::Refusal;
-use writers::reduced::Counts;
+use writers::counts::Counts;
 
 // Done, with the report's counts, or refused.
 pub enum Answer {

@@ -8,14 +8,14 @@ use crate::admission::Admission;
 use crate::admission::Request;
 use crate::admission::admit;
 use crate::answer::Answer;
-use crate::reductions::Reductions;
-use crate::reductions::reduce_twice;
 use chains::check::Check;
 use chains::check::check_chains;
 use chains::check::nonempty;
 use lines::line::clear;
 use refusal::Refusal;
 use sheet::reader::Sheet;
+use two_reductions::reductions::Reductions;
+use two_reductions::reductions::reduce_twice;
 use writers::coordinates::write_lists;
 use writers::kind::counts;
 

@@ -2,6 +2,5 @@
 pub mod admission;
 pub mod answer;
 pub mod coordinates;
-pub mod reductions;
 pub mod report;
 pub mod slots;

@@ -9,11 +9,11 @@ use crate::admission::Admission;
 use crate::admission::Request;
 use crate::admission::admit;
 use crate::answer::Answer;
-use crate::reductions::Reductions;
-use crate::reductions::reduce_twice;
 use lines::line::clear;
 use refusal::Refusal;
 use sheet::reader::Sheet;
+use two_reductions::reductions::Reductions;
+use two_reductions::reductions::reduce_twice;
 use writers::report::write_report;
 
 // The report of a dimension at a count limit.

@@ -27,10 +27,10 @@ use Rattle.host_calls.specs.HostCallLaws.{workRoom, counts-within, early-room}
 use Rattle.refusal.specs.Number.{numberOf}
 use Rattle.refusal.specs.declared.Refusal.{Refusal}
 use Rattle.refusal.specs.declared.Refusal.the-variants as refusal
-use Rattle.writers.specs.declared.reduced.Reduced.{Reduced}
-use Rattle.writers.specs.Written.{stateIn}
+use Rattle.two_reductions.specs.declared.reduced.Reduced.{Reduced}
+use Rattle.two_reductions.specs.Slices.{stateIn}
 use Rattle.calls.specs.Admission.{admission}
-use Rattle.calls.specs.declared.admission.Sizes.{Sizes}
+use Rattle.two_reductions.specs.declared.sizes.Sizes.{Sizes}
 use Rattle.calls.specs.declared.admission.Request.the-variants.{Coordinates}
 use Rattle.calls.proofs.Admitting.{Lengths, cellsOf, Granted, twice, Reduces}
 use Rattle.calls.proofs.ListChecks.{listsEarly, admission-told, length-told, cycles-next, small-coefficients}

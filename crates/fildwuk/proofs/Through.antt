@@ -26,7 +26,7 @@ use Rattle.host_calls.specs.Bytes.{numbersBytes}
 use Rattle.host_calls.specs.Host.{slotsIn, hostCall}
 use Rattle.host_calls.specs.HostCallLaws.{reportRoom, workRoom, report-refused, report-done}
 use Rattle.answers.proofs.HostSizes.{ReportSized, report-sized}
-use Rattle.writers.specs.declared.reduced.Counts.{Counts}
+use Rattle.writers.specs.declared.counts.Counts.{Counts}
 use Rattle.calls.specs.declared.answer.Answer as library
 use Rattle.calls.specs.declared.answer.Answer.the-variants.{Done, Refused}
 use Rattle.calls.specs.Answer.{countsIn, answered, CallAnswers}

@@ -8,7 +8,7 @@ use Rattle.limits.specs.Limits.{hostLimit}
 use Rattle.host_calls.specs.Bytes.{numbersBytes, chainFrom}
 use Rattle.requests.specs.Chains.{chainAt}
 use Rattle.writers.specs.Written.{CanCoordinate, coordinatesOf}
-use Rattle.writers.specs.declared.reduced.Reduced.{Reduced}
+use Rattle.two_reductions.specs.declared.reduced.Reduced.{Reduced}
 
 -- chain i of the bytes
 abbrev pub chainOf : ℕ → ℕ → List ℕ → ℕ → List ℤ

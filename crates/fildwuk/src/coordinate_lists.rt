@@ -21,8 +21,6 @@ ghost use Rattle.fildwuk.specs.Lists.{CanListBytes, listBytes};
 use calls::admission::Admission;
 use calls::admission::Request;
 use calls::admission::admit;
-use calls::reductions::Reductions;
-use calls::reductions::reduce_twice;
 use chains::check::Check;
 use chains::check::check_chain;
 use chains::check::nonempty;
@@ -30,8 +28,10 @@ use little_endian::read_chain;
 use little_endian::write_numbers;
 use refusal::Refusal;
 use sheet::reader::Sheet;
+use two_reductions::reduced::Reduced;
+use two_reductions::reductions::Reductions;
+use two_reductions::reductions::reduce_twice;
 use writers::coordinates::write_coordinates;
-use writers::reduced::Reduced;
 
 // The slots of one chain and of one list.
 const CELLS: usize = Sheet::HOST_LIMIT;

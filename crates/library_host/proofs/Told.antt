@@ -7,7 +7,7 @@ use Rattle.trials.specs.Trial.{numberTold, Called}
 use Rattle.reports.specs.Report as reports
 use Rattle.refusal.specs.Number.{numberOf}
 use Rattle.refusal.specs.declared.Refusal.{Refusal}
-use Rattle.writers.specs.declared.reduced.Counts.{Counts}
+use Rattle.writers.specs.declared.counts.Counts.{Counts}
 use Rattle.calls.specs.declared.answer.Answer.{Answer}
 use Rattle.calls.specs.declared.answer.Answer.the-variants.{Done, Refused}
 use Rattle.calls.specs.Answer.{CallAnswers, answered}

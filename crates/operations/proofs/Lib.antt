@@ -1,5 +1,4 @@
--- What the proofs of the crate share: products of counts (`Room`), the operations (`Regions`, `Side`, `Operate`, `Unchanged`).
-pub mod Room
+-- What the proofs of the crate share: the operations (`Regions`, `Side`, `Operate`, `Unchanged`).
 pub mod Regions
 pub mod Side
 pub mod Operate

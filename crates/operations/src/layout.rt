@@ -1,13 +1,11 @@
 // The matrix of a reduction and its companions, in a lent slice, and the operations on them. A companion that is absent has lines of length 0.
-ghost use mathlib.Core.Path.{_≡_};
-ghost use Prim.Native.Nat.{_+_, _*_, _<_, _≤_, max};
+ghost use Prim.Native.Nat.{_<_};
 ghost use lib.ListN.{length};
 ghost use Rattle.matrices.specs.Operation.{swap, inverse as undoing};
 ghost use Rattle.lines.specs.Slice.{Small, Bounded};
 ghost use Rattle.lines.specs.Operations.{operationOf, Fits, Alone};
 ghost use Rattle.lines.specs.Matrices.{Held};
 ghost use Rattle.operations.specs.Laid.{Laid, RowsOperated, ColumnsOperated, Followed};
-ghost use Rattle.operations.specs.Layouts.{firstLayout, secondLayout};
 use lines::line::Effect;
 use lines::matrix::Matrix;
 use lines::operation::Operation;
@@ -19,96 +17,6 @@ pub struct Layout {
     pub row_follower: Matrix,
     pub column_follower: Matrix,
     pub column_inverse: Matrix,
-}
-
-fn larger(a: usize, b: usize) -> usize
-    ensures { λ r. ⌜ r ≡ max a b ⌝ }
-{
-    if a < b { b } else { a }
-}
-
-// The layouts of the two reductions of a dimension p: `cells` is n_p, `rows` is n_(p-1) and `columns` is n_(p+1). First the matrix, in room for the
-// wider of the two; then V by columns and its inverse by rows, of which the second reduction takes the lines from the rank on.
-impl Layout {
-    // The slots that both take.
-    pub fn work_slots(cells: usize, rows: usize, columns: usize) -> usize
-        requires { ⌜ (cells < 65536) × (rows < 65536) × (columns < 65536) ⌝ }
-        ensures { λ r. ⌜ r ≡ cells * (2 * cells + max rows columns) ⌝ }
-    {
-        cells * (2 * cells + larger(rows, columns))
-    }
-
-    // That of the first reduction.
-    pub fn first(cells: usize, rows: usize, columns: usize) -> Layout
-        requires { ⌜ (cells < 65536) × (rows < 65536) × (columns < 65536) ⌝ }
-        ensures { λ r. ⌜ r ≡ firstLayout cells rows columns ⌝ }
-    {
-        let room = cells * larger(rows, columns);
-        Layout {
-            matrix: Matrix {
-                at: 0,
-                lines: rows,
-                width: cells,
-            },
-            row_inverse: Matrix {
-                at: room,
-                lines: rows,
-                width: 0,
-            },
-            row_follower: Matrix {
-                at: room,
-                lines: rows,
-                width: 0,
-            },
-            column_follower: Matrix {
-                at: room,
-                lines: cells,
-                width: cells,
-            },
-            column_inverse: Matrix {
-                at: room + cells * cells,
-                lines: cells,
-                width: cells,
-            },
-        }
-    }
-
-    // That of the second reduction, after a first one of this rank.
-    pub fn second(cells: usize, rows: usize, columns: usize, rank: usize) -> Layout
-        requires { ⌜ (cells < 65536) × (rows < 65536) × (columns < 65536) × (rank ≤ cells) ⌝ }
-        ensures { λ r. ⌜ r ≡ secondLayout cells rows columns rank ⌝ }
-    {
-        let room = cells * larger(rows, columns);
-        let end = room + 2 * (cells * cells);
-        let kept = cells - rank;
-        Layout {
-            matrix: Matrix {
-                at: 0,
-                lines: kept,
-                width: columns,
-            },
-            row_inverse: Matrix {
-                at: room + rank * cells,
-                lines: kept,
-                width: cells,
-            },
-            row_follower: Matrix {
-                at: room + cells * cells + rank * cells,
-                lines: kept,
-                width: cells,
-            },
-            column_follower: Matrix {
-                at: end,
-                lines: columns,
-                width: 0,
-            },
-            column_inverse: Matrix {
-                at: end,
-                lines: columns,
-                width: 0,
-            },
-        }
-    }
 }
 
 // Does the operation to a follower, then its inverse to an inverse companion. Where both are absent nothing is called. It is handed the largest

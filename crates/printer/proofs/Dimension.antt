@@ -33,7 +33,7 @@ use Rattle.answers.proofs.HostSizes.{ReportSized, WentWide, report-sized, accep
 use Rattle.text.specs.Put.{PutsWithin}
 use Rattle.text.specs.Room.{lineRoom, dimensionRoom}
 use Rattle.text.specs.PutLaws.{within-more}
-use Rattle.writers.specs.declared.reduced.Counts.{Counts}
+use Rattle.writers.specs.declared.counts.Counts.{Counts}
 use Rattle.calls.specs.declared.answer.Answer.{Answer}
 use Rattle.calls.specs.declared.answer.Answer.the-variants.{Done, Refused}
 use Rattle.calls.specs.Answer.{answered, countsIn, CallAnswers}

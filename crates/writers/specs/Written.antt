@@ -18,8 +18,9 @@ use Rattle.lines.specs.Slice.{at, Small}
 use Rattle.lines.specs.Matrices.{contents}
 use Rattle.lines.specs.declared.matrix.Matrix.{Matrix}
 use Rattle.operations.specs.Laid.{Laid, linesOf, stateOf}
-use Rattle.writers.specs.declared.reduced.Counts.{Counts}
-use Rattle.writers.specs.declared.reduced.Reduced.{Reduced}
+use Rattle.two_reductions.specs.Slices.{stateIn}
+use Rattle.two_reductions.specs.declared.reduced.Reduced.{Reduced}
+use Rattle.writers.specs.declared.counts.Counts.{Counts}
 
 -- the kind of row i: the entry on the diagonal, 0 past it
 abbrev pub kindIn : Matrix → List ℤ → ℕ → ℤ
@@ -37,10 +38,6 @@ pub record WrittenFrom (from : ℕ) (numbers slice : List ℤ) (r : ℕ) (slice�
 -- line i of the matrix stands from slot `from` on, and nothing else has changed
 pub record CopiedLine (M : Matrix) (w : List ℤ) (i from : ℕ) (slice slice′ : List ℤ) : Type 0 where
   pub is : slice′ ≡ splice from (tabulate (M .width) (contents M w i)) slice
-
--- the state that the two reductions leave
-abbrev pub stateIn : Reduced → List ℤ → State
-stateIn x w = stateOf (x .layout) (x .peak) w
 
 -- what the counts are read from
 pub record CanCount (x : Reduced) (w : List ℤ) : Type 0 where

@@ -13,9 +13,9 @@ ghost use Rattle.operations.specs.Laid.{linesOf};
 ghost use Rattle.limits.specs.Limits.{libraryLimit, coefficientLimit};
 ghost use Rattle.writers.specs.Written.{WrittenFrom, CanCoordinate, coordinatesOf, CanList};
 use crate::kind::kind;
-use crate::reduced::Reduced;
 use lines::matrix::Matrix;
 use numbers::residue::residue;
+use two_reductions::reduced::Reduced;
 
 // Row i of q times the chain; coefficients of 0 are passed over.
 fn row_times_chain(q: Matrix, w: &[i32], i: usize, chain: &[i32]) -> i64

@@ -5,10 +5,10 @@ ghost use lib.ListN.{length};
 ghost use Rattle.lines.specs.Matrices.{Held};
 ghost use Rattle.reports.specs.Report.{reported};
 ghost use Rattle.writers.specs.Written.{kindIn, Kinds, CanCount, Counted};
+use crate::counts::Counts;
 use crate::headroom::bits;
-use crate::reduced::Counts;
-use crate::reduced::Reduced;
 use lines::matrix::Matrix;
+use two_reductions::reduced::Reduced;
 
 // The kind of row i.
 pub fn kind(m: Matrix, w: &[i32], i: usize) -> i64

@@ -7,11 +7,11 @@ ghost use Rattle.lines.specs.Matrices.{Held};
 ghost use Rattle.reports.specs.Report.{reported, columnsOf};
 ghost use Rattle.operations.specs.Laid.{linesOf};
 ghost use Rattle.writers.specs.Written.{kindIn, Kinds, WrittenFrom, CopiedLine, CanReport, WroteReport};
+use crate::counts::Counts;
 use crate::kind::counts;
 use crate::kind::kind;
-use crate::reduced::Counts;
-use crate::reduced::Reduced;
 use lines::matrix::Matrix;
+use two_reductions::reduced::Reduced;
 
 // Writes the orders among the first n rows' kinds from slot `from` on, and answers the slot after them.
 fn write_orders(m: Matrix, w: &[i32], n: usize, report: &mut [i64], from: usize) -> usize

@@ -11,7 +11,7 @@ use Rattle.requests.specs.Question.{asked}
 use Rattle.requests.specs.Call as requests
 use Rattle.requests.specs.Call.{call}
 use Rattle.limits.specs.Limits.{hostLimit}
-use Rattle.writers.specs.declared.reduced.Counts.{Counts}
+use Rattle.writers.specs.declared.counts.Counts.{Counts}
 use Rattle.calls.specs.declared.answer.Answer.{Answer}
 use Rattle.calls.specs.declared.answer.Answer.the-variants.{Done, Refused}
 use Rattle.calls.specs.Answer.{CallAnswers}

@@ -10,7 +10,7 @@ use Rattle.sheet.specs.Number.{readingNumber}
 use Rattle.requests.specs.Question.{asked}
 use Rattle.requests.specs.CheckLaws.{callChecks-zero}
 use Rattle.calls.specs.Admission.{slotsFor, spaceFor}
-use Rattle.calls.specs.declared.admission.Sizes.{Sizes}
+use Rattle.two_reductions.specs.declared.sizes.Sizes.{Sizes}
 use Rattle.calls.proofs.Refusals.{sheet-refused, dimension-refused, output-short, work-short}
 use Rattle.calls.proofs.Admitting.{Lengths, slotsAsked, spaceAsked}
 use Rattle.calls.proofs.admission.admit.Statement.{statement}

@@ -25,9 +25,9 @@ use Rattle.writers.specs.Written.{coordinatesOf}
 use Rattle.calls.specs.Admission.{Admits}
 use Rattle.calls.specs.Answer.{CallAnswers}
 use Rattle.calls.specs.declared.answer.Answer.{Answer}
-use Rattle.calls.specs.declared.admission.Sizes.{Sizes}
+use Rattle.two_reductions.specs.declared.sizes.Sizes.{Sizes}
 use Rattle.calls.specs.declared.admission.Request.the-variants.{Coordinates}
-use Rattle.calls.proofs.Sheet.{cells-of}
+use Rattle.two_reductions.proofs.Sheet.{cells-of}
 use Rattle.calls.proofs.Admitting.{Lent, lengths, admit-refused, Granted, admit-granted, regrant, Reduces, twice-done, twice-refused}
 use Rattle.calls.proofs.Writing.{can-count}
 use Rattle.calls.proofs.ListAnswers.{listsCalled, lists-refuse, length-refuses, cycles-refuse, lists-wide, can-list, lists-done}
@@ -180,7 +180,7 @@ returns-4 c =
     let m = counted t in
     on-lists m
     (lists-wide (given t) (lists m) (chains-of (known m)) (regranted m) (size m) (passed t)
-    (twice-refused (lengths (given t)) (reduce .reduce-twice .result) (c .enum-told2 .given .1) (reduce .reduce-twice .ensures)))
+    (twice-refused (lengths (given t)) (reduce .reduce-twice .result) (c .enum-told2 .given .1) (reduce .reduce-twice .ensures .0)))
 
 -- ---- the coordinates
 
@@ -192,7 +192,7 @@ module _ (c : tie.After-known-told4) where
   checked = reduces .before .before
 
   reduced : Reduces (lengths (given checked)) (c .before .reduced .given .0 .0) (reduces .reduce-twice .last .1 .1 .1 .0)
-  reduced = twice-done (lengths (given checked)) (reduces .reduce-twice .result) (c .before .reduced .given .1) (reduces .reduce-twice .ensures)
+  reduced = twice-done (lengths (given checked)) (reduces .reduce-twice .result) (c .before .reduced .given .1) (reduces .reduce-twice .ensures .0)
 
 write-lists-requires : tie.Need-write-lists-requires
 write-lists-requires c κs =

@@ -61,7 +61,7 @@ returns-2 : tie.Need-returns-2
 returns-2 c =
     let called = c .before .before .before in
     let l = given (admitted called) in
-    report-wide l (granted (admitted called)) (twice-refused (lengths l) (called .reduce-twice .result) (c .enum-told .given .1) (called .reduce-twice .ensures))
+    report-wide l (granted (admitted called)) (twice-refused (lengths l) (called .reduce-twice .result) (c .enum-told .given .1) (called .reduce-twice .ensures .0))
 
 same-length : tie.Need-same-length
 same-length c = c .before .before .before .reduce-twice .kept .1 .1 .1 .0
@@ -76,7 +76,7 @@ module _ (c : tie.After-known-told3) where
   sized = admitted called
 
   reduced : Reduces (lengths (given sized)) (c .before .reduced .given .0 .0) (called .reduce-twice .last .1 .1 .1 .0)
-  reduced = twice-done (lengths (given sized)) (called .reduce-twice .result) (c .before .reduced .given .1) (called .reduce-twice .ensures)
+  reduced = twice-done (lengths (given sized)) (called .reduce-twice .result) (c .before .reduced .given .1) (called .reduce-twice .ensures .0)
 
 write-report-requires : tie.Need-write-report-requires
 write-report-requires c κs =

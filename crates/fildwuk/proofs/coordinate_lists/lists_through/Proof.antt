@@ -20,9 +20,9 @@ use Rattle.host_calls.specs.HostListsLaws.{nonempty-host-lists}
 use Rattle.limits.specs.Limits.{hostLimit, coefficientLimit}
 use Rattle.chains.specs.Check.{checkNumber}
 use Rattle.calls.specs.Admission.{Admits}
-use Rattle.calls.specs.declared.admission.Sizes.{Sizes}
+use Rattle.two_reductions.specs.declared.sizes.Sizes.{Sizes}
 use Rattle.calls.specs.declared.admission.Request.the-variants.{Coordinates}
-use Rattle.calls.proofs.Sheet.{cells-of}
+use Rattle.two_reductions.proofs.Sheet.{cells-of}
 use Rattle.calls.proofs.Admitting.{Lengths, cellsOf, admit-refused, Granted, admit-granted, regrant, Reduces, twice-done, twice-refused}
 use Rattle.fildwuk.specs.Answer.{HostAnswers}
 use Rattle.fildwuk.specs.Lists.{listBytes}
@@ -187,7 +187,7 @@ returns-4 c =
     rw (c .number4 .ensures)
     (on-lists m
     (lists-wide (q k) (lists m) (bytes k) (output k) (entered k .pre) (regranted m) (size m) (passed t)
-    (twice-refused (given (entered k)) (reduce .reduce-twice .result) (c .before .enum-told2 .given .1) (reduce .reduce-twice .ensures) .0)))
+    (twice-refused (given (entered k)) (reduce .reduce-twice .result) (c .before .enum-told2 .given .1) (reduce .reduce-twice .ensures .0) .0)))
 
 -- ---- the coordinates
 
@@ -200,7 +200,7 @@ module _ (c : tie.After-known-told4) where
 
   reduced : Reduces (given (entered (known (counted checked)))) (c .before .reduced .given .0 .0) (reduces .reduce-twice .last .1 .1 .1 .0)
   reduced =
-      twice-done (given (entered (known (counted checked)))) (reduces .reduce-twice .result) (c .before .reduced .given .1) (reduces .reduce-twice .ensures)
+      twice-done (given (entered (known (counted checked)))) (reduces .reduce-twice .result) (c .before .reduced .given .1) (reduces .reduce-twice .ensures .0)
 
 write-bytes-requires : tie.Need-write-bytes-requires
 write-bytes-requires c κs =

@@ -15,7 +15,7 @@ use Rattle.reports.specs.Report.{kind}
 use Rattle.reports.proofs.ReportLaws.{length-reported-le, length-coordinateList}
 use Rattle.host_calls.specs.Bytes.{numbersBytes}
 use Rattle.limits.specs.Limits.{hostLimit}
-use Rattle.writers.specs.Written.{stateIn}
+use Rattle.two_reductions.specs.Slices.{stateIn}
 use Rattle.writers.specs.Written.{WrittenFrom, coordinatesOf}
 use Rattle.fildwuk.specs.Lists.{chainOf, listBytes}
 use Rattle.fildwuk.proofs.ChainBytes.{chain-stands, chain-read, chain-length}

@@ -15,8 +15,8 @@ use Rattle.reports.proofs.ReportLaws.{length-reported-le}
 use Rattle.lists.specs.Splice.{written}
 use Rattle.operations.specs.Laid.{linesOf}
 use Rattle.writers.specs.Written.{kindIn, WrittenFrom, Counted, CanReport, WroteReport}
-use Rattle.writers.specs.declared.reduced.Counts.{Counts}
-use Rattle.writers.specs.declared.reduced.Reduced.{Reduced}
+use Rattle.writers.specs.declared.counts.Counts.{Counts}
+use Rattle.two_reductions.specs.declared.reduced.Reduced.{Reduced}
 use Rattle.writers.proofs.Held.{matrix-held, row-inverse-held}
 use Rattle.writers.proofs.Writing.{written-none, written-one, written-then, written-whole}
 use Rattle.writers.proofs.report.write_report.Statement.{statement}

@@ -8,10 +8,10 @@ use native.Mathlib.Omega.{arith}
 use borrow.Author.Needs.{needs}
 use borrow.Author.Tests.{lt-ltb, le-ltb}
 use lib.Dec.{eqb, ltb}
-use Rattle.operations.proofs.Room.{product-below}
+use Rattle.two_reductions.proofs.Room.{product-below}
 use Rattle.calls.specs.Admission.{slotsFor}
 use Rattle.calls.specs.declared.admission.Request.{Request}
-use Rattle.calls.specs.declared.admission.Sizes.{Sizes}
+use Rattle.two_reductions.specs.declared.sizes.Sizes.{Sizes}
 use Rattle.calls.proofs.admission.Request.lacks_slots.Statement.{statement}
 use Rattle.calls.proofs.admission.Request.lacks_slots.Tie as tie
 

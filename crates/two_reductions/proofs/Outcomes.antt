@@ -1,0 +1,183 @@
+-- What the two reductions come to, from what each call answers: first-refused, first-done, product-refused, second-started, second-refused,
+-- second-done.
+use mathlib.Core.Path.{_≡_, refl, sym, subst, _∙_, ap}
+use mathlib.Core.Bool.{true}
+use mathlib.Core.List.{List}
+use Prim.Native.Nat.{ℕ, suc, _≤_, max}
+use native.Mathlib.Nat.{le-trans, min-le-right}
+use native.Mathlib.Omega.{arith}
+use lib.IntN.{ℤ, pos}
+use lib.ListN.{length, replicate, length-replicate}
+use Rattle.matrices.specs.Matrix.{mul}
+use Rattle.matrices.specs.Matrix as theory
+use Rattle.complexes.specs.Complex.{Sections, count}
+use Rattle.complexes.proofs.ChainComplex.{ChainComplex}
+use Rattle.complexes.specs.Boundary.{countBelow, boundary}
+use Rattle.reduction_steps.specs.Table.{tableWithin}
+use Rattle.reduction_steps.specs.Pivot.{Rule, IsRule}
+use Rattle.reduction_steps.specs.Step.{Machine, done, reduce}
+use Rattle.reduction_laws.specs.Shape.{Shaped}
+use Rattle.reduction_laws.proofs.SmithForm as machine
+use Rattle.reports.specs.Reductions as reports
+use Rattle.reports.specs.Reductions.{noTransforms, firstSizes, firstStart, secondSizes, secondStart, product, afterSecond}
+use Rattle.reports.specs.ReductionsLaws.{first-wide, product-wide, after-second, second-wide}
+use Rattle.requests.specs.Call.{workSlots}
+use Rattle.reports.specs.Reductions.{reductionsOf}
+use Rattle.limits.specs.Limits.{entryLimit, libraryLimit}
+use Rattle.answers.proofs.TwoReductions.{first-reduced, reductions-right}
+use Rattle.lines.specs.Matrices.{contents, Held, Holds, Exceeds, Became, everywhere}
+use Rattle.lines.proofs.Peaks.{under-covered}
+use Rattle.lines.specs.declared.matrix.Matrix.{Matrix}
+use Rattle.lines.specs.declared.line.Effect.{Effect}
+use Rattle.lines.specs.declared.line.Effect.the-variants as effect
+use Rattle.refusal.specs.declared.Refusal.{Refusal}
+use Rattle.refusal.specs.declared.Refusal.the-variants as refusal
+use Rattle.operations.specs.Laid.{Laid, stateOf}
+use Rattle.operations.specs.declared.layout.Layout.{Layout}
+use Rattle.passes.specs.Answer.{Cleared, StillUnder}
+use Rattle.reducer.specs.Answer.{Reduces, ReductionDone, ReductionRefused, reductionOf}
+use Rattle.reducer.specs.declared.reduction.Reduction.{Reduction}
+use Rattle.reducer.specs.declared.reduction.Reduction.the-variants as reduction
+use Rattle.two_reductions.specs.declared.reduced.Reduced.{Reduced}
+use Rattle.two_reductions.specs.Layouts.{firstLayout, secondLayout}
+use Rattle.two_reductions.specs.Slices.{firstLayoutOf, secondLayoutOf, startPeak, Filled, TwiceReduced}
+use Rattle.two_reductions.specs.declared.reductions.Reductions.the-variants.{Done, Refused}
+use Rattle.two_reductions.proofs.Places.{held-row-follower}
+use Rattle.two_reductions.proofs.Between.{laid-second, second-state, product-narrow, product-beyond}
+
+-- refusal 13, with the slice cleared by a callee that was lent one of length m
+cleared : {m n : ℕ} {x : Refusal} {w : List ℤ} → m ≡ n → Cleared m x w → Cleared n refusal.TooWide w
+cleared e h = record { number = refl; zeros = h .zeros ∙ ap (λ (k : ℕ). replicate k (pos 0)) e }
+
+pub cleared-length : {n : ℕ} {x : Refusal} {w : List ℤ} → Cleared n x w → length w ≡ n
+cleared-length {n} h = ap length (h .zeros) ∙ length-replicate n (pos 0)
+
+-- ---- the case that a call answered
+
+module _ (W : Layout) {y : Machine} {n : ℕ} {w : List ℤ} (x : Reduction) where
+  pub reduces-done : {r peak : ℕ} → x ≡ reduction.Done r peak → Reduces W y n x w → ReductionDone W y n r peak w
+  reduces-done e h = subst (λ (z : Reduction). Reduces W y n z w) e h
+
+  pub reduces-refused : {z : Refusal} → x ≡ reduction.Refused z → Reduces W y n x w → ReductionRefused y n z w
+  reduces-refused e h = subst (λ (z : Reduction). Reduces W y n z w) e h
+
+module _ {M : Matrix} {w w′ : List ℤ} {A : theory.Matrix} (x : Effect) where
+  pub became-done : {a : ℕ} → x ≡ effect.Done a → Became M w everywhere A 0 x w′ → Holds M w everywhere A 0 a w′
+  became-done e h = subst (λ (z : Effect). Became M w everywhere A 0 z w′) e h
+
+  pub became-wide : x ≡ effect.TooWide → Became M w everywhere A 0 x w′ → Exceeds M w A w′
+  became-wide e h = subst (λ (z : Effect). Became M w everywhere A 0 z w′) e h
+
+module _ {rule : Rule} (is-rule : IsRule rule) (K : Sections) (p n : ℕ) (chains : ChainComplex libraryLimit K) (slots : workSlots K p ≤ n) where
+  -- the first reduction is done with rank r, and the slice holds the state that it leaves, with the peak
+  pub record FirstDone (r peak : ℕ) (w : List ℤ) : Type 0 where
+    pub outcome : reduce entryLimit (firstSizes noTransforms K p) rule (firstStart noTransforms K p) ≡ done r (stateOf (firstLayoutOf K p) peak w)
+    pub rank-within : r ≤ count K p
+    pub shaped : Shaped (firstSizes noTransforms K p) (stateOf (firstLayoutOf K p) peak w)
+    pub kept : StillUnder n peak w
+
+  -- the product lies within the limit, and the slice holds the start of the second reduction
+  pub record SecondStarted (r peak : ℕ) (w : List ℤ) (peak′ : ℕ) (w′ : List ℤ) : Type 0 where
+    pub first : FirstDone r peak w
+    pub state : stateOf (secondLayoutOf K p r) peak′ w′ ≡ secondStart noTransforms K p r (stateOf (firstLayoutOf K p) peak w)
+    pub narrow : tableWithin entryLimit (product K p r (stateOf (firstLayoutOf K p) peak w)) ≡ true
+    pub kept : StillUnder n peak′ w′
+
+  -- ---- the first reduction
+
+  module _ (W : Layout) (is : W ≡ firstLayoutOf K p) {w : List ℤ} (f : Filled K p n w) {peak : ℕ} (from : peak ≡ startPeak (count K p)) where
+    -- it starts as the definition's
+    starts : reductionOf rule W peak w ≡ reduce entryLimit (firstSizes noTransforms K p) rule (firstStart noTransforms K p)
+    unfolding firstLayout
+    starts = rw (is, from) (ap (reduce entryLimit (firstSizes noTransforms K p) rule) (f .state))
+
+    pub first-refused : {x : Refusal} {w′ : List ℤ} → ReductionRefused (reductionOf rule W peak w) (length w) x w′
+        → TwiceReduced K p (reductionsOf rule K p) n (Refused refusal.TooWide) w′
+    first-refused h = (
+      first-wide noTransforms rule entryLimit K p (sym starts ∙ h .outcome),
+      cleared (f .kept .same-length) (h .cleared),
+    )
+
+    pub first-done : {r peak′ : ℕ} {w′ : List ℤ} → ReductionDone W (reductionOf rule W peak w) (length w) r peak′ w′ → FirstDone r peak′ w′
+    first-done {r} {peak′} {w′} h = record {
+      outcome = outcome;
+      rank-within = le-trans (right .bound) (min-le-right (countBelow K p) (count K p));
+      shaped = right .shaped;
+      kept = record { same-length = h .kept .same-length ∙ f .kept .same-length; under = h .kept .under };
+    }
+      where
+        outcome : reduce entryLimit (firstSizes noTransforms K p) rule (firstStart noTransforms K p) ≡ done r (stateOf (firstLayoutOf K p) peak′ w′)
+        outcome = sym starts ∙ h .outcome ∙ ap (λ (X : Layout). done r (stateOf X peak′ w′)) is
+
+        right : machine.Reduced entryLimit (firstSizes noTransforms K p) (firstStart noTransforms K p) r (stateOf (firstLayoutOf K p) peak′ w′)
+        right = first-reduced chains noTransforms rule is-rule entryLimit p (omega arith) r (stateOf (firstLayoutOf K p) peak′ w′) outcome
+
+  -- ---- the product
+
+  module _ {r peak : ℕ} {w : List ℤ} (f : FirstDone r peak w) (W : Layout) (is : W ≡ secondLayoutOf K p r) where
+    pub laid-then : Laid n W
+    laid-then = rw is (laid-second K p n r slots (f .rank-within) peak w (f .shaped))
+
+    -- what `multiply` asks of Q and of the matrix
+    pub Q-width : W .«row_follower» .width ≡ count K p
+    unfolding secondLayout
+    Q-width = rw is refl
+
+    pub product-width : W .matrix .width ≡ count K (suc p)
+    unfolding secondLayout
+    product-width = rw is refl
+
+    pub Q-held : Held (length w) (W .«row_follower»)
+    Q-held = rw (f .kept .same-length) (held-row-follower laid-then)
+
+    -- Q times the matrix of dimension p + 1, as the code asks for it
+    abbrev pub asked : theory.Matrix
+    asked = mul (W .«row_follower» .width) (contents (W .«row_follower») w) (boundary K (suc p))
+
+    pub product-refused : {w′ : List ℤ} → Exceeds (W .matrix) w asked w′ → reductionsOf rule K p ≡ reports.tooWide
+    unfolding secondLayout
+    product-refused {w′} h =
+        product-wide noTransforms rule entryLimit K p r (stateOf (firstLayoutOf K p) peak w) (f .outcome)
+        (product-beyond K p n r slots (f .rank-within) peak w (f .shaped) (rw is at h))
+
+    -- the product answered x, and the second reduction starts with the larger one of that and the peak of the first
+    pub second-started : {x peak′ : ℕ} {w′ : List ℤ} → Holds (W .matrix) w everywhere asked 0 x w′ → peak′ ≡ max peak x → SecondStarted r peak w peak′ w′
+    unfolding secondLayout
+    second-started {x} {peak′} {w′} h e = subst (λ (m : ℕ). SecondStarted r peak w m w′) (sym e) (record {
+      first = f;
+      state = second-state K p n r slots (f .rank-within) peak w (f .shaped) (f .kept .under) (rw is at h);
+      narrow = product-narrow K p n r slots (f .rank-within) peak w (f .shaped) (f .kept .under) (rw is at h);
+      kept = record { same-length = h .same-length ∙ f .kept .same-length; under = under-covered (f .kept .under) (h .covered) (h .bounded) };
+    })
+
+  -- ---- the second reduction
+
+  module _ {r peak : ℕ} {w : List ℤ} {peak′ : ℕ} {w′ : List ℤ} (s : SecondStarted r peak w peak′ w′) (W : Layout) (is : W ≡ secondLayoutOf K p r) where
+    starts-again : reductionOf rule W peak′ w′ ≡ reduce entryLimit (secondSizes noTransforms K p r) rule (secondStart noTransforms K p r (stateOf (firstLayoutOf K p) peak w))
+    unfolding secondLayout
+    starts-again = rw is (ap (reduce entryLimit (secondSizes noTransforms K p r) rule) (s .state))
+
+    pub second-refused : {x : Refusal} {w″ : List ℤ} → ReductionRefused (reductionOf rule W peak′ w′) (length w′) x w″
+        → TwiceReduced K p (reductionsOf rule K p) n (Refused refusal.TooWide) w″
+    second-refused h = (
+      second-wide noTransforms rule entryLimit K p r (stateOf (firstLayoutOf K p) peak w) (s .first .outcome) (s .narrow) (sym starts-again ∙ h .outcome),
+      cleared (s .kept .same-length) (h .cleared),
+    )
+
+    pub second-done : {last peak″ : ℕ} {w″ : List ℤ} → ReductionDone W (reductionOf rule W peak′ w′) (length w′) last peak″ w″
+        → TwiceReduced K p (reductionsOf rule K p) n (Done (record { layout = W; rank = last; peak = peak″ })) w″
+    unfolding secondLayout afterSecond
+    second-done {last} {peak″} {w″} h = record {
+      first-rank = r;
+      rank-within = s .first .rank-within;
+      layout-is = is;
+      is = outcome;
+      rank-below = reductions-right chains noTransforms rule is-rule entryLimit p (omega arith) (W .matrix .lines) last (stateOf W peak″ w″) outcome .rank-bound;
+      kept = record { same-length = h .kept .same-length ∙ s .kept .same-length; under = h .kept .under };
+    }
+      where
+        outcome : reductionsOf rule K p ≡ reports.reduced (W .matrix .lines) last (stateOf W peak″ w″)
+        outcome =
+            after-second noTransforms rule entryLimit K p r (stateOf (firstLayoutOf K p) peak w) (s .first .outcome) (s .narrow)
+            (done last (stateOf W peak″ w″)) (sym starts-again ∙ h .outcome)
+            ∙ ap (λ (k : ℕ). reports.reduced k last (stateOf W peak″ w″)) (sym (ap (λ (X : Layout). X .matrix .lines) is))

@@ -1,0 +1,77 @@
+-- A part of a slice of zeros is lent, and comes back with the rest behind it: part-zeros, rest-zeros, zero-behind. What the two reductions leave in
+-- the part, they leave in the slice: twice-whole.
+use mathlib.Core.Path.{_≡_, refl, sym, _∙_, ap}
+use mathlib.Core.List.{List, [], _∷_, _++_}
+use Prim.Native.Nat.{ℕ, zero, suc, _+_, _-_, _≤_}
+use native.Mathlib.Omega.{arith}
+use lib.IntN.{ℤ, pos, natAbs}
+use lib.ListN.{length, take, drop, replicate, length-append, length-replicate, replicate-append-replicate, List·getD-eq-default}
+use Rattle.complexes.specs.Complex.{Sections}
+use Rattle.reduction_laws.specs.Tables.{table-ext}
+use Rattle.reports.specs.Reductions as reports
+use Rattle.lines.specs.Slice.{at, lineAt, Under}
+use Rattle.lines.specs.declared.matrix.Matrix.{Matrix}
+use Rattle.operations.specs.Laid.{linesOf, stateOf}
+use Rattle.operations.specs.declared.layout.Layout.{Layout}
+use Rattle.two_reductions.specs.Slices.{TwiceReduced, ZeroFrom}
+use Rattle.two_reductions.specs.declared.reductions.Reductions.{Reductions}
+use Rattle.two_reductions.specs.declared.reductions.Reductions.the-variants.{Done, Refused}
+use Rattle.two_reductions.proofs.Filling.{state-is}
+
+abbrev pub zeros : ℕ → List ℤ
+zeros n = replicate n (pos 0)
+
+pub part-zeros : (m n : ℕ) → take m (zeros n) ≡ zeros (length (take m (zeros n)))
+part-zeros zero n = refl
+part-zeros (suc m) zero = refl
+part-zeros (suc m) (suc n) = ap (λ (l : List ℤ). pos 0 ∷ l) (part-zeros m n)
+
+pub rest-zeros : (m n : ℕ) → drop m (zeros n) ≡ zeros (n - m)
+rest-zeros zero n = let whole : n ≡ n - 0 = omega arith in ap zeros whole
+rest-zeros (suc m) zero = let none : 0 ≡ 0 - suc m = omega arith in ap zeros none
+rest-zeros (suc m) (suc n) = let fewer : n - m ≡ suc n - suc m = omega arith in rest-zeros m n ∙ ap zeros fewer
+
+-- zeros behind a slice are not seen: past its end it reads 0 too
+at-front : (w : List ℤ) (k i : ℕ) → at (w ++ zeros k) i ≡ at w i
+at-front [] zero i = refl
+at-front [] (suc k) zero = refl
+at-front [] (suc k) (suc i) = at-front [] k i
+at-front (x ∷ w) k zero = refl
+at-front (x ∷ w) k (suc i) = at-front w k i
+
+module _ (w : List ℤ) (k : ℕ) where
+  pub zero-behind : {m : ℕ} → length w ≤ m → ZeroFrom m (w ++ zeros k)
+  zero-behind h = record { zero-at = λ i a. at-front w k i ∙ List·getD-eq-default w (pos 0) {n = i} (omega arith) }
+
+  lines-front : (M : Matrix) → linesOf M (w ++ zeros k) ≡ linesOf M w
+  unfolding linesOf
+  lines-front M = table-ext (record { at = λ i j a b. at-front w k (lineAt (M .at) (M .width) i + j) })
+
+  state-front : (W : Layout) (peak : ℕ) → stateOf W peak (w ++ zeros k) ≡ stateOf W peak w
+  state-front W peak =
+      state-is (lines-front (W .matrix)) (lines-front (W .«row_follower»)) (lines-front (W .«row_inverse»)) (lines-front (W .«column_follower»))
+      (lines-front (W .«column_inverse»)) refl
+
+  under-front : {peak : ℕ} → Under peak w → Under peak (w ++ zeros k)
+  under-front h = record { bound = λ i. rw (at-front w k i) (h .bound i); limit = h .limit }
+
+  pub twice-whole : (K : Sections) (p : ℕ) (y : reports.Reductions) (m n : ℕ) (r : Reductions) → m + k ≡ n → TwiceReduced K p y m r w
+      → TwiceReduced K p y n r (w ++ zeros k)
+  twice-whole K p y m n (Done x) e h = record {
+    first-rank = h .first-rank;
+    rank-within = h .rank-within;
+    layout-is = h .layout-is;
+    is = h .is ∙ ap (reports.reduced (x .layout .matrix .lines) (x .rank)) (sym (state-front (x .layout) (x .peak)));
+    rank-below = h .rank-below;
+    kept = record {
+      same-length = length-append w (zeros k) ∙ omega (arith, h .kept .same-length, length-replicate k (pos 0), e);
+      under = under-front (h .kept .under);
+    };
+  }
+  twice-whole K p y m n (Refused x) e h = (
+    h .0,
+    record {
+      number = h .1 .number;
+      zeros = ap (λ (l : List ℤ). l ++ zeros k) (h .1 .zeros) ∙ replicate-append-replicate m k (pos 0) ∙ ap zeros e;
+    },
+  )

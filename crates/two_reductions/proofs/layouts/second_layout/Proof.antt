@@ -1,0 +1,62 @@
+-- `layouts::second_layout` meets its contract: every place is a sum of products of two counts. Assumes nothing.
+use Prim.Native.Nat.{_≤_, _*_, _^_}
+use native.Mathlib.Omega.{arith}
+use borrow.Author.Needs.{needs}
+use Rattle.two_reductions.specs.Layouts.{secondLayout}
+use Rattle.two_reductions.proofs.Room.{product-below, max-below}
+use Rattle.two_reductions.proofs.layouts.second_layout.Statement.{statement}
+use Rattle.two_reductions.proofs.layouts.second_layout.Tie as tie
+
+-- the products in the places
+record Below (c : tie.After-larger) : Type 0 where
+  pub room : c .before .args .cells * c .larger .result ≤ 2 ^ 32
+  pub square : c .before .args .cells * c .before .args .cells ≤ 2 ^ 32
+  pub skipped : c .before .args .rank * c .before .args .cells ≤ 2 ^ 32
+
+below : (c : tie.After-larger) → Below c
+below c =
+    let pre = c .before .pre in
+    record {
+      room = product-below (pre .0) (rw (c .larger .ensures) (max-below (pre .1) (pre .2)));
+      square = product-below (pre .0) (pre .0);
+      skipped = product-below (omega (arith, pre .0, pre .3)) (pre .0);
+    }
+
+mul-room : tie.Need-mul-room
+mul-room c = omega (arith, below c)
+
+mul-end : tie.Need-mul-end
+mul-end c = omega (arith, below c)
+
+mul-end-2 : tie.Need-mul-end-2
+mul-end-2 c = omega (arith, below c)
+
+add-end : tie.Need-add-end
+add-end c = omega (arith, below c)
+
+mul-t8 : tie.Need-mul-t8
+mul-t8 c = omega (arith, below c)
+
+add-t9 : tie.Need-add-t9
+add-t9 c = omega (arith, below c)
+
+mul-t12 : tie.Need-mul-t12
+mul-t12 c = omega (arith, below c)
+
+add-t13 : tie.Need-add-t13
+add-t13 c = omega (arith, below c)
+
+mul-t14 : tie.Need-mul-t14
+mul-t14 c = omega (arith, below c)
+
+add-t15 : tie.Need-add-t15
+add-t15 c = omega (arith, below c)
+
+returns : tie.Need-returns
+unfolding secondLayout
+returns c = rw (c .larger .ensures)
+
+pub second-layout-spec : {M : Type 1} → statement M
+second-layout-spec =
+    tie.close
+    (tie.spec (λ c κs. search needs) mul-room mul-end mul-end-2 add-end (λ c. search needs) mul-t8 add-t9 mul-t12 add-t13 mul-t14 add-t15 returns)

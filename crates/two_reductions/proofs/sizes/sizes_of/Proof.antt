@@ -1,0 +1,12 @@
+-- `sizes::sizes_of` meets its contract: each size is a field of the header. Assumes nothing.
+use borrow.Author.Needs.{needs}
+use denote.Ref.{now}
+use Rattle.two_reductions.proofs.Sheet.{sizes-read}
+use Rattle.two_reductions.proofs.sizes.sizes_of.Statement.{statement}
+use Rattle.two_reductions.proofs.sizes.sizes_of.Tie as tie
+
+returns : tie.Need-returns
+returns c = sizes-read (now (c .before .before .before .before .args .s)) (c .before .before .count .ensures) (c .before .rows-of .ensures) (c .count2 .ensures)
+
+pub sizes-of-spec : {M : Type 1} → statement M
+sizes-of-spec = tie.close (tie.spec (λ c κs. search needs) (λ c κs. search needs) (λ c. search needs) (λ c κs. search needs) returns)

@@ -1,0 +1,28 @@
+-- Where the matrices of the two reductions of a dimension stand in the work slice. In dimension p, `cells` is n_p, `rows` is n_(p-1) and `columns`
+-- is n_(p+1).
+use Prim.Native.Nat.{ℕ, _+_, _*_, _-_, max}
+use Rattle.lines.specs.declared.matrix.Matrix.{Matrix}
+use Rattle.operations.specs.declared.layout.Layout.{Layout}
+
+abbrev pub matrixAt : ℕ → ℕ → ℕ → Matrix
+matrixAt at lines width = record { at = at; lines = lines; width = width }
+
+unfoldable pub firstLayout : ℕ → ℕ → ℕ → Layout
+firstLayout cells rows columns =
+    record {
+      matrix = matrixAt 0 rows cells;
+      «row_inverse» = matrixAt (cells * max rows columns) rows 0;
+      «row_follower» = matrixAt (cells * max rows columns) rows 0;
+      «column_follower» = matrixAt (cells * max rows columns) cells cells;
+      «column_inverse» = matrixAt (cells * max rows columns + cells * cells) cells cells;
+    }
+
+unfoldable pub secondLayout : ℕ → ℕ → ℕ → ℕ → Layout
+secondLayout cells rows columns rank =
+    record {
+      matrix = matrixAt 0 (cells - rank) columns;
+      «row_inverse» = matrixAt (cells * max rows columns + rank * cells) (cells - rank) cells;
+      «row_follower» = matrixAt (cells * max rows columns + cells * cells + rank * cells) (cells - rank) cells;
+      «column_follower» = matrixAt (cells * max rows columns + 2 * (cells * cells)) columns 0;
+      «column_inverse» = matrixAt (cells * max rows columns + 2 * (cells * cells)) columns 0;
+    }

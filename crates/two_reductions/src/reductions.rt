@@ -1,0 +1,97 @@
+// The two reductions of a dimension.
+ghost use mathlib.Core.Path.{_≡_};
+ghost use Prim.Native.Nat.{_≤_};
+ghost use lib.ListN.{length, replicate};
+ghost use lib.IntN.{pos};
+ghost use Rattle.sheet_format.specs.Layout.{top};
+ghost use Rattle.sheet_format.specs.Check.{sectionsOf};
+ghost use Rattle.reduction_steps.specs.Pivot.{pivotRule};
+ghost use Rattle.requests.specs.Call.{workSlots};
+ghost use Rattle.reports.specs.Reductions.{reductionsOf};
+ghost use Rattle.faces.specs.Face.{Accepted};
+ghost use Rattle.two_reductions.specs.Sizes.{SizesRead};
+ghost use Rattle.two_reductions.specs.Slices.{firstLayoutOf, startPeak, Filled, TwiceReduced, ZeroFrom};
+use crate::layouts::first_layout;
+use crate::layouts::second_layout;
+use crate::layouts::work_slots;
+use crate::reduced::Reduced;
+use crate::sizes::Sizes;
+use boundaries::fill::fill_boundary;
+use boundaries::fill::fill_identity;
+use boundaries::product::multiply;
+use lines::line::Effect;
+use lines::line::clear;
+use numbers::absolute::larger;
+use operations::layout::Layout;
+use reducer::reduction::Reduction;
+use reducer::reduction::reduce_matrix;
+use refusal::Refusal;
+
+pub enum Reductions {
+    Done(Reduced),
+    Refused(Refusal),
+}
+
+// Sets up the first reduction in a slice that reads 0: the boundary matrix of dimension p, V and its inverse.
+fn fill_first(s: &[u8], p: usize, layout: Layout, w: &mut [i32])
+    requires { ⌜ Accepted (now s) × (p ≤ top) ⌝ }
+    requires { ⌜ workSlots (sectionsOf (now s)) p ≤ length (now w) ⌝ }
+    requires { ⌜ layout ≡ firstLayoutOf (sectionsOf (now s)) p ⌝ }
+    requires { ⌜ now w ≡ replicate (length (now w)) (pos 0) ⌝ }
+    ensures { λ r. ⌜ Filled (sectionsOf (now (s .entry))) p (length (now (w .entry))) (now (w .exit)) ⌝ }
+{
+    if 0 < p {
+        fill_boundary(s, p - 1, layout.matrix, w);
+    }
+    fill_identity(layout.column_follower, w);
+    fill_identity(layout.column_inverse, w);
+}
+
+// The peak at the start of the first reduction: V and its inverse are identities, and no entry of the boundary matrix is larger.
+fn start_peak(cells: usize) -> u64
+    ensures { λ r. ⌜ r ≡ startPeak cells ⌝ }
+{
+    if cells == 0 { 0 } else { 1 }
+}
+
+// Reduces the boundary matrix of dimension p, then Q times the one of p + 1, in the part of the work slice that their layouts use, which reads 0.
+fn reduce_part(s: &[u8], p: usize, sizes: Sizes, w: &mut [i32]) -> Reductions
+    requires { ⌜ Accepted (now s) × (p ≤ top) ⌝ }
+    requires { ⌜ workSlots (sectionsOf (now s)) p ≤ length (now w) ⌝ }
+    requires { ⌜ SizesRead (sectionsOf (now s)) p sizes ⌝ }
+    requires { ⌜ now w ≡ replicate (length (now w)) (pos 0) ⌝ }
+    ensures { λ r. ⌜ TwiceReduced (sectionsOf (now (s .entry))) p (reductionsOf pivotRule (sectionsOf (now (s .entry))) p) (length (now (w .entry))) r (now (w .exit)) ⌝ }
+{
+    let first = first_layout(sizes.cells, sizes.rows, sizes.columns);
+    fill_first(s, p, first, w);
+    let Reduction::Done(rank, halfway) = reduce_matrix(first, w, start_peak(sizes.cells)) else {
+        return Reductions::Refused(Refusal::TooWide);
+    };
+    let second = second_layout(sizes.cells, sizes.rows, sizes.columns, rank);
+    let Effect::Done(product) = multiply(s, p, second.row_follower, second.matrix, w) else {
+        clear(w);
+        return Reductions::Refused(Refusal::TooWide);
+    };
+    let reached = larger(halfway, product);
+    let Reduction::Done(last, peak) = reduce_matrix(second, w, reached) else {
+        return Reductions::Refused(Refusal::TooWide);
+    };
+    Reductions::Done(Reduced {
+        layout: second,
+        rank: last,
+        peak,
+    })
+}
+
+// The two reductions of dimension p. The work slice is cleared first, and the slots behind those of the layouts are not lent.
+pub fn reduce_twice(s: &[u8], p: usize, sizes: Sizes, w: &mut [i32]) -> Reductions
+    requires { ⌜ Accepted (now s) × (p ≤ top) ⌝ }
+    requires { ⌜ workSlots (sectionsOf (now s)) p ≤ length (now w) ⌝ }
+    requires { ⌜ SizesRead (sectionsOf (now s)) p sizes ⌝ }
+    ensures { λ r. ⌜ TwiceReduced (sectionsOf (now (s .entry))) p (reductionsOf pivotRule (sectionsOf (now (s .entry))) p) (length (now (w .entry))) r (now (w .exit)) ⌝ }
+    ensures { λ r. ⌜ ZeroFrom (workSlots (sectionsOf (now (s .entry))) p) (now (w .exit)) ⌝ }
+{
+    clear(w);
+    let slots = work_slots(sizes.cells, sizes.rows, sizes.columns);
+    reduce_part(s, p, sizes, &mut w[..slots])
+}

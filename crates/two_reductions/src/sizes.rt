@@ -1,0 +1,34 @@
+// The sizes of a dimension.
+ghost use Rattle.complexes.specs.Boundary.{countBelow};
+ghost use Prim.Native.Nat.{_≤_};
+ghost use Rattle.fields.specs.Read.{ReadsBelow};
+ghost use Rattle.sheet_format.specs.Layout.{top};
+ghost use Rattle.sheet_format.specs.Check.{sectionsOf};
+ghost use Rattle.two_reductions.specs.Sizes.{SizesRead};
+use fields::field::count;
+
+// The counts that a dimension p works with: n_p cells, n_(p-1) rows of its boundary matrix, n_(p+1) columns of the next.
+pub struct Sizes {
+    pub cells: usize,
+    pub rows: usize,
+    pub columns: usize,
+}
+
+// The number of rows of the boundary matrix of dimension p.
+fn rows_of(s: &[u8], p: usize) -> usize
+    ensures { λ r. ⌜ ReadsBelow 65536 (countBelow (sectionsOf (now (s .entry))) p) r ⌝ }
+{
+    if p == 0 { 0 } else { count(s, p - 1) }
+}
+
+// The sizes of dimension p.
+pub fn sizes_of(s: &[u8], p: usize) -> Sizes
+    requires { ⌜ p ≤ top ⌝ }
+    ensures { λ r. ⌜ SizesRead (sectionsOf (now (s .entry))) p r ⌝ }
+{
+    Sizes {
+        cells: count(s, p),
+        rows: rows_of(s, p),
+        columns: count(s, p + 1),
+    }
+}
