@@ -18,7 +18,7 @@ use Rattle.reports.specs.Reductions.{Reductions, noTransforms, tooWide, reduced
 use Rattle.reports.specs.ReductionsLaws.{reductions-done, after-second}
 use Rattle.requests.specs.Question.{Question, cells, rule, two}
 use Rattle.requests.specs.Call.{Request, earlyChecks}
-use Rattle.requests.specs.CallLaws.{early-iff}
+use Rattle.requests.proofs.CallLaws.{early-iff}
 use Rattle.answers.proofs.TwoReductions.{Right, reductions-right, reductions-within}
 use Rattle.answers.proofs.Headroom.{Headroom, no-transforms-bare, reductions-headroom}
 use Rattle.answers.proofs.WideLaws.{reaches-outcome, first-is, second-is, wide-iff}

@@ -19,8 +19,8 @@ use Rattle.reports.specs.ReductionsLaws.{tooWide≢reduced}
 use Rattle.reports.specs.Report.{Counts, freeRank, torsionCount, countsOf}
 use Rattle.requests.specs.Question.{Question, cells, two}
 use Rattle.requests.specs.Call.{Request, listCount, listSlots, numbersOf, requestChecks, workSlots, earlyChecks, callWith, call}
-use Rattle.requests.specs.CheckLaws.{Passed}
-use Rattle.requests.specs.CallLaws.{with-early, with-wide, with-done, with-number, early-iff}
+use Rattle.requests.proofs.CheckLaws.{Passed}
+use Rattle.requests.proofs.CallLaws.{with-early, with-wide, with-done, with-number, early-iff}
 use Rattle.answers.specs.Right.{slot}
 use Rattle.answers.specs.Outcome.{Outcome, refused-early, too-wide, is-done, TooWide, listWidth}
 use Rattle.answers.proofs.Behind.{Behind, early-chains, two-wide, behind, ends}

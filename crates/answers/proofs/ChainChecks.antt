@@ -19,7 +19,7 @@ use Rattle.trials.proofs.FirstLaws.{first-zero, first-append-absent}
 use Rattle.sheet_format.specs.CheckLaws.{some-false}
 use Rattle.complexes.specs.Complex.{Sections, count}
 use Rattle.requests.specs.Chains.{chainAt, chainChecks, chainLengthDiffers, coefficientExceeds, boundaryNotZero}
-use Rattle.requests.specs.ChainsLaws.{coefficients-iff, fault}
+use Rattle.requests.proofs.ChainsLaws.{coefficients-iff, fault}
 use Rattle.answers.specs.Homology.{IsCycle}
 use Rattle.answers.specs.Right.{slot}
 use Rattle.answers.specs.Outcome.{NoCycle}

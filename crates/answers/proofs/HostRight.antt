@@ -18,11 +18,11 @@ use Rattle.reports.specs.Reductions.{Reductions, tooWide, reduced}
 use Rattle.reports.specs.Report.{Counts, freeRank, torsionCount, countsOf}
 use Rattle.requests.specs.Question.{Question, cells, cellCount, two}
 use Rattle.requests.specs.Call.{Request, listCount, listSlots, numbersOf, workSlots, earlyChecks, callWith, call}
-use Rattle.requests.specs.CallLaws.{early-iff}
+use Rattle.requests.proofs.CallLaws.{early-iff}
 use Rattle.host_calls.specs.Bytes.{numbersBytes, numberAt}
 use Rattle.host_calls.proofs.BytesLaws.{length-numbersBytes, numberAt-numbersBytes, numberAt-same}
 use Rattle.host_calls.specs.Host.{HostCalled, slotsIn, hostEarly, bytesLeft, hostAnswer, hostCall}
-use Rattle.host_calls.specs.HostCallLaws.{host-early, host-wide, host-done, host-number, early-same}
+use Rattle.host_calls.proofs.HostCallLaws.{host-early, host-wide, host-done, host-number, early-same}
 use Rattle.answers.specs.Right.{slot}
 use Rattle.answers.specs.Outcome.{listWidth, Carries}
 use Rattle.answers.proofs.Behind.{Behind, early-chains, behind, same-behind}

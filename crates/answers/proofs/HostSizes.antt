@@ -20,8 +20,9 @@ use Rattle.reports.specs.Report.{Counts, countsOf, freeRank, torsionCount, repo
 use Rattle.requests.specs.Question.{Question, cells, cellCount, two}
 use Rattle.requests.specs.Call.{report, coordinates, listSlots, numbersOf, earlyChecks, callWith, call}
 use Rattle.lists.specs.Splice.{splices}
-use Rattle.requests.specs.CallLaws.{early-iff}
-use Rattle.host_calls.specs.HostCallLaws.{reportRoom, workRoom, counts-within, report-room, work-room}
+use Rattle.requests.proofs.CallLaws.{early-iff}
+use Rattle.host_calls.specs.Host.{reportRoom, workRoom}
+use Rattle.host_calls.proofs.HostCallLaws.{counts-within, report-room, work-room}
 use Rattle.answers.specs.Right.{reportLength}
 use Rattle.answers.proofs.Numbers.{report-length, coordinates-length}
 use Rattle.answers.proofs.Behind.{Behind}

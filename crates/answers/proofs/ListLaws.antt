@@ -14,7 +14,7 @@ use Rattle.reports.specs.Report.{freeRank, torsionCount, reportList, coordinate
 use Rattle.reports.proofs.ReportLaws.{report-fits, coordinates-fit}
 use Rattle.requests.specs.Question.{Question, cells, cellCount}
 use Rattle.requests.specs.Chains.{chainAt}
-use Rattle.requests.specs.ChainsLaws.{chains-zero, fault-small}
+use Rattle.requests.proofs.ChainsLaws.{chains-zero, fault-small}
 use Rattle.requests.specs.Call.{Request, report, coordinates, lists, listCount, listSlots, numbersOf, requestChecks}
 use Rattle.host_calls.proofs.BytesLaws.{Word}
 use Rattle.answers.specs.Right.{slot}

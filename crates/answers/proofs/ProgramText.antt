@@ -23,7 +23,7 @@ use Rattle.reports.specs.Report.{Counts, kind, reported, freeRank, torsionCount
 use Rattle.reports.proofs.ReportLaws.{length-coordinateList}
 use Rattle.requests.specs.Question.{Question, asked, cells, cellCount, two}
 use Rattle.requests.specs.Call.{report, listSlots, numbersOf, workSlots, earlyChecks, call}
-use Rattle.requests.specs.CallLaws.{with-done, early-iff}
+use Rattle.requests.proofs.CallLaws.{with-done, early-iff}
 use Rattle.program_text.specs.Text.{line, refusalLine, generatorLines, reportText, dimensionText, dimensionsText, textFor, programText}
 use Rattle.program_text.proofs.TextLaws.{reportText-reportList}
 use Rattle.program_text.proofs.LineLaws.{refusalLine-injective, feeds, feeds-append, feeds-line}

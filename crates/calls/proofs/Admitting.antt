@@ -16,10 +16,10 @@ use Rattle.limits.specs.Limits.{libraryLimit}
 use Rattle.faces.specs.Face.{Accepted}
 use Rattle.reports.specs.Reductions.{Reductions, tooWide, reductionsOf}
 use Rattle.requests.specs.Question.{Question}
-use Rattle.requests.specs.CheckLaws.{Passed, callChecks-zero}
+use Rattle.requests.proofs.CheckLaws.{Passed, callChecks-zero}
 use Rattle.refusal.specs.Number.{numberOf}
 use Rattle.refusal.specs.declared.Refusal.{Refusal}
-use Rattle.passes.specs.Answer.{Cleared}
+use Rattle.passes.specs.PassAnswers.{Cleared}
 use Rattle.two_reductions.specs.declared.reduced.Reduced.{Reduced}
 use Rattle.two_reductions.specs.Slices.{ReducedTwice, TwiceReduced}
 use Rattle.two_reductions.specs.Sizes.{sizesIn, SizesRead}

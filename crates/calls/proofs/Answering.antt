@@ -11,14 +11,14 @@ use Rattle.reports.specs.Reductions.{Reductions, tooWide, reduced}
 use Rattle.reports.specs.Report as reports
 use Rattle.reports.specs.Report.{countsOf}
 use Rattle.requests.specs.Call.{callWith}
-use Rattle.requests.specs.CallLaws.{with-early, with-wide, with-done}
+use Rattle.requests.proofs.CallLaws.{with-early, with-wide, with-done}
 use Rattle.refusal.specs.Number.{numberOf}
 use Rattle.refusal.specs.NumberLaws.{number-positive}
 use Rattle.refusal.specs.declared.Refusal.{Refusal}
 use Rattle.refusal.specs.declared.Refusal.the-variants as refusal
 use Rattle.writers.specs.Written.{countsIn}
 use Rattle.writers.specs.declared.counts.Counts.{Counts}
-use Rattle.calls.specs.Answer.{CallAnswers}
+use Rattle.calls.specs.CallAnswers.{CallAnswers}
 use Rattle.calls.specs.declared.answer.Answer.the-variants.{Done, Refused}
 
 module _ (early : ℕ) (R : Reductions) (left : ℕ → ℕ → State → List ℤ) (output work : List ℤ) where

@@ -19,7 +19,7 @@ use Rattle.reports.specs.Report.{coordinateList}
 use Rattle.reports.specs.Reductions.{tooWide}
 use Rattle.requests.specs.Question.{cells, rule, two}
 use Rattle.requests.specs.Chains.{chainAt, cyclesChecks}
-use Rattle.requests.specs.ChainsLaws.{chain-inside, length-chainAt}
+use Rattle.requests.proofs.ChainsLaws.{chain-inside, length-chainAt}
 use Rattle.requests.specs.Call.{lists, listSlots, numbersOf, call}
 use Rattle.refusal.specs.Number.{numberOf}
 use Rattle.refusal.specs.declared.Refusal.{Refusal}
@@ -28,9 +28,9 @@ use Rattle.two_reductions.specs.Slices.{stateIn}
 use Rattle.writers.specs.Written.{Counted, CanList, coordinatesOf}
 use Rattle.writers.specs.declared.counts.Counts.{Counts}
 use Rattle.two_reductions.specs.declared.reduced.Reduced.{Reduced}
-use Rattle.passes.specs.Answer.{Cleared}
+use Rattle.passes.specs.PassAnswers.{Cleared}
 use Rattle.calls.specs.Admission.{admission}
-use Rattle.calls.specs.Answer.{CallAnswers}
+use Rattle.calls.specs.CallAnswers.{CallAnswers}
 use Rattle.two_reductions.specs.declared.sizes.Sizes.{Sizes}
 use Rattle.calls.specs.declared.admission.Request.the-variants.{Coordinates}
 use Rattle.calls.specs.declared.answer.Answer.the-variants.{Done, Refused}

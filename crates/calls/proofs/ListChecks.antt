@@ -15,9 +15,9 @@ use Rattle.complexes.specs.Complex.{Sections}
 use Rattle.sheet_format.specs.Check.{sectionsOf}
 use Rattle.requests.specs.Question.{cells}
 use Rattle.requests.specs.Chains.{chainAt, cyclesChecks, chainsChecks}
-use Rattle.requests.specs.ChainsLaws.{cycles-zero, chains-sized, fault-small}
+use Rattle.requests.proofs.ChainsLaws.{cycles-zero, chains-sized, fault-small}
 use Rattle.requests.specs.Call.{lists, callChecks, earlyChecks}
-use Rattle.requests.specs.CheckLaws.{callChecks-zero, call-told, call-passed}
+use Rattle.requests.proofs.CheckLaws.{callChecks-zero, call-told, call-passed}
 use Rattle.refusal.specs.Number.{numberOf}
 use Rattle.refusal.specs.NumberLaws.{number-positive}
 use Rattle.refusal.specs.declared.Refusal.{Refusal}

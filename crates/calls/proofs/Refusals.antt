@@ -11,7 +11,7 @@ use Rattle.sheet_format.specs.Layout.{top}
 use Rattle.sheet_format.specs.Check.{refusal}
 use Rattle.requests.specs.Question.{Question}
 use Rattle.requests.specs.Call.{callChecks}
-use Rattle.requests.specs.CheckLaws.{sheet-told, sheet-passed}
+use Rattle.requests.proofs.CheckLaws.{sheet-told, sheet-passed}
 use Rattle.refusal.specs.Number.{numberOf}
 use Rattle.refusal.specs.NumberLaws.{number-positive}
 use Rattle.refusal.specs.declared.Refusal.{Refusal}

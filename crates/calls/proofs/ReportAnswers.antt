@@ -15,7 +15,7 @@ use Rattle.reports.specs.Report.{reportList}
 use Rattle.reports.specs.Reductions.{tooWide}
 use Rattle.requests.specs.Question.{cells, rule, two}
 use Rattle.requests.specs.Call.{report, listSlots, numbersOf, callChecks, earlyChecks, call}
-use Rattle.requests.specs.CheckLaws.{callChecks-zero}
+use Rattle.requests.proofs.CheckLaws.{callChecks-zero}
 use Rattle.refusal.specs.Number.{numberOf}
 use Rattle.refusal.specs.declared.Refusal.{Refusal}
 use Rattle.refusal.specs.declared.Refusal.the-variants as refusal
@@ -23,9 +23,9 @@ use Rattle.two_reductions.specs.Slices.{stateIn}
 use Rattle.writers.specs.Written.{WroteReport}
 use Rattle.writers.specs.declared.counts.Counts.{Counts}
 use Rattle.two_reductions.specs.declared.reduced.Reduced.{Reduced}
-use Rattle.passes.specs.Answer.{Cleared}
+use Rattle.passes.specs.PassAnswers.{Cleared}
 use Rattle.calls.specs.Admission.{admission}
-use Rattle.calls.specs.Answer.{CallAnswers}
+use Rattle.calls.specs.CallAnswers.{CallAnswers}
 use Rattle.two_reductions.specs.declared.sizes.Sizes.{Sizes}
 use Rattle.calls.specs.declared.admission.Request.the-variants.{Report}
 use Rattle.calls.specs.declared.answer.Answer.the-variants.{Done, Refused}

@@ -1,3 +1,3 @@
 -- What the contracts of src/ cite.
 pub mod Admission
-pub mod Answer
+pub mod CallAnswers

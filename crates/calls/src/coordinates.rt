@@ -3,7 +3,7 @@ ghost use Rattle.requests.specs.Question.{asked};
 ghost use Rattle.requests.specs.Call as requests;
 ghost use Rattle.requests.specs.Call.{call};
 ghost use Rattle.limits.specs.Limits.{libraryLimit};
-ghost use Rattle.calls.specs.Answer.{CallAnswers};
+ghost use Rattle.calls.specs.CallAnswers.{CallAnswers};
 use crate::admission::Admission;
 use crate::admission::Request;
 use crate::admission::admit;

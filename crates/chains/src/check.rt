@@ -7,7 +7,7 @@ ghost use Rattle.sheet_format.specs.Layout.{top};
 ghost use Rattle.trials.specs.Trial.{first};
 ghost use Rattle.sheet_format.specs.Check.{sectionsOf};
 ghost use Rattle.requests.specs.Chains.{cycleChecks, cyclesChecks};
-ghost use Rattle.requests.specs.ListsLaws.{nonempty};
+ghost use Rattle.requests.specs.Chains.{nonempty};
 ghost use Rattle.limits.specs.Limits.{coefficientLimit};
 ghost use Rattle.faces.specs.Face.{Accepted};
 ghost use Rattle.chains.specs.Check.{checkNumber};

@@ -19,7 +19,7 @@ use Rattle.program_text.specs.Text.{programText}
 use Rattle.program_text.specs.Examples.{textGood, textGood-eq, text-examples}
 use Rattle.text.specs.Put.{PutsWithin}
 use Rattle.text.specs.Room.{textRoom}
-use Rattle.library_host.specs.Answer.{told, HeadroomLeft}
+use Rattle.library_host.specs.LibraryAnswers.{told, HeadroomLeft}
 use Rattle.clients.specs.Hollow.{reportDone, reportRefused, hollowText}
 use Rattle.clients.specs.Used.{Gives, Numbers, HeadroomUsed, PrintUsed, ReportUsed, CoordinatesUsed, ListsUsed, HostGives, HostReportUsed, HostCoordinatesUsed, HostListsUsed}
 use Rattle.clients.proofs.Hollow.{report-done, report-refused, coordinates-done, coordinates-refused, lists-done, lists-refused, host-report-done, host-report-refused, host-coordinates-done, host-coordinates-refused, host-lists-done, host-lists-refused}

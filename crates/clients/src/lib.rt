@@ -1,6 +1,6 @@
 // Clients of the public calls but the import: each calls one and nothing else, and its contract says what the call's own contract gives on the hollow
 // triangle, written out.
-ghost use Rattle.calls.specs.Answer.{answered};
+ghost use Rattle.calls.specs.CallAnswers.{answered};
 ghost use Rattle.clients.specs.Used.{Gives, Numbers, ReportUsed, CoordinatesUsed, ListsUsed, HostReportUsed, HostCoordinatesUsed, HostListsUsed, HeadroomUsed, PrintUsed};
 use calls::answer::Answer;
 use fildwuk::fildwuk_coordinate_lists;

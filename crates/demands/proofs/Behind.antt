@@ -13,7 +13,7 @@ use Rattle.homology_groups.specs.Chain.{Chain}
 use Rattle.reports.specs.Report.{Counts, coordinateList}
 use Rattle.requests.specs.Question.{Question, cells, cellCount}
 use Rattle.requests.specs.Chains.{chainAt, chainChecks}
-use Rattle.requests.specs.ChainsLaws.{length-chainAt, chains-zero}
+use Rattle.requests.proofs.ChainsLaws.{length-chainAt, chains-zero}
 use Rattle.requests.specs.Call.{Request, report, coordinates, lists, requestChecks, call}
 use Rattle.host_calls.specs.Bytes.{coefficientIn, chainFrom, numberAt}
 use Rattle.host_calls.proofs.HostChainsLaws.{given-coefficient, chainFrom-size, chainAt-coefficient}

@@ -14,10 +14,10 @@ use Rattle.reduction_steps.specs.State.{State}
 use Rattle.reports.specs.Report.{Counts, coordinateList}
 use Rattle.requests.specs.Question.{Question, cells, cellCount}
 use Rattle.requests.specs.Chains.{chainAt, chainChecks, cyclesChecks, chainsChecks, FirstFault}
-use Rattle.requests.specs.ChainsLaws.{length-chainAt, fault, cycles-told, chains-sized, chains-zero}
+use Rattle.requests.proofs.ChainsLaws.{length-chainAt, fault, cycles-told, chains-sized, chains-zero}
 use Rattle.requests.specs.Call.{coordinates, lists, listSlots, workSlots, callChecks, earlyChecks, call}
-use Rattle.requests.specs.CheckLaws.{call-passed}
-use Rattle.requests.specs.CallLaws.{early-iff}
+use Rattle.requests.proofs.CheckLaws.{call-passed}
+use Rattle.requests.proofs.CallLaws.{early-iff}
 use Rattle.answers.specs.Right.{slot}
 use Rattle.answers.proofs.ChainChecks.{chain-told, not-a-cycle-iff}
 use Rattle.answers.proofs.Behind.{Behind, same-behind}

@@ -8,7 +8,7 @@ use lib.ListN.{length, take}
 use lib.IntN.{ℤ}
 use Rattle.lists.specs.Tabulate.{tabulate}
 use Rattle.host_calls.specs.Bytes.{chainFrom, coefficientIn}
-use Rattle.requests.specs.ChainsLaws.{length-chainAt}
+use Rattle.requests.proofs.ChainsLaws.{length-chainAt}
 use Rattle.host_calls.proofs.HostChainsLaws.{length-chainFrom, chainAt-bytes}
 use Rattle.fildwuk.specs.Lists.{chainOf}
 

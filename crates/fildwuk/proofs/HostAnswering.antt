@@ -8,11 +8,11 @@ use Rattle.reduction_steps.specs.State.{State}
 use Rattle.requests.specs.Question.{Question, two}
 use Rattle.requests.specs.Call.{Request}
 use Rattle.host_calls.specs.Host.{hostEarly, bytesLeft, hostCall}
-use Rattle.host_calls.specs.HostCallLaws.{host-early, host-wide, host-done}
+use Rattle.host_calls.proofs.HostCallLaws.{host-early, host-wide, host-done}
 use Rattle.refusal.specs.Number.{numberOf}
 use Rattle.refusal.specs.NumberLaws.{number-positive}
 use Rattle.refusal.specs.declared.Refusal.{Refusal}
-use Rattle.fildwuk.specs.Answer.{HostAnswers}
+use Rattle.fildwuk.specs.HostAnswers.{HostAnswers}
 
 module _ (q : Question) (request : Request) (output : List ℕ) where
   pub refuses : (x : Refusal) → hostEarly q request output ≡ numberOf x → HostAnswers (hostCall q request output) (numberOf x) output

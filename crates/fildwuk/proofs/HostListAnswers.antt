@@ -17,13 +17,14 @@ use Rattle.reports.specs.Report.{coordinateList}
 use Rattle.reports.specs.Reductions.{tooWide}
 use Rattle.requests.specs.Question.{Question, cells, rule, two}
 use Rattle.requests.specs.Chains.{chainAt, cyclesChecks}
-use Rattle.requests.specs.ChainsLaws.{length-chainAt}
+use Rattle.requests.proofs.ChainsLaws.{length-chainAt}
 use Rattle.requests.specs.Call.{lists}
-use Rattle.requests.specs.CheckLaws.{Passed}
+use Rattle.requests.proofs.CheckLaws.{Passed}
 use Rattle.host_calls.specs.Bytes.{numbersBytes, chainFrom}
 use Rattle.host_calls.specs.Host.{HostCalled, slotsIn, hostEarly, hostCall, listsIn}
 use Rattle.host_calls.proofs.HostChainsLaws.{length-chainFrom, chainFrom-other}
-use Rattle.host_calls.specs.HostCallLaws.{workRoom, counts-within, early-room}
+use Rattle.host_calls.specs.Host.{workRoom}
+use Rattle.host_calls.proofs.HostCallLaws.{counts-within, early-room}
 use Rattle.refusal.specs.Number.{numberOf}
 use Rattle.refusal.specs.declared.Refusal.{Refusal}
 use Rattle.refusal.specs.declared.Refusal.the-variants as refusal
@@ -35,7 +36,7 @@ use Rattle.calls.specs.declared.admission.Request.the-variants.{Coordinates}
 use Rattle.calls.proofs.Admitting.{Lengths, cellsOf, Granted, twice, Reduces}
 use Rattle.calls.proofs.ListChecks.{listsEarly, admission-told, length-told, cycles-next, small-coefficients}
 use Rattle.calls.proofs.Writing.{rows-within, follower-width, can-coordinate}
-use Rattle.fildwuk.specs.Answer.{HostAnswers}
+use Rattle.fildwuk.specs.HostAnswers.{HostAnswers}
 use Rattle.fildwuk.specs.Lists.{CanListBytes, listBytes}
 use Rattle.fildwuk.proofs.HostAnswering.{refuses, goes-wide, is-done}
 

@@ -24,13 +24,14 @@ use Rattle.requests.specs.Call.{report, ofReduced, call}
 use Rattle.limits.specs.Limits.{hostLimit}
 use Rattle.host_calls.specs.Bytes.{numbersBytes}
 use Rattle.host_calls.specs.Host.{slotsIn, hostCall}
-use Rattle.host_calls.specs.HostCallLaws.{reportRoom, workRoom, report-refused, report-done}
+use Rattle.host_calls.specs.Host.{reportRoom, workRoom}
+use Rattle.host_calls.proofs.HostCallLaws.{report-refused, report-done}
 use Rattle.answers.proofs.HostSizes.{ReportSized, report-sized}
 use Rattle.writers.specs.declared.counts.Counts.{Counts}
 use Rattle.calls.specs.declared.answer.Answer as library
 use Rattle.calls.specs.declared.answer.Answer.the-variants.{Done, Refused}
-use Rattle.calls.specs.Answer.{countsIn, answered, CallAnswers}
-use Rattle.fildwuk.specs.Answer.{HostAnswers}
+use Rattle.calls.specs.CallAnswers.{countsIn, answered, CallAnswers}
+use Rattle.fildwuk.specs.HostAnswers.{HostAnswers}
 
 -- ---- the slots that are lent
 

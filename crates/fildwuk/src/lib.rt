@@ -5,11 +5,11 @@ ghost use lib.ListN.{length};
 ghost use Rattle.requests.specs.Question.{asked};
 ghost use Rattle.requests.specs.Call as requests;
 ghost use Rattle.host_calls.specs.Host.{hostCall, coordinatesIn, listsIn};
-ghost use Rattle.host_calls.specs.HostCallLaws.{reportRoom, workRoom};
+ghost use Rattle.host_calls.specs.Host.{reportRoom, workRoom};
 ghost use Rattle.limits.specs.Limits.{hostLimit};
 ghost use Rattle.imports.specs.Import.{importCall};
 ghost use Rattle.importer.specs.ImportAnswers.{ImportTold};
-ghost use Rattle.fildwuk.specs.Answer.{HostAnswers};
+ghost use Rattle.fildwuk.specs.HostAnswers.{HostAnswers};
 
 mod coordinate_lists;
 

@@ -18,7 +18,7 @@ use Rattle.lists.specs.Tabulate.{tabulate}
 use Rattle.lists.proofs.TabulateLaws.{length-tabulate, getD-tabulate, tabulate-ext}
 use Rattle.host_calls.specs.Bytes.{coefficientAt, coefficientIn, otherLength, chainFrom, chainBytes}
 use Rattle.requests.specs.Chains.{chainAt}
-use Rattle.requests.specs.ChainsLaws.{chain-inside, length-chainAt}
+use Rattle.requests.proofs.ChainsLaws.{chain-inside, length-chainAt}
 
 module _ (m : ℕ) (chains : List ℕ) where
   pub chainFrom-whole : length chains ≡ 4 * m → chainFrom m chains ≡ tabulate m (λ i. coefficientIn chains i)

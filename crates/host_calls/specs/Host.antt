@@ -1,6 +1,6 @@
 -- The host calls: document 01, "The report and the coordinates". They have their own work arrays, carry numbers as bytes, and answer 0 for done.
 use mathlib.Core.List.{List, []}
-use Prim.Native.Nat.{ℕ, _*_, _/_}
+use Prim.Native.Nat.{ℕ, _+_, _*_, _/_}
 use lib.ListN.{length}
 use Rattle.limits.specs.Limits.{hostLimit}
 use Rattle.lists.specs.Splice.{splices}
@@ -19,6 +19,13 @@ pub record HostCalled : Type 0 where
 -- an incomplete number at the end of a lent output gives no slot
 abbrev pub slotsIn : List ℕ → ℕ
 slotsIn output = length output / 8
+
+-- the slots of the arrays that a host call has of its own: enough for every sheet that it accepts
+abbrev pub reportRoom : ℕ
+reportRoom = 2 + hostLimit + hostLimit * hostLimit
+
+abbrev pub workRoom : ℕ
+workRoom = hostLimit * (3 * hostLimit)
 
 -- the first of the early checks: a host call has work slots enough
 abbrev pub hostEarly : Question → Request → List ℕ → ℕ

@@ -14,7 +14,8 @@ use Rattle.reports.specs.Report.{coordinateList}
 use Rattle.requests.specs.Question.{Question, cells, cellCount, two}
 use Rattle.requests.specs.Chains.{chainAt}
 use Rattle.requests.specs.Call.{coordinates, lists, numbersOf, workSlots, callWith}
-use Rattle.requests.specs.ListsLaws.{same-with, splices-one, one-early, one-numbers, none-early, none-numbers, nonempty}
+use Rattle.requests.specs.Chains.{nonempty}
+use Rattle.requests.proofs.ListsLaws.{same-with, splices-one, one-early, one-numbers, none-early, none-numbers}
 use Rattle.host_calls.specs.Bytes.{numbersBytes, chainFrom}
 use Rattle.host_calls.specs.Host.{HostCalled, slotsIn, hostEarly, bytesLeft, hostAnswer, hostCall, coordinatesIn, listsIn}
 

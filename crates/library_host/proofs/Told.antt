@@ -10,8 +10,8 @@ use Rattle.refusal.specs.declared.Refusal.{Refusal}
 use Rattle.writers.specs.declared.counts.Counts.{Counts}
 use Rattle.calls.specs.declared.answer.Answer.{Answer}
 use Rattle.calls.specs.declared.answer.Answer.the-variants.{Done, Refused}
-use Rattle.calls.specs.Answer.{CallAnswers, answered}
-use Rattle.library_host.specs.Answer.{told, LibraryAnswers, HeadroomLeft, HeadroomAnswers}
+use Rattle.calls.specs.CallAnswers.{CallAnswers, answered}
+use Rattle.library_host.specs.LibraryAnswers.{told, LibraryAnswers, HeadroomLeft, HeadroomAnswers}
 
 pub called-told : {called : Called reports.Counts ℤ} {x : Answer} {output work : List ℤ} {r : ℕ} → CallAnswers called x output work → r ≡ numberTold (answered x)
     → LibraryAnswers called r output work

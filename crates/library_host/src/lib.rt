@@ -5,10 +5,10 @@ ghost use Rattle.requests.specs.Question.{asked};
 ghost use Rattle.requests.specs.Call as requests;
 ghost use Rattle.requests.specs.Call.{call};
 ghost use Rattle.limits.specs.Limits.{libraryLimit};
-ghost use Rattle.calls.specs.Answer.{answered};
+ghost use Rattle.calls.specs.CallAnswers.{answered};
 ghost use Rattle.imports.specs.Import.{importCall};
 ghost use Rattle.importer.specs.ImportAnswers.{ImportTold};
-ghost use Rattle.library_host.specs.Answer.{LibraryAnswers, HeadroomAnswers};
+ghost use Rattle.library_host.specs.LibraryAnswers.{LibraryAnswers, HeadroomAnswers};
 use calls::answer::Answer;
 
 fn number_told(answer: Answer) -> u32

@@ -28,7 +28,7 @@ use Rattle.integers.proofs.Floor.{floor-zero}
 use Rattle.operations.proofs.Unchanged.{columns-unchanged}
 use Rattle.operations.proofs.Side.{shaped-state}
 use Rattle.refusal.specs.declared.Refusal.the-variants as Refusal
-use Rattle.passes.specs.Answer.{Placed, ColumnClear, rowPassOf, columnPassOf, PassMade, PassRefused}
+use Rattle.passes.specs.PassAnswers.{Placed, ColumnClear, rowPassOf, columnPassOf, PassMade, PassRefused}
 use Rattle.lines.proofs.Spans.{line-span, span-inside}
 use Rattle.passes.proofs.States.{held-matrix, entry-state, rowsDone-moves}
 

@@ -1,2 +1,2 @@
 -- What the contracts of src/ cite.
-pub mod Answer
+pub mod PassAnswers

@@ -3,7 +3,7 @@ ghost use Prim.Native.Nat.{_<_};
 ghost use lib.ListN.{length};
 ghost use Rattle.lines.specs.Slice.{Under};
 ghost use Rattle.operations.specs.Laid.{Laid};
-ghost use Rattle.passes.specs.Answer.{bringOf, Passed};
+ghost use Rattle.passes.specs.PassAnswers.{bringOf, Passed};
 use crate::pass::Pass;
 use lines::line::Effect;
 use lines::line::clear;

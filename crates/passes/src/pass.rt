@@ -1,7 +1,7 @@
 // The passes of steps c and d. An operation that goes too wide ends the call there: the slice is cleared. An entry of 0 has the quotient 0, which
 // changes nothing, and no operation is called for it.
 ghost use lib.ListN.{length};
-ghost use Rattle.passes.specs.Answer.{Placed, ColumnClear, rowPassOf, columnPassOf, Passed};
+ghost use Rattle.passes.specs.PassAnswers.{Placed, ColumnClear, rowPassOf, columnPassOf, Passed};
 use lines::line::Effect;
 use lines::line::clear;
 use lines::operation::Operation;

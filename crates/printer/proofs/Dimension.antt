@@ -23,9 +23,9 @@ use Rattle.requests.specs.Question as question
 use Rattle.requests.specs.Question.{Question, asked, cellCount, two}
 use Rattle.requests.specs.Call as requests
 use Rattle.requests.specs.Call.{listSlots, numbersOf, earlyChecks, call}
-use Rattle.requests.specs.CallLaws.{with-done}
+use Rattle.requests.proofs.CallLaws.{with-done}
 use Rattle.limits.specs.Limits.{hostLimit}
-use Rattle.host_calls.specs.HostCallLaws.{reportRoom, workRoom}
+use Rattle.host_calls.specs.Host.{reportRoom, workRoom}
 use Rattle.program_text.specs.Text.{refusalLine, dimensionText, reportText}
 use Rattle.program_text.proofs.TextLaws.{reportText-reportList}
 use Rattle.answers.proofs.Behind.{Behind}
@@ -36,7 +36,7 @@ use Rattle.text.specs.PutLaws.{within-more}
 use Rattle.writers.specs.declared.counts.Counts.{Counts}
 use Rattle.calls.specs.declared.answer.Answer.{Answer}
 use Rattle.calls.specs.declared.answer.Answer.the-variants.{Done, Refused}
-use Rattle.calls.specs.Answer.{answered, countsIn, CallAnswers}
+use Rattle.calls.specs.CallAnswers.{answered, countsIn, CallAnswers}
 
 -- the text of dimension p of the sheet b
 abbrev pub textOf : List ℕ → ℕ → List ℕ

@@ -8,7 +8,7 @@ use native.Mathlib.Omega.{arith}
 use lib.ListN.{length}
 use lib.IntN.{ℤ}
 use Rattle.sheet_format.specs.Layout.{top}
-use Rattle.host_calls.specs.HostCallLaws.{reportRoom, workRoom}
+use Rattle.host_calls.specs.Host.{reportRoom, workRoom}
 use Rattle.program_text.specs.Text.{dimensionsText}
 use Rattle.text.specs.Put.{PutsWithin}
 use Rattle.text.specs.Room.{dimensionRoom, textRoom}

@@ -10,7 +10,7 @@ ghost use Rattle.sheet_format.specs.Check.{refusal};
 ghost use Rattle.requests.specs.Question.{asked, cellCount, two};
 ghost use Rattle.program_text.specs.Text.{dimensionText, dimensionsText, programText};
 ghost use Rattle.limits.specs.Limits.{hostLimit};
-ghost use Rattle.host_calls.specs.HostCallLaws.{reportRoom, workRoom};
+ghost use Rattle.host_calls.specs.Host.{reportRoom, workRoom};
 ghost use Rattle.text.specs.Put.{PutsWithin};
 ghost use Rattle.text.specs.Room.{dimensionRoom, textRoom};
 use crate::room::INPUT_ROOM;

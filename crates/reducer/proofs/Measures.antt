@@ -12,7 +12,7 @@ use Rattle.reduction_steps.specs.Pivot.{Choice, none, place, Rule, IsRule}
 use Rattle.reduction_steps.specs.Step.{Row, noRow, row, firstIndivisible}
 use Rattle.reduction_laws.specs.Scans.{Indivisible, firstIndivisible-none, firstIndivisible-row}
 use Rattle.reduction_laws.specs.Letters.{Smaller}
-use Rattle.reducer.specs.Answer.{sizeAt}
+use Rattle.reducer.specs.StageAnswers.{sizeAt}
 
 -- ---- the calls of a round
 

@@ -17,8 +17,8 @@ use Rattle.operations.specs.Laid.{Laid, sizesOf, stateOf}
 use Rattle.operations.specs.declared.layout.Layout.{Layout}
 use Rattle.reducer.specs.declared.stage.Stage.{Stage}
 use Rattle.reducer.specs.declared.stage.Stage.the-variants as stage
-use Rattle.passes.specs.Answer.{matrixOf}
-use Rattle.reducer.specs.Answer.{Begun, sizeAt, chosenSize, reductionOf, Goes, ChoiceEnds, ReductionDone, ReductionRefused}
+use Rattle.passes.specs.PassAnswers.{matrixOf}
+use Rattle.reducer.specs.StageAnswers.{Begun, sizeAt, chosenSize, reductionOf, Goes, ChoiceEnds, ReductionDone, ReductionRefused}
 use Rattle.operations.proofs.Operate.{within-under}
 use Rattle.operations.proofs.Side.{shaped-state}
 use Rattle.passes.proofs.States.{entry-state}

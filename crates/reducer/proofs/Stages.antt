@@ -33,8 +33,8 @@ use Rattle.passes.specs.declared.pass.Pass.{Pass}
 use Rattle.passes.specs.declared.pass.Pass.the-variants as pass
 use Rattle.reducer.specs.declared.stage.Stage.{Stage}
 use Rattle.reducer.specs.declared.stage.Stage.the-variants as stage
-use Rattle.passes.specs.Answer.{matrixOf, RowsDone, Placed, ColumnClear, bringOf, rowPassOf, columnPassOf, Passed, PassMade, PassRefused}
-use Rattle.reducer.specs.Answer.{Begun, chosenSize, pivotSize, Goes, StageCleared, StageAgain, StageExhausted, StageRefused, StageEnds}
+use Rattle.passes.specs.PassAnswers.{matrixOf, RowsDone, Placed, ColumnClear, bringOf, rowPassOf, columnPassOf, Passed, PassMade, PassRefused}
+use Rattle.reducer.specs.StageAnswers.{Begun, chosenSize, pivotSize, Goes, StageCleared, StageAgain, StageExhausted, StageRefused, StageEnds}
 use Rattle.passes.proofs.States.{laid-kept, entry-state, rowsDone-moves}
 use Rattle.reducer.proofs.Tests.{columnKeeps-cong, rowKeeps-cong, firstIndivisible-cong}
 use Rattle.reducer.proofs.Measures.{columnCalls, calls-fall, chosen-at, smaller-chosen}

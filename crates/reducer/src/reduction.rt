@@ -3,7 +3,7 @@ ghost use lib.ListN.{length};
 ghost use Rattle.reduction_steps.specs.Pivot.{pivotRule};
 ghost use Rattle.lines.specs.Slice.{Under};
 ghost use Rattle.operations.specs.Laid.{Laid};
-ghost use Rattle.reducer.specs.Answer.{reductionOf, Reduces};
+ghost use Rattle.reducer.specs.StageAnswers.{reductionOf, Reduces};
 use crate::stage::ROUNDS;
 use crate::stage::Stage;
 use crate::stage::choose_pivot;

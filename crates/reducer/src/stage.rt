@@ -2,8 +2,8 @@
 // choice, and step e is followed by a column pass that leaves a remainder. The number of rounds bounds how deep the calls go.
 ghost use Rattle.reduction_steps.specs.Pivot.{pivotRule};
 ghost use Rattle.reduction_steps.specs.Step as steps;
-ghost use Rattle.passes.specs.Answer.{Placed, ColumnClear};
-ghost use Rattle.reducer.specs.Answer.{Begun, ChoiceEnds, PassEnds};
+ghost use Rattle.passes.specs.PassAnswers.{Placed, ColumnClear};
+ghost use Rattle.reducer.specs.StageAnswers.{Begun, ChoiceEnds, PassEnds};
 use lines::line::Effect;
 use lines::line::clear;
 use lines::operation::Operation;

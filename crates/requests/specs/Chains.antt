@@ -51,6 +51,11 @@ cyclesChecks limit K p (suc i) chains = cyclesChecks limit K p i chains ++ cycle
 unfoldable pub chainsChecks : ℕ → Sections → ℕ → ℕ → List ℤ → List (ℕ × Bool)
 chainsChecks limit K p number chains = (10, chainsLengthDiffers K p number chains) ∷ cyclesChecks limit K p number chains
 
+-- how many of so many chains have coefficients, of n each
+abbrev pub nonempty : ℕ → ℕ → ℕ
+nonempty number zero = 0
+nonempty number (suc n) = number
+
 -- `fault i` is the number told of chain i, 0 for none: k is the first of them that is not 0
 pub record FirstFault (fault : ℕ → ℕ) (number k : ℕ) : Type 0 where
   pub place : ℕ

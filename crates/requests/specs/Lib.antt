@@ -2,8 +2,4 @@
 pub mod Question
 pub mod Chains
 pub mod Call
-pub mod CheckLaws
-pub mod ChainsLaws
-pub mod CallLaws
-pub mod ListsLaws
 pub mod LimitExamples

@@ -29,7 +29,7 @@ use Rattle.trials.specs.Trial.{done}
 use Rattle.requests.specs.Question.{asked, cells, rule, two}
 use Rattle.requests.specs.Chains.{coefficientExceeds, boundaryNotZero, chainChecks, cyclesChecks, chainsChecks}
 use Rattle.requests.specs.Call.{lists, callChecks, earlyChecks, call}
-use Rattle.requests.specs.ListsLaws.{no-cells}
+use Rattle.requests.proofs.ListsLaws.{no-cells}
 use Rattle.starred.specs.Same.{sameSlice, sameCounts, sameAnswer, sameCalled}
 use Rattle.starred.specs.Case.{Case, good, counts, nines, zeros}
 use Rattle.starred.specs.DoneCases.{noCellsCases, reportCases, coordinateCases}

@@ -34,8 +34,8 @@ use Rattle.refusal.specs.declared.Refusal.{Refusal}
 use Rattle.refusal.specs.declared.Refusal.the-variants as refusal
 use Rattle.operations.specs.Laid.{Laid, stateOf}
 use Rattle.operations.specs.declared.layout.Layout.{Layout}
-use Rattle.passes.specs.Answer.{Cleared, StillUnder}
-use Rattle.reducer.specs.Answer.{Reduces, ReductionDone, ReductionRefused, reductionOf}
+use Rattle.passes.specs.PassAnswers.{Cleared, StillUnder}
+use Rattle.reducer.specs.StageAnswers.{Reduces, ReductionDone, ReductionRefused, reductionOf}
 use Rattle.reducer.specs.declared.reduction.Reduction.{Reduction}
 use Rattle.reducer.specs.declared.reduction.Reduction.the-variants as reduction
 use Rattle.two_reductions.specs.declared.reduced.Reduced.{Reduced}

@@ -12,7 +12,7 @@ use Rattle.lines.specs.Slice.{at}
 use Rattle.operations.specs.Laid.{stateOf}
 use Rattle.two_reductions.specs.Layouts.{firstLayout, secondLayout}
 use Rattle.operations.specs.declared.layout.Layout.{Layout}
-use Rattle.passes.specs.Answer.{Cleared, StillUnder}
+use Rattle.passes.specs.PassAnswers.{Cleared, StillUnder}
 use Rattle.two_reductions.specs.declared.reduced.Reduced.{Reduced}
 use Rattle.two_reductions.specs.declared.reductions.Reductions.{Reductions}
 use Rattle.two_reductions.specs.declared.reductions.Reductions.the-variants.{Done, Refused}

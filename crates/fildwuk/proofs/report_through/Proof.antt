@@ -6,10 +6,10 @@ use borrow.Author.Needs.{needs}
 use denote.Ref.{now}
 use lib.ListN.{length}
 use Rattle.requests.specs.Question.{asked}
-use Rattle.host_calls.specs.HostCallLaws.{reportRoom}
+use Rattle.host_calls.specs.Host.{reportRoom}
 use Rattle.answers.proofs.HostSizes.{ReportSized}
 use Rattle.writers.specs.declared.counts.Counts.{Counts}
-use Rattle.calls.specs.Answer.{countsIn}
+use Rattle.calls.specs.CallAnswers.{countsIn}
 use Rattle.fildwuk.proofs.Through.{Lent, lend, lent-length, slots, size, writable, report-refuses, report-sizes, report-room, report-writes}
 use Rattle.fildwuk.proofs.report_through.Statement.{statement}
 use Rattle.fildwuk.proofs.report_through.Tie as tie

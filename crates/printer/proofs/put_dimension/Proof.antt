@@ -14,7 +14,7 @@ use Rattle.limits.specs.Limits.{hostLimit}
 use Rattle.writers.specs.declared.counts.Counts.{Counts}
 use Rattle.calls.specs.declared.answer.Answer.{Answer}
 use Rattle.calls.specs.declared.answer.Answer.the-variants.{Done, Refused}
-use Rattle.calls.specs.Answer.{CallAnswers}
+use Rattle.calls.specs.CallAnswers.{CallAnswers}
 use Rattle.printer.proofs.Dimension.{ReportRoom, refused-text, total-within, done-room, done-text}
 use Rattle.printer.proofs.put_dimension.Statement.{statement}
 use Rattle.printer.proofs.put_dimension.Tie as tie

@@ -8,7 +8,7 @@ use lib.Dec.{ltb}
 use Rattle.sheet_format.specs.Check.{refusal}
 use Rattle.sheet.specs.Number.{readingNumber}
 use Rattle.requests.specs.Question.{asked}
-use Rattle.requests.specs.CheckLaws.{callChecks-zero}
+use Rattle.requests.proofs.CheckLaws.{callChecks-zero}
 use Rattle.calls.specs.Admission.{slotsFor, spaceFor}
 use Rattle.two_reductions.specs.declared.sizes.Sizes.{Sizes}
 use Rattle.calls.proofs.Refusals.{sheet-refused, dimension-refused, output-short, work-short}

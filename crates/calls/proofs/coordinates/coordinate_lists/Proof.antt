@@ -18,12 +18,13 @@ use Rattle.reduction_steps.proofs.PivotLaws.{pivotRule-is-rule}
 use Rattle.requests.specs.Question.{asked}
 use Rattle.requests.specs.Question as question
 use Rattle.requests.specs.Chains.{chainAt, cyclesChecks}
-use Rattle.requests.specs.ListsLaws.{nonempty, nonempty-size, nonempty-lists}
+use Rattle.requests.specs.Chains.{nonempty}
+use Rattle.requests.proofs.ListsLaws.{nonempty-size, nonempty-lists}
 use Rattle.limits.specs.Limits.{libraryLimit, coefficientLimit}
 use Rattle.chains.specs.Check.{checkNumber}
 use Rattle.writers.specs.Written.{coordinatesOf}
 use Rattle.calls.specs.Admission.{Admits}
-use Rattle.calls.specs.Answer.{CallAnswers}
+use Rattle.calls.specs.CallAnswers.{CallAnswers}
 use Rattle.calls.specs.declared.answer.Answer.{Answer}
 use Rattle.two_reductions.specs.declared.sizes.Sizes.{Sizes}
 use Rattle.calls.specs.declared.admission.Request.the-variants.{Coordinates}

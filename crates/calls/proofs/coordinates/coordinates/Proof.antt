@@ -2,7 +2,7 @@
 use borrow.Author.Needs.{needs}
 use denote.Ref.{now}
 use Rattle.requests.specs.Question.{asked}
-use Rattle.requests.specs.ListsLaws.{one-chain}
+use Rattle.requests.proofs.ListsLaws.{one-chain}
 use Rattle.limits.specs.Limits.{libraryLimit}
 use Rattle.calls.proofs.coordinates.coordinates.Statement.{statement}
 use Rattle.calls.proofs.coordinates.coordinates.Tie as tie

@@ -4,7 +4,7 @@ use mathlib.Core.Bool.{false}
 use borrow.Author.Needs.{needs}
 use denote.Ref.{now}
 use Rattle.requests.specs.Chains.{coefficientExceeds}
-use Rattle.requests.specs.ChainsLaws.{coefficients-iff}
+use Rattle.requests.proofs.ChainsLaws.{coefficients-iff}
 use Rattle.limits.specs.Limits.{coefficientLimit}
 use Rattle.chains.proofs.check.check_chain.Statement.{statement}
 use Rattle.chains.proofs.check.check_chain.Tie as tie

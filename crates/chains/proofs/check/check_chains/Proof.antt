@@ -11,7 +11,7 @@ use Rattle.refusal.specs.Number.{numberOf}
 use Rattle.refusal.specs.NumberLaws.{number-positive}
 use Rattle.sheet_format.specs.Check.{sectionsOf}
 use Rattle.requests.specs.Chains.{cycleChecks, chainAt}
-use Rattle.requests.specs.ChainsLaws.{chain-inside, length-chainAt, chain-part, fault, passed-next, cycles-zero, cycles-told}
+use Rattle.requests.proofs.ChainsLaws.{chain-inside, length-chainAt, chain-part, fault, passed-next, cycles-zero, cycles-told}
 use Rattle.limits.specs.Limits.{coefficientLimit}
 use Rattle.chains.specs.Check.{checkNumber}
 use Rattle.chains.proofs.check.check_chains.Statement.{statement}

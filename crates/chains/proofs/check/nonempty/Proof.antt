@@ -3,7 +3,7 @@ use mathlib.Core.Path.{_≡_, refl}
 use mathlib.Core.Logic.{_≢_}
 use Prim.Native.Nat.{ℕ, zero, suc}
 use borrow.Author.Needs.{needs}
-use Rattle.requests.specs.ListsLaws.{nonempty}
+use Rattle.requests.specs.Chains.{nonempty}
 use Rattle.chains.proofs.check.nonempty.Statement.{statement}
 use Rattle.chains.proofs.check.nonempty.Tie as tie
 

@@ -12,7 +12,7 @@ use Rattle.refusal.specs.NumberLaws.{number-positive}
 use Rattle.sheet_format.specs.Check.{sectionsOf}
 use Rattle.requests.specs.Chains.{cycleChecks, chainAt}
 use Rattle.host_calls.specs.Bytes.{chainFrom}
-use Rattle.requests.specs.ChainsLaws.{fault, passed-next, cycles-zero, cycles-told}
+use Rattle.requests.proofs.ChainsLaws.{fault, passed-next, cycles-zero, cycles-told}
 use Rattle.limits.specs.Limits.{hostLimit, coefficientLimit}
 use Rattle.chains.specs.Check.{checkNumber}
 use Rattle.fildwuk.specs.Lists.{chainOf}

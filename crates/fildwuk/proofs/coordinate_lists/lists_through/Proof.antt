@@ -15,7 +15,8 @@ use Rattle.host_calls.specs.Bytes.{chainFrom}
 use Rattle.requests.specs.Question as question
 use Rattle.requests.specs.Question.{Question, asked}
 use Rattle.requests.specs.Chains.{cyclesChecks}
-use Rattle.requests.specs.ListsLaws.{nonempty, nonempty-size}
+use Rattle.requests.specs.Chains.{nonempty}
+use Rattle.requests.proofs.ListsLaws.{nonempty-size}
 use Rattle.host_calls.specs.HostListsLaws.{nonempty-host-lists}
 use Rattle.limits.specs.Limits.{hostLimit, coefficientLimit}
 use Rattle.chains.specs.Check.{checkNumber}
@@ -24,7 +25,7 @@ use Rattle.two_reductions.specs.declared.sizes.Sizes.{Sizes}
 use Rattle.calls.specs.declared.admission.Request.the-variants.{Coordinates}
 use Rattle.two_reductions.proofs.Sheet.{cells-of}
 use Rattle.calls.proofs.Admitting.{Lengths, cellsOf, admit-refused, Granted, admit-granted, regrant, Reduces, twice-done, twice-refused}
-use Rattle.fildwuk.specs.Answer.{HostAnswers}
+use Rattle.fildwuk.specs.HostAnswers.{HostAnswers}
 use Rattle.fildwuk.specs.Lists.{listBytes}
 use Rattle.fildwuk.proofs.HostListAnswers.{hostLengths, few-cells, lists-refuse, length-refuses, cycles-refuse, lists-wide, can-list, lists-done}
 use Rattle.fildwuk.proofs.coordinate_lists.lists_through.Statement.{statement}

@@ -9,7 +9,7 @@ use Rattle.reduction_steps.specs.Step.{positive}
 use Rattle.lines.specs.Slice.{entryLimit, Under}
 use Rattle.lines.proofs.Peaks.{under-small}
 use Rattle.operations.specs.Laid.{Laid, sizesOf, stateOf}
-use Rattle.passes.specs.Answer.{bringOf}
+use Rattle.passes.specs.PassAnswers.{bringOf}
 use Rattle.passes.proofs.States.{laid-kept, held-matrix, operated-done, operated-under, operated-wide}
 use Rattle.passes.proofs.Passes.{pass-refused}
 use Rattle.passes.proofs.Brings.{bring-rows-wide, bring-columns-wide, bring-swapped, positive-left, positive-taken}

@@ -16,8 +16,8 @@ use Rattle.lines.proofs.Peaks.{under-small}
 use Rattle.refusal.specs.declared.Refusal.the-variants.{TooWide}
 use Rattle.operations.specs.Laid.{stateOf}
 use Rattle.scans.specs.Scan.{pivotChoice, indivisibleRow}
-use Rattle.passes.specs.Answer.{matrixOf, rowPassOf, columnPassOf, PassMade}
-use Rattle.reducer.specs.Answer.{StageRefused}
+use Rattle.passes.specs.PassAnswers.{matrixOf, rowPassOf, columnPassOf, PassMade}
+use Rattle.reducer.specs.StageAnswers.{StageRefused}
 use Rattle.passes.proofs.States.{laid-kept, held-matrix, operated-done, operated-under, operated-wide}
 use Rattle.passes.proofs.Words.{pivot-positive}
 use Rattle.reducer.proofs.Measures.{choiceMeasure, rowMeasure, columnMeasure, calls-range}

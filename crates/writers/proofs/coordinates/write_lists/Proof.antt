@@ -9,7 +9,7 @@ use denote.Ref.{now}
 use lib.ListN.{length}
 use Rattle.lists.specs.Splice.{splice, splices}
 use Rattle.requests.specs.Chains.{chainAt}
-use Rattle.requests.specs.ChainsLaws.{chain-inside, chain-part}
+use Rattle.requests.proofs.ChainsLaws.{chain-inside, chain-part}
 use Rattle.writers.specs.Written.{coordinatesOf}
 use Rattle.writers.proofs.coordinates.write_lists.Statement.{statement}
 use Rattle.writers.proofs.coordinates.write_lists.Tie as tie

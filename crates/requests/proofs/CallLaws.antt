@@ -16,7 +16,7 @@ use Rattle.reports.specs.Reductions.{Reductions, tooWide, reduced}
 use Rattle.reports.specs.Report.{Counts, countsOf}
 use Rattle.requests.specs.Question.{Question, cells}
 use Rattle.requests.specs.Call.{Request, listCount, listSlots, requestChecks, workSlots, callChecks, earlyChecks, callWith}
-use Rattle.requests.specs.CheckLaws.{Passed, callChecks-zero, call-later-zero}
+use Rattle.requests.proofs.CheckLaws.{Passed, callChecks-zero, call-later-zero}
 
 -- nothing was refused, and the two reductions are done
 pub record DoneWith (early : ℕ) (R : Reductions) : Type 0 where

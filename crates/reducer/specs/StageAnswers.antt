@@ -12,7 +12,7 @@ use Rattle.lines.specs.Slice.{entryLimit, Under}
 use Rattle.refusal.specs.declared.Refusal.{Refusal}
 use Rattle.operations.specs.Laid.{Laid, sizesOf, stateOf}
 use Rattle.operations.specs.declared.layout.Layout.{Layout}
-use Rattle.passes.specs.Answer.{matrixOf, RowsDone, Cleared, StillUnder}
+use Rattle.passes.specs.PassAnswers.{matrixOf, RowsDone, Cleared, StillUnder}
 use Rattle.reducer.specs.declared.stage.Stage.{Stage}
 use Rattle.reducer.specs.declared.stage.Stage.the-variants as stage
 use Rattle.reducer.specs.declared.reduction.Reduction.{Reduction}

@@ -33,10 +33,10 @@ use Rattle.reports.specs.Reductions.{Reductions, tooWide, reduced}
 use Rattle.reports.specs.Report.{Counts, countsOf, reportList}
 use Rattle.requests.specs.Question.{Question, cells, cellCount, two}
 use Rattle.requests.specs.Call.{Request, report, listCount, listSlots, requestChecks, numbersOf, workSlots, callChecks, earlyChecks, callWith, call}
-use Rattle.requests.specs.CheckLaws.{sheet-told, sheet-passed}
-use Rattle.requests.specs.CallLaws.{DoneWith, with-early, with-wide, with-done, with-number}
+use Rattle.requests.proofs.CheckLaws.{sheet-told, sheet-passed}
+use Rattle.requests.proofs.CallLaws.{DoneWith, with-early, with-wide, with-done, with-number}
 use Rattle.host_calls.specs.Bytes.{numbersBytes}
-use Rattle.host_calls.specs.Host.{HostCalled, slotsIn, hostEarly, bytesLeft, hostAnswer, hostCall}
+use Rattle.host_calls.specs.Host.{HostCalled, slotsIn, reportRoom, workRoom, hostEarly, bytesLeft, hostAnswer, hostCall}
 
 -- ---- by the first early check and the reductions
 
@@ -59,12 +59,6 @@ module _ (q : Question) (request : Request) (output : List ℕ) where
   host-number e = with-number (hostEarly q request output) (two q) (bytesLeft q request output) output [] e
 
 -- ---- the room of a host call
-
-abbrev pub reportRoom : ℕ
-reportRoom = 2 + hostLimit + hostLimit * hostLimit
-
-abbrev pub workRoom : ℕ
-workRoom = hostLimit * (3 * hostLimit)
 
 -- a sheet that is accepted needs no more
 module _ (q : Question) (accepted : refusal hostLimit (q .sheet) ≡ 0) where

@@ -23,10 +23,10 @@ use Rattle.reports.specs.Reductions.{Reductions, tooWide, reduced, noTransforms
 use Rattle.reports.specs.ReductionsLaws.{reductions-done}
 use Rattle.reports.specs.Report.{countsOf, reported, coordinateList}
 use Rattle.requests.specs.Question.{Question, cells, cellCount, rule, two}
-use Rattle.requests.specs.Chains.{chainAt, chainChecks, cyclesChecks, chainsChecks}
+use Rattle.requests.specs.Chains.{chainAt, chainChecks, cyclesChecks, chainsChecks, nonempty}
 use Rattle.requests.specs.Call.{coordinates, lists, listSlots, numbersOf, callChecks, earlyChecks, callWith, call}
-use Rattle.requests.specs.ChainsLaws.{chains-zero, cycles-no-cells}
-use Rattle.requests.specs.CallLaws.{early-iff}
+use Rattle.requests.proofs.ChainsLaws.{chains-zero, cycles-no-cells}
+use Rattle.requests.proofs.CallLaws.{early-iff}
 
 -- where nothing is refused, calls are the same if the reductions leave the same; where something is, whatever they would leave
 pub same-with : {B : Type 0} (early : ℕ) (R : Reductions) (left left′ : ℕ → ℕ → State → List B) (output : List B) (work : List ℤ)
@@ -98,11 +98,6 @@ module _ (q : Question) (empty : cellCount q ≡ 0) where
       ∙ ap (λ (early : ℕ). callWith early (two q) (λ s r x. output) output work) (none-early limit number (length output) (length work) chains)
 
 -- ---- any number of chains
-
--- how many of so many chains have coefficients, of n each
-abbrev pub nonempty : ℕ → ℕ → ℕ
-nonempty number zero = 0
-nonempty number (suc n) = number
 
 pub nonempty-size : (number n : ℕ) → nonempty number n * n ≡ number * n
 nonempty-size number zero = simp mul-zero refl

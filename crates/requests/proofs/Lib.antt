@@ -1,0 +1,5 @@
+-- Laws that other crates cite.
+pub mod CheckLaws
+pub mod ChainsLaws
+pub mod CallLaws
+pub mod ListsLaws
