@@ -73,6 +73,7 @@ LESS = [
     ("Consequences", "j < t + f → e j ≡ c j", "suc j < t + f → e j ≡ c j"),
     ("Consequences", "k < t + f → k ≢ j", "suc k < t + f → k ≢ j"),
     ("Outcome", "(k : ℕ) → k ≢ 0 →", "(k : ℕ) → Unit {0} →"),
+    ("Outcome", "k ≢ 0 → k ≢ 13 →", "k ≢ 0 → Unit {0} →"),
     ("Outcome", "≡ k →\n      called ≡ record { answer = refused k; output = output; work = work }", "≡ k →\n      called ≡ record { answer = refused k; output = called .output; work = work }"),
     ("Outcome", "≡ k →\n      called ≡ record { answer = refused k; output = output; work = work }", "≡ k →\n      called ≡ record { answer = refused k; output = output; work = called .work }"),
     ("Outcome", "≡ k →\n      called ≡ record { answer = refused k; output = output; work = work }", "≡ k →\n      called ≡ record { answer = called .answer; output = output; work = work }"),

@@ -1,5 +1,5 @@
 -- A call of the library: what it answers and leaves (call-outcome); where it is done, what stands behind it (answered) and the numbers of its lists
--- (list-reads, list-between).
+-- (list-reads).
 use mathlib.Core.Path.{_≡_, refl, sym, _∙_, ap, subst}
 use mathlib.Core.Logic.{_↔_, _≢_}
 use mathlib.Core.List.{List}
@@ -9,7 +9,9 @@ use native.Mathlib.Omega.{arith}
 use lib.ListN.{length, getD}
 use lib.IntN.{ℤ, pos}
 use Rattle.lists.specs.Splice.{splices}
-use Rattle.lists.proofs.SplicesLaws.{Fit, splices-in, splices-between}
+use Rattle.lists.proofs.SplicesLaws.{Fit, splices-in}
+use Rattle.trials.proofs.TrialLaws as trial
+use Rattle.trials.proofs.TrialLaws.{Conclusion, conclusion}
 use Rattle.trials.specs.Trial.{first, done, refused, numberTold, Answer, Called, cleared}
 use Rattle.complexes.proofs.ChainComplex.{ChainComplex}
 use Rattle.sheet_format.specs.Sheet.{Bytes}
@@ -18,9 +20,9 @@ use Rattle.reports.specs.Reductions.{Reductions, tooWide, reduced}
 use Rattle.reports.specs.ReductionsLaws.{tooWide≢reduced}
 use Rattle.reports.specs.Report.{Counts, freeRank, torsionCount, countsOf}
 use Rattle.requests.specs.Question.{Question, cells, two}
-use Rattle.requests.specs.Call.{Request, listCount, listSlots, numbersOf, requestChecks, workSlots, earlyChecks, callWith, call}
+use Rattle.requests.specs.Call.{Request, listCount, listSlots, numbersOf, requestChecks, workSlots, earlyChecks, lateChecks, ofReduced, noCounts, callWith, call}
 use Rattle.requests.proofs.CheckLaws.{Passed}
-use Rattle.requests.proofs.CallLaws.{with-early, with-wide, with-done, with-number, early-iff}
+use Rattle.requests.proofs.CallLaws.{with-done, with-number, early-iff, early-narrow}
 use Rattle.answers.specs.Right.{slot}
 use Rattle.answers.specs.Outcome.{Outcome, refused-early, too-wide, is-done, TooWide, listWidth}
 use Rattle.answers.proofs.Behind.{Behind, early-chains, two-wide, behind, ends}
@@ -48,18 +50,20 @@ module _ (limit : ℕ) (q : Question) (request : Request) (output work : List �
 
   pub call-outcome : Outcome limit q request output work called
   unfolding call
-  call-outcome = go early (two q) refl refl
+  call-outcome = go (two q) refl (conclusion (ofReduced noCounts countsOf (two q)) (ofReduced output left (two q)) output work early (first (lateChecks (two q))))
     where
       chains : early ≡ 0 → ChainComplex limit (cells q)
       chains = early-chains limit q request (length output) (length work) bytes
 
-      go : (k : ℕ) (R : Reductions) → early ≡ k → two q ≡ R → Outcome limit q request output work called
-      go (suc k) R e f =
-          refused-early (suc k) (suc-ne-zero k) e
-          (with-early early (two q) left output work (λ z. suc-ne-zero k (sym e ∙ z)) ∙ ap (λ (n : ℕ). record { answer = refused n; output = output; work = work }) e)
-      go zero tooWide e f = too-wide e (two-wide q (chains e) .0 f) (with-wide early (two q) left output work e f)
-      go zero (reduced s r x) e f =
-          is-done e (λ w. tooWide≢reduced (sym (two-wide q (chains e) .1 w) ∙ f)) s r x (ends q (chains e) s r x f) (with-done early (two q) left output work e s r x f)
+      go : (R : Reductions) → two q ≡ R
+          → Conclusion early (first (lateChecks R)) (ofReduced noCounts countsOf R) (ofReduced output left R) output work called
+          → Outcome limit q request output work called
+      go R f (trial.refused-early d is) = refused-early early d (early-narrow limit q request (length output) (length work)) refl is
+      go tooWide f (trial.refused-late e d is) = too-wide e (two-wide q (chains e) .0 f) is
+      go tooWide f (trial.is-done e d is) = absurd (omega arith)
+      go (reduced s r x) f (trial.refused-late e d is) = absurd (d refl)
+      go (reduced s r x) f (trial.is-done e d is) =
+          is-done e (λ w. tooWide≢reduced (sym (two-wide q (chains e) .1 w) ∙ f)) s r x (ends q (chains e) s r x f) is
 
   module _ (e : numberTold (called .answer) ≡ 0) where
     pub answered : Answered limit q request (length output) (length work)
@@ -101,12 +105,6 @@ module _ (limit : ℕ) (q : Question) (request : Request) (output work : List �
     list-reads i l j h =
         ap (λ (c : Called Counts ℤ). slot (c .output) (i * listSlots q request + j)) called-is
         ∙ splices-in (listSlots q request) numbers output (listCount request) list-fit i j (pos 0) l (omega (arith, numbers-width q (B .right) request i))
-
-    pub list-between : (i : ℕ) → i < listCount request → (j : ℕ) → width ≤ j → j < listSlots q request
-        → slot (called .output) (i * listSlots q request + j) ≡ slot output (i * listSlots q request + j)
-    list-between i l j h m =
-        ap (λ (c : Called Counts ℤ). slot (c .output) (i * listSlots q request + j)) called-is
-        ∙ splices-between (listSlots q request) numbers output (listCount request) list-fit i j (pos 0) l (omega (arith, numbers-width q (B .right) request i)) m
 
 -- the counts that a call answers are those of what stands behind it
 pub counts-behind : (limit : ℕ) (q : Question) (request : Request) (output work : List ℤ) (bytes : Bytes (q .sheet)) {counts : Counts}

@@ -10,7 +10,7 @@ use lib.ListN.{length, getD}
 use lib.IntN.{ℤ}
 use Rattle.limits.specs.Limits.{libraryLimit, hostLimit}
 use Rattle.lists.specs.Splice.{splices}
-use Rattle.lists.proofs.SplicesLaws.{Fit, length-splices, splices-in, splices-between, splices-past}
+use Rattle.lists.proofs.SplicesLaws.{Fit, length-splices, splices-in, splices-between, splices-past, splices-each}
 use Rattle.trials.specs.Trial.{first, done, numberTold, Called}
 use Rattle.sheet_format.specs.Sheet.{Bytes}
 use Rattle.reduction_steps.specs.State.{State}
@@ -20,7 +20,7 @@ use Rattle.requests.specs.Question.{Question, cells, cellCount, two}
 use Rattle.requests.specs.Call.{Request, listCount, listSlots, numbersOf, workSlots, earlyChecks, callWith, call}
 use Rattle.requests.proofs.CallLaws.{early-iff}
 use Rattle.host_calls.specs.Bytes.{numbersBytes, numberAt}
-use Rattle.host_calls.proofs.BytesLaws.{length-numbersBytes, numberAt-numbersBytes, numberAt-same}
+use Rattle.host_calls.proofs.BytesLaws.{numbersBytes-small, length-numbersBytes, numberAt-numbersBytes, numberAt-same}
 use Rattle.host_calls.specs.Host.{HostCalled, slotsIn, hostEarly, bytesLeft, hostAnswer, hostCall}
 use Rattle.host_calls.proofs.HostCallLaws.{host-early, host-wide, host-done, host-number, early-same}
 use Rattle.answers.specs.Right.{slot}
@@ -91,6 +91,11 @@ module _ (q : Question) (request : Request) (output : List ℕ) (bytes : Bytes (
 
     pub host-past : (k : ℕ) → listCount request * (8 * listSlots q request) ≤ k → getD (host .output) k 0 ≡ getD output k 0
     host-past k l = ap (λ (o : List ℕ). getD o k 0) output-is ∙ splices-past (8 * listSlots q request) written output (listCount request) fit k 0 l
+
+    pub host-bytes : ((k : ℕ) → getD output k 0 < 256) → (k : ℕ) → getD (host .output) k 0 < 256
+    host-bytes small k =
+        subst (λ (o : List ℕ). getD o k 0 < 256) (sym output-is)
+        (splices-each (λ b. b < 256) 0 (omega arith) (8 * listSlots q request) written (listCount request) output (λ i. numbersBytes-small (numbers i)) small k)
 
     module _ (i : ℕ) (next : i < listCount request) where
       pub host-between : (k : ℕ) → 8 * width ≤ k → k < 8 * listSlots q request
@@ -186,6 +191,8 @@ module _ (q : Question) (request : Request) (output : List ℕ) (bytes : Bytes (
     reads = reads;
     between = λ counts e i k l m n.
         host-between q request output bytes (is-zero counts e) i l k (omega (arith, width-is counts e)) n;
+    bytes = λ small k. by-number (λ o. getD o k 0 < 256) (λ e. subst (λ (o : List ℕ). getD o k 0 < 256) (sym e) (small k))
+        (λ z. host-bytes q request output bytes z small k);
     past = λ k l. by-number (λ o. getD o k 0 ≡ getD output k 0) (λ e. ap (λ (o : List ℕ). getD o k 0) e) (λ z. host-past q request output bytes z k l);
   }
     where

@@ -40,12 +40,12 @@ pub record EndsAt (limit : ℕ) (q : Question) (s r : ℕ) (x : State) : Type 0 
 abbrev pub Ends : Question → ℕ → ℕ → State → Type 0
 Ends q s r x = EndsAt entryLimit q s r x
 
--- A call of the library at a count limit: refused with the first early check that applies, and every slice left alone; or refused 13, exactly where the
+-- A call of the library at a count limit: refused with the first early check that applies, never 13, and every slice left alone; or refused 13, exactly where the
 -- reductions go too wide, and the work slice reads 0; or done with the counts of their end, its lists written over the output and nothing else, and
 -- the work slice reads 0.
 pub data Outcome (limit : ℕ) (q : Question) (request : Request) (output work : List ℤ) (called : Called Counts ℤ) : Type 0 where
   refused-early :
-      (k : ℕ) → k ≢ 0 → first (earlyChecks limit q request (length output) (length work)) ≡ k →
+      (k : ℕ) → k ≢ 0 → k ≢ 13 → first (earlyChecks limit q request (length output) (length work)) ≡ k →
       called ≡ record { answer = refused k; output = output; work = work } → Outcome limit q request output work called
   too-wide :
       first (earlyChecks limit q request (length output) (length work)) ≡ 0 → TooWide q →
@@ -72,7 +72,7 @@ listWidth q (coordinates z) f t = t + f
 listWidth q (lists number chains) f t = t + f
 
 -- A host call on an output beside the library's on as many slots: its number is that of the library's answer, a refusal leaves the output, the numbers
--- read from its bytes are those that the library's call leaves, and every other byte stays.
+-- read from its bytes are those that the library's call leaves, every other byte stays, and bytes stay bytes.
 pub record Carries (q : Question) (request : Request) (output : List ℕ) (called : Called Counts ℤ) (host : HostCalled) : Type 0 where
   pub number-is : host .number ≡ numberTold (called .answer)
   pub after-refusal : host .number ≢ 0 → host .output ≡ output
@@ -83,3 +83,4 @@ pub record Carries (q : Question) (request : Request) (output : List ℕ) (calle
       → 8 * listWidth q request (counts .free) (counts .torsion) ≤ k → k < 8 * listSlots q request
       → getD (host .output) (i * (8 * listSlots q request) + k) 0 ≡ getD output (i * (8 * listSlots q request) + k) 0
   pub past : (k : ℕ) → listCount request * (8 * listSlots q request) ≤ k → getD (host .output) k 0 ≡ getD output k 0
+  pub bytes : ((k : ℕ) → getD output k 0 < 256) → (k : ℕ) → getD (host .output) k 0 < 256

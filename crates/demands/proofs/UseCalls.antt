@@ -1,6 +1,7 @@
 -- Uses of the claim on the calls: each of its three outcomes, on the hollow triangle. No sheet whose reductions compute here goes too wide, so that the
 -- outcome of refusal 13 is taken of any question that does.
 use mathlib.Core.Path.{_≡_, refl, sym, _∙_, ap}
+use mathlib.Core.Logic.{_↔_}
 use mathlib.Core.List.{List, [], _∷_}
 use Prim.Native.Nat.{ℕ}
 use native.Mathlib.Omega.{arith}
@@ -11,7 +12,7 @@ use Rattle.lists.specs.Tabulate.{tabulate}
 use Rattle.lists.specs.Splice.{splice, splices}
 use Rattle.matrices.specs.Sum.{sum}
 use Rattle.matrices.specs.Vector.{apply}
-use Rattle.trials.specs.Trial.{first, Answer, done, refused, Called, cleared}
+use Rattle.trials.specs.Trial.{first, Answer, done, refused, numberTold, Called, cleared}
 use Rattle.trials.proofs.TrialLaws.{refused≢done}
 use Rattle.complexes.specs.Cell.{without, same, rises, precedes, listed}
 use Rattle.complexes.specs.Boundary.{sign, coefficient, countBelow, boundary}
@@ -51,7 +52,7 @@ module _ (calls : Calls) where
     where
       of : Outcome limit hollow request output work (call limit hollow request output work) →
           call limit hollow request output work ≡ left request output work (reduced 1 0 hollow-left)
-      of (outcome.Outcome.refused-early k nonzero told is) = absurd (nonzero (sym told ∙ passed))
+      of (outcome.Outcome.refused-early k nonzero narrow told is) = absurd (nonzero (sym told ∙ passed))
       of (outcome.Outcome.too-wide none wide is) = absurd (hollow-narrow wide)
       of (outcome.Outcome.is-done none narrow s r x ends is) =
           is ∙ ap (left request output work) (sym (ends-two hollow hollow-chains s r x ends) ∙ hollow-reduced)
@@ -66,7 +67,7 @@ module _ (calls : Calls) where
 
       of : Outcome limit hollow request output work (call limit hollow request output work) →
           call limit hollow request output work ≡ left request output work (reduced 1 0 hollow-left)
-      of (outcome.Outcome.refused-early k nonzero told is) = absurd (refused≢done (sym (ap answer-of is) ∙ answered))
+      of (outcome.Outcome.refused-early k nonzero narrow told is) = absurd (refused≢done (sym (ap answer-of is) ∙ answered))
       of (outcome.Outcome.too-wide none wide is) = absurd (refused≢done (sym (ap answer-of is) ∙ answered))
       of (outcome.Outcome.is-done none narrow s r x ends is) =
           is ∙ ap (left request output work) (sym (ends-two hollow hollow-chains s r x ends) ∙ hollow-reduced)
@@ -108,7 +109,7 @@ module _ (calls : Calls) where
     where
       of : Outcome limit q request output work (call limit q request output work) →
           call limit q request output work ≡ record { answer = refused n; output = output; work = work }
-      of (outcome.Outcome.refused-early k d told′ is) = is ∙ ap (λ (k : ℕ). record { answer = refused k; output = output; work = work }) (sym told′ ∙ told)
+      of (outcome.Outcome.refused-early k d narrow told′ is) = is ∙ ap (λ (k : ℕ). record { answer = refused k; output = output; work = work }) (sym told′ ∙ told)
       of (outcome.Outcome.too-wide none wide is) = absurd (nonzero (sym told ∙ none))
       of (outcome.Outcome.is-done none narrow s r x ends is) = absurd (nonzero (sym told ∙ none))
 
@@ -137,6 +138,23 @@ module _ (calls : Calls) where
     where
       of : Outcome limit q request output work (call limit q request output work) →
           call limit q request output work ≡ record { answer = refused 13; output = output; work = cleared work }
-      of (outcome.Outcome.refused-early k nonzero told is) = absurd (nonzero (sym told ∙ passed))
+      of (outcome.Outcome.refused-early k nonzero narrow told is) = absurd (nonzero (sym told ∙ passed))
       of (outcome.Outcome.too-wide none wide is) = is
       of (outcome.Outcome.is-done none narrow s r x ends is) = absurd (narrow goes)
+
+  -- demand 2: 13 is told exactly where no early refusal applies and the reductions go too wide
+  told-13 : (limit : ℕ) (q : Question) (request : Request) (output work : List ℤ) → Bytes (q .sheet) →
+      (numberTold (call limit q request output work .answer) ≡ 13) ↔ ((first (earlyChecks limit q request (length output) (length work)) ≡ 0) × TooWide q)
+  told-13 limit q request output work bytes = (
+    λ e. from (calls limit q request output work bytes) e,
+    λ h. ap (λ (c : Called Counts ℤ). numberTold (c .answer)) (when-wide limit q request output work bytes (h .0) (h .1)),
+  )
+    where
+      number-of : Called Counts ℤ → ℕ
+      number-of called = numberTold (called .answer)
+
+      from : Outcome limit q request output work (call limit q request output work) → numberTold (call limit q request output work .answer) ≡ 13 →
+          (first (earlyChecks limit q request (length output) (length work)) ≡ 0) × TooWide q
+      from (outcome.Outcome.refused-early k nonzero narrow told is) e = absurd (narrow (sym (ap number-of is) ∙ e))
+      from (outcome.Outcome.too-wide none wide is) e = (none, wide)
+      from (outcome.Outcome.is-done none narrow s r x ends is) e = absurd (omega (arith, sym (ap number-of is) ∙ e))

@@ -1,10 +1,11 @@
 -- Uses of the claim on the host calls, on the hollow triangle: the number, the bytes and what is left, with the library's call known by the claim on calls.
 use mathlib.Core.Path.{_≡_, refl, sym, _∙_, ap}
 use mathlib.Core.List.{List, [], _∷_}
-use Prim.Native.Nat.{ℕ}
+use Prim.Native.Nat.{ℕ, _<_}
 use native.Mathlib.Omega.{arith}
 use lib.ListN.{length, getD, replicate}
 use lib.IntN.{ℤ, pos}
+use Rattle.lists.specs.Same.{every}
 use Rattle.lists.specs.Tabulate.{tabulate}
 use Rattle.trials.specs.Trial.{done, numberTold, Called}
 use Rattle.complexes.specs.Boundary.{countBelow}
@@ -20,7 +21,7 @@ use Rattle.answers.specs.Right.{slot}
 use Rattle.answers.specs.Outcome.{Carries}
 use Rattle.demands.specs.Calls.{Calls}
 use Rattle.demands.specs.Host.{HostCalls}
-use Rattle.demands.proofs.Hollow.{hollow, hollow-bytes, nines, minus}
+use Rattle.demands.proofs.Hollow.{numbers-below, hollow, hollow-bytes, nines, minus}
 use Rattle.demands.proofs.UseCalls.{loops, report-written, lists-written, refused-8}
 
 -- n bytes as they are lent
@@ -64,6 +65,11 @@ module _ (calls : Calls) (hostCalls : HostCalls) where
   byte-past : getD (hostCall hollow report (lent 134) .output) 112 0 ≡ 9
   unfolding cells countField cellOf cellsOf sectionsOf start tabulate
   byte-past = report-carried .past 112 (omega arith)
+
+  -- bytes were lent, and bytes are left
+  bytes-left : (k : ℕ) → getD (hostCall hollow report (lent 134) .output) k 0 < 256
+  unfolding every
+  bytes-left = report-carried .bytes (numbers-below 256 (omega arith) (lent 134) tt)
 
   -- ---- done: two lists, 24 bytes apart
 

@@ -89,7 +89,7 @@ wide-printed calls programPrints b bytes accepted p small goes = of (programPrin
   where
     not-done : (output work : List ℤ) (counts : Counts) → call hostLimit (asked b p) report output work .answer ≡ done counts →
         Outcome hostLimit (asked b p) report output work (call hostLimit (asked b p) report output work) → ⊥
-    not-done output work counts e (outcome.Outcome.refused-early k nonzero told is) = refused≢done (sym (ap (λ (c : Called Counts ℤ). c .answer) is) ∙ e)
+    not-done output work counts e (outcome.Outcome.refused-early k nonzero narrow told is) = refused≢done (sym (ap (λ (c : Called Counts ℤ). c .answer) is) ∙ e)
     not-done output work counts e (outcome.Outcome.too-wide none wide is) = refused≢done (sym (ap (λ (c : Called Counts ℤ). c .answer) is) ∙ e)
     not-done output work counts e (outcome.Outcome.is-done none narrow s r x ends is) = narrow goes
 

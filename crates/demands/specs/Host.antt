@@ -1,6 +1,5 @@
--- The host calls, for every question, request and output: what is claimed of the numbers, the slices and the lists of the library's calls
--- holds of them, read from their bytes; they answer no counts. The contracts of
--- the exported calls say that they answer and leave what `hostCall` says.
+-- The host calls, for every question, request and output: what is claimed of the numbers, the slices and the lists of the library's calls holds of them,
+-- read from their bytes; they answer no counts. The contracts of the exported calls say that they answer and leave what `hostCall` says.
 use mathlib.Core.Path.{_≡_}
 use mathlib.Core.List.{List}
 use Prim.Native.Nat.{ℕ, _≤_}

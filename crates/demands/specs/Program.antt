@@ -1,6 +1,5 @@
 -- The program: document 01, "What the program prints". The contract of `print_input`, which the program calls between reading and writing, says that it puts
--- `programText`; here is claimed what that is. That `main` reads the whole input and
--- writes that text once is tested only: a program has no contract.
+-- `programText`; here is claimed what that is. That `main` reads the whole input and writes that text once is tested only: a program has no contract.
 use mathlib.Core.Path.{_≡_}
 use mathlib.Core.Logic.{_↔_, _≢_}
 use mathlib.Core.List.{List}

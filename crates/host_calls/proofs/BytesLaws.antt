@@ -1,16 +1,35 @@
--- Numbers as bytes: length-numberBytes, length-numbersBytes, numbersBytes-append. The numbers of 64 bits can be read back from the bytes:
+-- Numbers as bytes: numbersBytes-small, length-numberBytes, length-numbersBytes, numbersBytes-append. The numbers of 64 bits can be read back from the bytes:
 -- signedOf-numberBytes, numberAt-numbersBytes, numberAt-same; so numberBytes-injective and numbersBytes-injective.
 use mathlib.Core.Path.{_≡_, refl, sym, _∙_, ap}
 use mathlib.Core.List.{List, [], _∷_, _++_, append-assoc, append-nil}
 use Prim.Native.Nat.{ℕ, zero, suc, _+_, _-_, _*_, _/_, _^_, _≤_, _<_}
-use native.Mathlib.Nat.{pow-succ'}
+use native.Mathlib.Nat.{pow-succ', mod-lt}
 use native.Mathlib.Omega.{arith}
 use borrow.Author.Tests.{lt-ltb, le-ltb}
 use lib.ListN.{length, getD, take, drop, length-append, length-drop}
 use lib.Seq.{take-at, drop-append-add, ext-getD, length-take-le, getD-take, getD-drop}
 use lib.IntN.{ℤ, pos, negsuc}
 use lib.Signed.{mag}
+use Rattle.lists.proofs.SplicesLaws.{each-append}
 use Rattle.host_calls.specs.Bytes.{lowBytes, numberBytes, numbersBytes, unsignedOf, signedOf, numberAt}
+
+-- ---- each is a byte
+
+lowBytes-small : (size n k : ℕ) → getD (lowBytes size n) k 0 < 256
+unfolding lowBytes
+lowBytes-small zero n k = omega arith
+lowBytes-small (suc size) n zero = mod-lt n (omega arith)
+lowBytes-small (suc size) n (suc k) = lowBytes-small size (n / 256) k
+
+numberBytes-small : (x : ℤ) (k : ℕ) → getD (numberBytes x) k 0 < 256
+unfolding numberBytes
+numberBytes-small (pos n) k = lowBytes-small 8 n k
+numberBytes-small (negsuc n) k = lowBytes-small 8 (2 ^ 64 - suc n) k
+
+pub numbersBytes-small : (l : List ℤ) (k : ℕ) → getD (numbersBytes l) k 0 < 256
+unfolding numbersBytes
+numbersBytes-small [] k = omega arith
+numbersBytes-small (x ∷ l) k = each-append (λ b. b < 256) 0 (omega arith) (numberBytes x) (numbersBytes l) (numberBytes-small x) (numbersBytes-small l) k
 
 -- ---- lengths
 

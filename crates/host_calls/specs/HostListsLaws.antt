@@ -9,13 +9,13 @@ use native.Mathlib.Nat.{one-mul, mul-zero, zero-mul}
 use lib.IntN.{ℤ}
 use Rattle.limits.specs.Limits.{hostLimit}
 use Rattle.lists.specs.Splice.{splices}
-use Rattle.lists.proofs.SplicesLaws.{splices-nothing}
+use Rattle.lists.proofs.SplicesLaws.{splices-same, splices-nothing}
 use Rattle.reports.specs.Report.{coordinateList}
 use Rattle.requests.specs.Question.{Question, cells, cellCount, two}
 use Rattle.requests.specs.Chains.{chainAt}
 use Rattle.requests.specs.Call.{coordinates, lists, numbersOf, workSlots, callWith}
 use Rattle.requests.specs.Chains.{nonempty}
-use Rattle.requests.proofs.ListsLaws.{same-with, splices-one, one-early, one-numbers, none-early, none-numbers}
+use Rattle.requests.proofs.ListsLaws.{same-with, one-early, one-numbers, none-early, none-numbers}
 use Rattle.host_calls.specs.Bytes.{numbersBytes, chainFrom}
 use Rattle.host_calls.specs.Host.{HostCalled, slotsIn, hostEarly, bytesLeft, hostAnswer, hostCall, coordinatesIn, listsIn}
 
@@ -29,8 +29,8 @@ host-one-chain q chain output = ap (λ (m : ℕ). hostCall q (lists 1 (chainFrom
     single : hostCall q (lists 1 z) output ≡ hostCall q (coordinates z) output
     single =
         ap hostAnswer (same-with (hostEarly q (lists 1 z) output) (two q) (bytesLeft q (lists 1 z) output) (bytesLeft q (coordinates z) output) output []
-        (λ e s r x d. splices-one (8 * cellCount q) (λ i. numbersBytes (numbersOf q (lists 1 z) s r x i)) (λ i. numbersBytes (numbersOf q (coordinates z) s r x i)) output
-        (ap numbersBytes (one-numbers hostLimit q z (slotsIn output) (workSlots (cells q) (q .dimension)) e s r x))))
+        (λ e s r x d. splices-same (8 * cellCount q) (λ i. numbersBytes (numbersOf q (lists 1 z) s r x i)) (λ i. numbersBytes (numbersOf q (coordinates z) s r x i)) 1 output
+        (λ i l. ap numbersBytes (one-numbers hostLimit q z (slotsIn output) (workSlots (cells q) (q .dimension)) e s r x i l))))
         ∙ ap (λ (early : ℕ). hostAnswer (callWith early (two q) (bytesLeft q (coordinates z) output) output []))
         (one-early hostLimit q z (slotsIn output) (workSlots (cells q) (q .dimension)))
 

@@ -3,6 +3,7 @@ ghost use Rattle.import_client.specs.Used.{LibraryUsed, HostUsed};
 use fildwuk::fildwuk_import;
 use importer::answer::Imported;
 use importer::import::import;
+use library_host::fildwuk_library_import;
 
 // The library's import.
 pub fn import_library(text: &[u8], sheet: &mut [u8]) -> Imported
@@ -16,4 +17,11 @@ pub fn import_host(text: &[u8], sheet: &mut [u8]) -> u32
     ensures { λ r. ⌜ HostUsed (now (text .entry)) (now (sheet .entry)) r (now (sheet .exit)) ⌝ }
 {
     fildwuk_import(text, sheet)
+}
+
+// The library's import for C.
+pub fn import_library_c(text: &[u8], sheet: &mut [u8]) -> u32
+    ensures { λ r. ⌜ HostUsed (now (text .entry)) (now (sheet .entry)) r (now (sheet .exit)) ⌝ }
+{
+    fildwuk_library_import(text, sheet)
 }

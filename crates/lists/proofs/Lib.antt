@@ -1,4 +1,3 @@
 -- Laws that other crates cite.
 pub mod TabulateLaws
 pub mod SplicesLaws
-pub mod WrittenLaws

@@ -6,13 +6,14 @@
 --     splices-same       lists that are the same give the same
 --     splices-nothing    empty lists change nothing
 --     splices-single     one list is written from the start on
+--     splices-each       what holds of each element of all lists holds of the result
 use mathlib.Core.Path.{_≡_, refl, _∙_, ap₂}
-use mathlib.Core.List.{List, [], _++_}
+use mathlib.Core.List.{List, [], _∷_, _++_}
 use Prim.Native.Nat.{ℕ, zero, suc, _+_, _*_, _≤_, _<_}
 use native.Mathlib.Nat.{suc-mul, mul-le-mul-right, zero-mul}
 use native.Mathlib.Decide.{decLt}
 use native.Mathlib.Omega.{arith}
-use lib.ListN.{length, getD, drop}
+use lib.ListN.{length, getD, take, drop}
 use Rattle.lists.specs.Splice.{splice, splices}
 use Rattle.lists.specs.SpliceLaws.{splice-nil, splice-zero, length-splice, getD-splice, getD-splice-before, getD-splice-past}
 
@@ -98,3 +99,34 @@ module _ {ℓ} {A : Type ℓ} where
 pub splices-single : {A : Type 0} (apart : ℕ) (xs : ℕ → List A) (l : List A) → splices apart xs 1 l ≡ xs 0 ++ drop (length (xs 0)) l
 unfolding splices
 splices-single apart xs l = rw (zero-mul apart) (splice-zero (xs 0) l)
+
+-- what holds of each element, and of what stands past the end, of a list and of the lists put over it, holds of the result
+module _ {A : Type 0} (P : A → Type 0) (blank : A) (past : P blank) where
+  abbrev pub Each : List A → Type 0
+  Each l = (k : ℕ) → P (getD l k blank)
+
+  pub each-append : (l m : List A) → Each l → Each m → Each (l ++ m)
+  each-append [] m h g k = g k
+  each-append (x ∷ l) m h g zero = h 0
+  each-append (x ∷ l) m h g (suc k) = each-append l m (λ i. h (suc i)) g k
+
+  each-take : (n : ℕ) (l : List A) → Each l → Each (take n l)
+  each-take zero l h k = past
+  each-take (suc n) [] h k = past
+  each-take (suc n) (x ∷ l) h zero = h 0
+  each-take (suc n) (x ∷ l) h (suc k) = each-take n l (λ i. h (suc i)) k
+
+  each-drop : (n : ℕ) (l : List A) → Each l → Each (drop n l)
+  each-drop zero l h = h
+  each-drop (suc n) [] h = h
+  each-drop (suc n) (x ∷ l) h = each-drop n l (λ i. h (suc i))
+
+  each-splice : (at : ℕ) (xs l : List A) → Each xs → Each l → Each (splice at xs l)
+  unfolding splice
+  each-splice at xs l h g =
+      each-append (take at l) (xs ++ drop (at + length xs) l) (each-take at l g) (each-append xs (drop (at + length xs) l) h (each-drop (at + length xs) l g))
+
+  pub splices-each : (apart : ℕ) (xs : ℕ → List A) (number : ℕ) (l : List A) → ((i : ℕ) → Each (xs i)) → Each l → Each (splices apart xs number l)
+  unfolding splices
+  splices-each apart xs zero l h g = g
+  splices-each apart xs (suc i) l h g = each-splice (i * apart) (xs i) (splices apart xs i l) (h i) (splices-each apart xs i l h g)

@@ -1,21 +1,25 @@
 -- A call by its first early check and what its reductions come to.
 --     with-early, with-wide, with-done        what it answers and leaves in each case
 --     with-number                             where it answers 0, nothing was refused and the reductions are done
---     early-iff                               what passes the early checks of a request
+--     early-iff, early-narrow                 what passes the early checks of a request; they never tell 13
 use mathlib.Core.Path.{_≡_, refl, sym, _∙_}
 use mathlib.Core.Logic.{_↔_, _≢_}
-use mathlib.Core.List.{List}
+use mathlib.Core.Bool.{Bool, true}
+use mathlib.Core.List.{List, _++_}
 use Prim.Native.Nat.{ℕ, zero, suc, _*_}
 use native.Mathlib.Nat.{suc-ne-zero}
 use native.Mathlib.Omega.{arith}
 use lib.IntN.{ℤ}
+use Rattle.limits.specs.Limits.{coefficientLimit}
 use Rattle.trials.specs.Trial.{first, Called, done, refused, numberTold, cleared, concluded}
-use Rattle.trials.proofs.TrialLaws.{refused≢done}
+use Rattle.trials.proofs.FirstLaws.{absent, absent-append, first-absent}
 use Rattle.reduction_steps.specs.State.{State}
 use Rattle.reports.specs.Reductions.{Reductions, tooWide, reduced}
 use Rattle.reports.specs.Report.{Counts, countsOf}
 use Rattle.requests.specs.Question.{Question, cells}
-use Rattle.requests.specs.Call.{Request, listCount, listSlots, requestChecks, workSlots, callChecks, earlyChecks, callWith}
+use Rattle.requests.specs.Call.{Request, report, coordinates, lists, listCount, listSlots, requestChecks, workSlots, callChecks, earlyChecks, callWith}
+use Rattle.requests.specs.Chains.{chainChecks}
+use Rattle.requests.proofs.ChainsLaws.{chains-narrow}
 use Rattle.requests.proofs.CheckLaws.{Passed, callChecks-zero, call-later-zero}
 
 -- nothing was refused, and the two reductions are done
@@ -68,3 +72,18 @@ module _ (limit : ℕ) (q : Question) (request : Request) (output work : ℕ) wh
 
       space : ℕ
       space = workSlots (cells q) (q .dimension)
+
+-- the checks of a request tell no 13, and neither do those before them
+request-narrow : (q : Question) (request : Request) → absent 13 (requestChecks q request) ≡ true
+unfolding chainChecks
+request-narrow q report = refl
+request-narrow q (coordinates z) = refl
+request-narrow q (lists number chains) = chains-narrow coefficientLimit (cells q) (q .dimension) chains number
+
+pub early-narrow : (limit : ℕ) (q : Question) (request : Request) (output work : ℕ) → first (earlyChecks limit q request output work) ≢ 13
+unfolding earlyChecks callChecks
+early-narrow limit q request output work =
+    first-absent 13 (checks ++ requestChecks q request) (λ e. absurd (omega arith)) (absent-append 13 checks (requestChecks q request) refl (request-narrow q request))
+  where
+    checks : List (ℕ × Bool)
+    checks = callChecks limit q (listCount request * listSlots q request) (workSlots (cells q) (q .dimension)) output work

@@ -6,7 +6,7 @@
 use mathlib.Core.Path.{_≡_, refl, _∙_, ap}
 use mathlib.Core.Bool.{Bool, true, false}
 use mathlib.Core.List.{List, []}
-use Prim.Native.Nat.{ℕ, zero, suc, _*_}
+use Prim.Native.Nat.{ℕ, zero, suc, _*_, _<_}
 use native.Mathlib.Nat.{one-mul, zero-mul, mul-zero}
 use native.Mathlib.Omega.{arith}
 use borrow.Author.Tests.{eqb-true}
@@ -16,7 +16,7 @@ use lib.Seq.{take-all}
 use lib.IntN.{ℤ}
 use Rattle.limits.specs.Limits.{entryLimit, coefficientLimit}
 use Rattle.lists.specs.Splice.{splices}
-use Rattle.lists.proofs.SplicesLaws.{splices-nothing}
+use Rattle.lists.proofs.SplicesLaws.{splices-same, splices-nothing}
 use Rattle.trials.specs.Trial.{first, done, cleared}
 use Rattle.reduction_steps.specs.State.{State}
 use Rattle.reports.specs.Reductions.{Reductions, tooWide, reduced, noTransforms}
@@ -35,11 +35,6 @@ same-with zero tooWide left left′ output work h = refl
 same-with zero (reduced s r x) left left′ output work h = λ i. record { answer = done (countsOf s r x); output = h refl s r x refl i; work = cleared work }
 same-with (suc k) R left left′ output work h = refl
 
--- one list is put where the other is
-pub splices-one : {A : Type 0} (apart : ℕ) (xs ys : ℕ → List A) (l : List A) → xs 0 ≡ ys 0 → splices apart xs 1 l ≡ splices apart ys 1 l
-unfolding splices
-splices-one apart xs ys l e = rw e
-
 -- a chain of n coefficients is the first of them
 first-chain : (n : ℕ) (z : List ℤ) → length z ≡ n → chainAt n z 0 ≡ z
 first-chain n z e = rw (zero-mul n) (take-all n z (omega (arith, e)))
@@ -55,9 +50,10 @@ module _ (limit : ℕ) (q : Question) (z : List ℤ) (output work : ℕ) where
       go true e = rw (one-mul (cellCount q), first-chain (cellCount q) z (eqb-true (length z) (cellCount q) e))
       go false e = rw (one-mul (cellCount q), e)
 
-  pub one-numbers : first (earlyChecks limit q (lists 1 z) output work) ≡ 0 → (s r : ℕ) (x : State)
-      → numbersOf q (lists 1 z) s r x 0 ≡ numbersOf q (coordinates z) s r x 0
-  one-numbers e s r x =
+  pub one-numbers : first (earlyChecks limit q (lists 1 z) output work) ≡ 0 → (s r : ℕ) (x : State) (i : ℕ) → i < 1
+      → numbersOf q (lists 1 z) s r x i ≡ numbersOf q (coordinates z) s r x i
+  one-numbers e s r x (suc i) l = absurd (omega arith)
+  one-numbers e s r x zero l =
       let sized = chains-zero coefficientLimit (cells q) (q .dimension) z 1 .0 (early-iff limit q (lists 1 z) output work .0 e .1) .0 in
       ap (λ (y : List ℤ). coordinateList (cellCount q) s x y) (first-chain (cellCount q) z (sized ∙ one-mul (cellCount q)))
 
@@ -66,7 +62,7 @@ unfolding call
 one-chain limit q z output work =
     same-with (first (earlyChecks limit q (lists 1 z) (length output) (length work))) (two q)
     (λ s r x. splices (cellCount q) (numbersOf q (lists 1 z) s r x) 1 output) (λ s r x. splices (cellCount q) (numbersOf q (coordinates z) s r x) 1 output) output work
-    (λ e s r x d. splices-one (cellCount q) (numbersOf q (lists 1 z) s r x) (numbersOf q (coordinates z) s r x) output (one-numbers limit q z (length output) (length work) e s r x))
+    (λ e s r x d. splices-same (cellCount q) (numbersOf q (lists 1 z) s r x) (numbersOf q (coordinates z) s r x) 1 output (one-numbers limit q z (length output) (length work) e s r x))
     ∙ ap (λ (early : ℕ). callWith early (two q) (λ s r x. splices (cellCount q) (numbersOf q (coordinates z) s r x) 1 output) output work)
     (one-early limit q z (length output) (length work))
 

@@ -12,7 +12,7 @@ fn larger(a: usize, b: usize) -> usize
     if a < b { b } else { a }
 }
 
-// The slots that both take.
+// The slots that both layouts take.
 pub fn work_slots(cells: usize, rows: usize, columns: usize) -> usize
     requires { ⌜ (cells < 65536) × (rows < 65536) × (columns < 65536) ⌝ }
     ensures { λ r. ⌜ r ≡ cells * (2 * cells + max rows columns) ⌝ }
@@ -20,7 +20,7 @@ pub fn work_slots(cells: usize, rows: usize, columns: usize) -> usize
     cells * (2 * cells + larger(rows, columns))
 }
 
-// That of the first reduction.
+// The layout of the first reduction.
 pub fn first_layout(cells: usize, rows: usize, columns: usize) -> Layout
     requires { ⌜ (cells < 65536) × (rows < 65536) × (columns < 65536) ⌝ }
     ensures { λ r. ⌜ r ≡ firstLayout cells rows columns ⌝ }
@@ -55,7 +55,7 @@ pub fn first_layout(cells: usize, rows: usize, columns: usize) -> Layout
     }
 }
 
-// That of the second reduction, after a first one of this rank.
+// The layout of the second reduction, after a first one of this rank.
 pub fn second_layout(cells: usize, rows: usize, columns: usize, rank: usize) -> Layout
     requires { ⌜ (cells < 65536) × (rows < 65536) × (columns < 65536) × (rank ≤ cells) ⌝ }
     ensures { λ r. ⌜ r ≡ secondLayout cells rows columns rank ⌝ }

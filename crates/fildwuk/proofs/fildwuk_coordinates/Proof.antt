@@ -1,4 +1,4 @@
--- `fildwuk::fildwuk_coordinates` meets its contract: the call on one chain is the single call. Assumes nothing.
+-- `fildwuk::fildwuk_coordinates` meets its contract: the call on one chain is the single call.
 use borrow.Author.Needs.{needs}
 use denote.Ref.{now}
 use Rattle.requests.specs.Question.{asked}

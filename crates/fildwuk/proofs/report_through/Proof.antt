@@ -1,4 +1,4 @@
--- `fildwuk::report_through` meets its contract: what it answers and writes is `Through`'s to say, from what `report_at` ensures. Assumes nothing.
+-- `fildwuk::report_through` meets its contract: what it answers and writes is `Through`'s to say, from what `report_at` ensures.
 use mathlib.Core.Path.{sym}
 use Prim.Native.Nat.{_+_, _*_, _≤_}
 use native.Mathlib.Omega.{arith}

@@ -1,4 +1,4 @@
--- `homology::main` meets its contract, that it is safe and ends: what it writes is within the text that `print_input` has put. Assumes nothing.
+-- `homology::main` meets its contract, that it is safe and ends: what it writes is within the text that `print_input` has put.
 use mathlib.Core.Path.{_≡_, sym, _∙_, ap}
 use mathlib.Core.List.{List}
 use Prim.Native.Nat.{ℕ, _≤_}

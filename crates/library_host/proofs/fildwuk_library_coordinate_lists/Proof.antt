@@ -1,4 +1,4 @@
--- `fildwuk_library_coordinate_lists` meets its contract: it answers the number of what the library's call answers. Assumes nothing.
+-- `fildwuk_library_coordinate_lists` meets its contract: it answers the number of what the library's call answers.
 use borrow.Author.Needs.{needs}
 use Rattle.library_host.proofs.Told.{called-told}
 use Rattle.library_host.proofs.fildwuk_library_coordinate_lists.Statement.{statement}

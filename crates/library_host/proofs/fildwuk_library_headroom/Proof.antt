@@ -1,4 +1,4 @@
--- `fildwuk_library_headroom` meets its contract: it answers the number of what the report call answers, and writes the headroom of its counts. Assumes nothing.
+-- `fildwuk_library_headroom` meets its contract: it answers the number of what the report call answers, and writes the headroom of its counts.
 use borrow.Author.Needs.{needs}
 use denote.Ref.{now}
 use Rattle.library_host.proofs.Told.{told-done, told-refused}

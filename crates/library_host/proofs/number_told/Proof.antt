@@ -1,4 +1,4 @@
--- `number_told` meets its contract: 0 for done, and the number that the refusal has. Assumes nothing.
+-- `number_told` meets its contract: 0 for done, and the number that the refusal has.
 use borrow.Author.Needs.{needs}
 use Rattle.library_host.proofs.number_told.Statement.{statement}
 use Rattle.library_host.proofs.number_told.Tie as tie

@@ -1,5 +1,5 @@
 -- `little_endian::read_chain` meets its contract. The loop's invariant: the first i coefficients are read. The measure is the count of
--- coefficients left. Assumes nothing.
+-- coefficients left.
 use mathlib.Core.Path.{_≡_, refl, sym, _∙_, ap}
 use mathlib.Core.List.{List}
 use Prim.Native.Nat.{ℕ, _+_, _-_, _≤_, _<_}

@@ -1,5 +1,5 @@
 -- `little_endian::read_coefficient` meets its contract. The two halves make a number n below 2 ^ 32; from 2 ^ 31 on it stands for n - 2 ^ 32, which
--- is - m - 1 with m = 2 ^ 32 - 1 - n. Assumes nothing.
+-- is - m - 1 with m = 2 ^ 32 - 1 - n.
 use mathlib.Core.Path.{_≡_, refl, sym, _∙_, ap}
 use mathlib.Core.Bool.{Bool, true, false, cond}
 use mathlib.Core.List.{List}

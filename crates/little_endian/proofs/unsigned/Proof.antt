@@ -1,4 +1,4 @@
--- `little_endian::unsigned` meets its contract. A negative x is - n - 1, and the number with its bits is 2 ^ 64 - 1 - n. Assumes nothing.
+-- `little_endian::unsigned` meets its contract. A negative x is - n - 1, and the number with its bits is 2 ^ 64 - 1 - n.
 use mathlib.Core.Path.{_≡_, refl, sym, _∙_, ap}
 use mathlib.Core.Bool.{true, false, true≢false}
 use Prim.Native.Nat.{_-_, _^_, _<_}

@@ -1,5 +1,5 @@
 -- `little_endian::write_number` meets its contract. The loop's invariant: the first i bytes of the number stand in place, and what is left of it
--- has the others. The measure is the number of bytes left. Assumes nothing.
+-- has the others. The measure is the number of bytes left.
 use mathlib.Core.Path.{_≡_, refl, sym, _∙_, ap, subst}
 use mathlib.Core.List.{List, _∷_, _++_, append-assoc}
 use Prim.Native.Nat.{ℕ, suc, _+_, _-_, _/_, _%_, _≤_, _<_}

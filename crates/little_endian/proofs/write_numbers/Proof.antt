@@ -1,5 +1,5 @@
 -- `little_endian::write_numbers` meets its contract. The loop's invariant: the bytes of the first i numbers stand from byte `at` on, and the rest is as
--- it was. The measure is the count of numbers left. Assumes nothing.
+-- it was. The measure is the count of numbers left.
 use mathlib.Core.Path.{_≡_, sym, _∙_, ap, ap₂}
 use mathlib.Core.List.{List, [], _∷_, _++_}
 use Prim.Native.Nat.{ℕ, _+_, _-_, _*_, _≤_, _<_}

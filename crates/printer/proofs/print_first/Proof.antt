@@ -1,4 +1,4 @@
--- `printer::print_first` meets its contract: where there are no more than n bytes, the first n are all of them. Assumes nothing.
+-- `printer::print_first` meets its contract: where there are no more than n bytes, the first n are all of them.
 use mathlib.Core.Path.{sym}
 use Prim.Native.Nat.{_≤_}
 use native.Mathlib.Omega.{arith}

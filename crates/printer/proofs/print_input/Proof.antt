@@ -1,5 +1,4 @@
 -- `printer::print_input` meets its contract: the array has more bytes than the longest sheet, so that they settle the text (`programText-take`).
--- Assumes nothing.
 use mathlib.Core.Path.{sym, _∙_, ap, subst}
 use mathlib.Core.List.{List}
 use Prim.Native.Nat.{ℕ, _<_}

@@ -1,4 +1,4 @@
--- `printer::print_sheet` meets its contract: the text follows the number that reading the sheet gives. Assumes nothing.
+-- `printer::print_sheet` meets its contract: the text follows the number that reading the sheet gives.
 use mathlib.Core.Path.{_≡_, refl, sym, _∙_, ap}
 use Prim.Native.Nat.{ℕ}
 use borrow.Author.Needs.{needs}

@@ -1,4 +1,4 @@
--- `printer::put_dimension` meets its contract: the text is `Dimension`'s to say, from what `report_at` ensures. Assumes nothing.
+-- `printer::put_dimension` meets its contract: the text is `Dimension`'s to say, from what `report_at` ensures.
 use mathlib.Core.Path.{_≡_, subst}
 use mathlib.Core.List.{List}
 use Prim.Native.Nat.{ℕ}

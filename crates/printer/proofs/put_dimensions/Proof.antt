@@ -1,5 +1,5 @@
 -- `printer::put_dimensions` meets its contract. The loop's invariant: the texts of the dimensions passed stand in `out`. The measure is the number of
--- dimensions left. Assumes nothing.
+-- dimensions left.
 use mathlib.Core.Path.{sym, _∙_}
 use Prim.Native.Nat.{suc, _-_}
 use native.Mathlib.Omega.{arith}

@@ -1,5 +1,5 @@
 -- `reduction_cases::answer` is safe and ends: the slots start at 0, each call keeps their count and the limit, and the layout is one that the
--- reduction asks for. Assumes nothing.
+-- reduction asks for.
 use mathlib.Core.Path.{_≡_, refl, sym, subst}
 use Prim.Native.Nat.{ℕ, zero, suc, _≤_}
 use native.Mathlib.Omega.{arith}

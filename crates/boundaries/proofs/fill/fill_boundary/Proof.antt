@@ -1,5 +1,5 @@
 -- `fill::fill_boundary` meets its contract. The invariant: the columns passed are those of the boundary matrix. The measure is how many are
--- left. Assumes nothing.
+-- left.
 use mathlib.Core.Path.{_≡_, refl, _∙_}
 use Prim.Native.Nat.{suc, _-_, _≤_}
 use native.Mathlib.Omega.{arith}

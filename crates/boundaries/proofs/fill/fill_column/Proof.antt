@@ -1,5 +1,5 @@
 -- `fill::fill_column` meets its contract. The invariant: the column holds what the first t faces give it. The measure is how many faces are
--- left. Assumes nothing.
+-- left.
 use mathlib.Core.Path.{_≡_, refl, sym, ap, subst, _∙_}
 use mathlib.Core.List.{List}
 use Prim.Native.Nat.{ℕ, suc, _+_, _-_, _<_, _≤_}

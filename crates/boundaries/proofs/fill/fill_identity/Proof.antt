@@ -1,5 +1,4 @@
 -- `fill::fill_identity` meets its contract. The invariant: the lines passed are those of the identity. The measure is how many are left.
--- Assumes nothing.
 use mathlib.Core.Path.{_≡_, refl, sym, _∙_}
 use mathlib.Core.Logic.{_⊎_, inl, inr, _≢_}
 use mathlib.Core.List.{List}

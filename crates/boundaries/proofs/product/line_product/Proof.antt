@@ -1,5 +1,4 @@
 -- `product::line_product` meets its contract. The invariant: the total is the sum of the first t terms. The measure is how many faces are left.
--- Assumes nothing.
 use mathlib.Core.Path.{_≡_, refl, sym, ap, subst, _∙_}
 use mathlib.Core.Logic.{⊎-elim}
 use mathlib.Core.List.{List}

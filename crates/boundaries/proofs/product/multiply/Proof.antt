@@ -1,5 +1,5 @@
 -- `product::multiply` meets its contract. The invariant: the columns passed are those of the product, and the largest so far is that of their
--- absolute values. The measure is how many are left. Assumes nothing.
+-- absolute values. The measure is how many are left.
 use mathlib.Core.Path.{_≡_, refl, sym, ap, subst, _∙_}
 use mathlib.Core.Logic.{_⊎_, inl, inr, ⊎-elim}
 use mathlib.Core.List.{List}

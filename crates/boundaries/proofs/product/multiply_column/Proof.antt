@@ -1,5 +1,5 @@
 -- `product::multiply_column` meets its contract. The invariant: the entries of the column in the lines passed are those of the product, and the
--- largest so far is that of their absolute values and the one handed over. The measure is how many lines are left. Assumes nothing.
+-- largest so far is that of their absolute values and the one handed over. The measure is how many lines are left.
 use mathlib.Core.Path.{_≡_, refl, sym, ap, subst, _∙_}
 use mathlib.Core.Logic.{_⊎_, inl, inr, ⊎-elim}
 use mathlib.Core.List.{List}

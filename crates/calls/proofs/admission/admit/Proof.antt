@@ -1,4 +1,4 @@
--- `admission::admit` meets its contract: each refusal is the first of the checks 1 to 9 that applies (`Refusals`). Assumes nothing.
+-- `admission::admit` meets its contract: each refusal is the first of the checks 1 to 9 that applies (`Refusals`).
 use mathlib.Core.Path.{_≡_, sym, _∙_, ap}
 use Prim.Native.Nat.{ℕ}
 use borrow.Author.Needs.{needs}

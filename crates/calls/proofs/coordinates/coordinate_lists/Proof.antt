@@ -1,5 +1,5 @@
 -- `coordinates::coordinate_lists` meets its contract: each return is one case of the definition of the call (`Admitting`, `ListAnswers`), which on
--- all chains is that on the chains with coefficients. Assumes nothing.
+-- all chains is that on the chains with coefficients.
 use mathlib.Core.Path.{_≡_, sym, subst, ap, _∙_}
 use mathlib.Core.List.{List}
 use Prim.Native.Nat.{ℕ, _*_}

@@ -1,4 +1,4 @@
--- `coordinates::coordinates` meets its contract: the call on one chain is the single call. Assumes nothing.
+-- `coordinates::coordinates` meets its contract: the call on one chain is the single call.
 use borrow.Author.Needs.{needs}
 use denote.Ref.{now}
 use Rattle.requests.specs.Question.{asked}

@@ -1,4 +1,4 @@
--- `report::report` meets its contract: the library's sheet has the library's limit. Assumes nothing.
+-- `report::report` meets its contract: the library's sheet has the library's limit.
 use borrow.Author.Needs.{needs}
 use Rattle.calls.proofs.report.report.Statement.{statement}
 use Rattle.calls.proofs.report.report.Tie as tie

@@ -1,5 +1,4 @@
 -- `report::report_at` meets its contract: each return is one case of the definition of the report call (`Admitting`, `ReportAnswers`).
--- Assumes nothing.
 use mathlib.Core.Path.{_∙_}
 use borrow.Author.Needs.{needs}
 use denote.Ref.{now}

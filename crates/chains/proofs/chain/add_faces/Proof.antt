@@ -1,5 +1,5 @@
 -- `chain::add_faces` meets its contract. The invariant: x times the column after t faces has been added. The measure is how many faces are
--- left. Assumes nothing.
+-- left.
 use mathlib.Core.Path.{_≡_, refl, sym, ap, subst, _∙_}
 use mathlib.Core.List.{List}
 use Prim.Native.Nat.{ℕ, suc, _+_, _-_, _^_, _<_, _≤_}

@@ -1,5 +1,5 @@
 -- `chain::boundary_not_zero` meets its contract. The first loop's invariant: the sums are the boundary of the coefficients passed. The second
--- loop's: the sums passed are 0. The measures are how many are left. Assumes nothing.
+-- loop's: the sums passed are 0. The measures are how many are left.
 use mathlib.Core.Path.{_≡_, refl, sym, ap, subst, _∙_}
 use mathlib.Core.Logic.{_≢_, ⊎-elim}
 use mathlib.Core.Bool.{Bool, true, false, not}

@@ -1,5 +1,5 @@
 -- `chain::coefficient_exceeds` meets its contract. The invariant: the coefficients passed lie within the limit. The measure is how many are
--- left. Assumes nothing.
+-- left.
 use mathlib.Core.Path.{_≡_, sym}
 use mathlib.Core.Bool.{Bool, true, false}
 use mathlib.Core.List.{List}

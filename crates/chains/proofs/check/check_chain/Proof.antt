@@ -1,4 +1,4 @@
--- `check::check_chain` meets its contract: 11 is told first, then 12. Assumes nothing.
+-- `check::check_chain` meets its contract: 11 is told first, then 12.
 use mathlib.Core.Path.{_≡_, sym, _∙_}
 use mathlib.Core.Bool.{false}
 use borrow.Author.Needs.{needs}

@@ -1,4 +1,4 @@
--- `check::check_chains` meets its contract. The invariant: no chain so far is at fault. The measure is how many are left. Assumes nothing.
+-- `check::check_chains` meets its contract. The invariant: no chain so far is at fault. The measure is how many are left.
 use mathlib.Core.Path.{_≡_, sym, ap, _∙_}
 use mathlib.Core.List.{List}
 use Prim.Native.Nat.{ℕ, _+_, _-_, _*_, _≤_, _<_}

@@ -1,4 +1,4 @@
--- `check::nonempty` meets its contract. Assumes nothing.
+-- `check::nonempty` meets its contract.
 use mathlib.Core.Path.{_≡_, refl}
 use mathlib.Core.Logic.{_≢_}
 use Prim.Native.Nat.{ℕ, zero, suc}

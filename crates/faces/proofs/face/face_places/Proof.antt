@@ -1,4 +1,4 @@
--- `face::face_places` meets its contract: an accepted sheet holds every face, so that none is missing. Assumes nothing.
+-- `face::face_places` meets its contract: an accepted sheet holds every face, so that none is missing.
 use mathlib.Core.Path.{_≡_, ap, _∙_}
 use mathlib.Core.List.{List}
 use Prim.Native.Nat.{ℕ, suc, _+_, _*_, _≤_}

@@ -1,4 +1,4 @@
--- `face::sign` meets its contract. Assumes nothing.
+-- `face::sign` meets its contract.
 use mathlib.Core.Path.{sym}
 use native.Mathlib.Omega.{arith}
 use Rattle.faces.proofs.Signs.{signs}

@@ -1,5 +1,5 @@
 -- `coordinate_lists::lists_through` meets its contract: each return is one case of the definition of the call (`HostListAnswers`), which on all chains
--- is that on the chains with coefficients. Assumes nothing.
+-- is that on the chains with coefficients.
 use mathlib.Core.Path.{_≡_, sym, subst, ap, _∙_}
 use mathlib.Core.List.{List}
 use Prim.Native.Nat.{ℕ, _*_}

@@ -1,4 +1,4 @@
--- `line::clear` meets its contract. The invariant: the entries passed are 0. The measure is what is left of the slice. Assumes nothing.
+-- `line::clear` meets its contract. The invariant: the entries passed are 0. The measure is what is left of the slice.
 use mathlib.Core.Path.{_≡_, refl, sym, _∙_}
 use mathlib.Core.List.{List}
 use Prim.Native.Nat.{ℕ, _-_, _<_, _≤_}

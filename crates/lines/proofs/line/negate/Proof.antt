@@ -1,4 +1,4 @@
--- `line::negate` meets its contract. The invariant: the blocks passed have been negated. The measure is what is left of the line. Assumes nothing.
+-- `line::negate` meets its contract. The invariant: the blocks passed have been negated. The measure is what is left of the line.
 use mathlib.Core.Path.{_≡_, ap, subst, _∙_}
 use mathlib.Core.Logic.{inr}
 use mathlib.Core.List.{List}

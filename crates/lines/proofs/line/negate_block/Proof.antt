@@ -1,4 +1,4 @@
--- `line::negate_block` meets its contract: 0 negated is 0. Assumes nothing.
+-- `line::negate_block` meets its contract: 0 negated is 0.
 use mathlib.Core.Path.{_≡_, sym, ap, _∙_}
 use Prim.Native.Nat.{_+_}
 use borrow.Author.Needs.{needs}

@@ -1,5 +1,4 @@
 -- `line::negate_places` meets its contract. The invariant: the places passed hold the negated entries. The measure is what is left of the line.
--- Assumes nothing.
 use mathlib.Core.Path.{_≡_, sym, ap, subst, _∙_}
 use mathlib.Core.List.{List}
 use Prim.Native.Nat.{ℕ, _+_, _-_, _<_, _≤_, max}

@@ -1,4 +1,4 @@
--- `line::subtract_block` meets its contract: taking a multiple of 0 changes nothing. Assumes nothing.
+-- `line::subtract_block` meets its contract: taking a multiple of 0 changes nothing.
 use mathlib.Core.Path.{_≡_, sym, subst}
 use lib.IntN.{ℤ, pos, _-ℤ_, _*ℤ_}
 use borrow.Author.Needs.{needs}

@@ -1,5 +1,5 @@
 -- `line::subtract_places` meets its contract. The invariant: the places passed hold the difference, and the largest so far is that of their absolute
--- values and the one handed over. The measure is what is left of the line. Assumes nothing.
+-- values and the one handed over. The measure is what is left of the line.
 use mathlib.Core.Path.{_≡_, sym, subst, _∙_}
 use mathlib.Core.Logic.{inl, inr, ⊎-elim}
 use mathlib.Core.List.{List}

@@ -1,4 +1,4 @@
--- `line::swap` meets its contract. The invariant: the blocks passed have been exchanged. The measure is what is left of the lines. Assumes nothing.
+-- `line::swap` meets its contract. The invariant: the blocks passed have been exchanged. The measure is what is left of the lines.
 use mathlib.Core.Path.{_≡_, subst, _∙_}
 use mathlib.Core.Logic.{_⊎_}
 use mathlib.Core.List.{List}

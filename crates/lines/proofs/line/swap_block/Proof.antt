@@ -1,4 +1,4 @@
--- `line::swap_block` meets its contract: an exchange of equal lines changes nothing. Assumes nothing.
+-- `line::swap_block` meets its contract: an exchange of equal lines changes nothing.
 use borrow.Author.Needs.{needs}
 use Rattle.lines.specs.Slice.{block}
 use Rattle.lines.proofs.Peaks.{bounded-small}

@@ -1,4 +1,4 @@
--- `line::swap_entries` meets its contract. Assumes nothing.
+-- `line::swap_entries` meets its contract.
 use mathlib.Core.Path.{_≡_, ap, _∙_}
 use Prim.Native.Nat.{ℕ, _+_, _<_, _≤_, max}
 use native.Mathlib.Omega.{arith}

@@ -1,5 +1,4 @@
 -- `line::swap_places` meets its contract. The invariant: the places passed have been exchanged. The measure is what is left of the lines.
--- Assumes nothing.
 use mathlib.Core.Path.{_≡_, ap, subst, _∙_}
 use mathlib.Core.Logic.{_⊎_}
 use mathlib.Core.List.{List}

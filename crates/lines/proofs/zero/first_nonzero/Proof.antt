@@ -1,4 +1,4 @@
--- `zero::first_nonzero` meets its contract. The invariant: the places passed are 0. The measure is what is left of the line. Assumes nothing.
+-- `zero::first_nonzero` meets its contract. The invariant: the places passed are 0. The measure is what is left of the line.
 use mathlib.Core.Path.{ap, subst, _∙_}
 use Prim.Native.Nat.{ℕ, _+_, _-_}
 use native.Mathlib.Omega.{arith}

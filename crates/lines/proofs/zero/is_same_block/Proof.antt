@@ -1,4 +1,4 @@
--- `zero::is_same_block` meets its contract. The invariant: unless a difference was noted, the entries passed are equal. Assumes nothing.
+-- `zero::is_same_block` meets its contract. The invariant: unless a difference was noted, the entries passed are equal.
 use mathlib.Core.Path.{_≡_, sym, _∙_}
 use mathlib.Core.Logic.{⊎-elim}
 use mathlib.Core.Bool.{Bool, false, false≢true}

@@ -1,4 +1,4 @@
--- `zero::is_zero_block` meets its contract. The invariant: unless one was noted, no entry passed differs from 0. Assumes nothing.
+-- `zero::is_zero_block` meets its contract. The invariant: unless one was noted, no entry passed differs from 0.
 use mathlib.Core.Path.{_≡_, sym, _∙_}
 use mathlib.Core.Logic.{⊎-elim}
 use mathlib.Core.Bool.{Bool, false, false≢true}

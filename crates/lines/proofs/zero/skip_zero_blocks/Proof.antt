@@ -1,5 +1,4 @@
 -- `zero::skip_zero_blocks` meets its contract. The invariant: the places passed are 0. The measure is what is left of the line.
--- Assumes nothing.
 use Prim.Native.Nat.{_-_}
 use native.Mathlib.Omega.{arith}
 use borrow.Author.Needs.{needs}

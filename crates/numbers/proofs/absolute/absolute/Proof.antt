@@ -1,4 +1,4 @@
--- `absolute::absolute` meets its contract. Assumes nothing.
+-- `absolute::absolute` meets its contract.
 use mir.Syntax.{w64}
 use Rattle.words.specs.Negate.{opposite-fits}
 use Rattle.words.proofs.Absolute.{absolute-below, absolute-above, unsigned-fits, unsigned-is}

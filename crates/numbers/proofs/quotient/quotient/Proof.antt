@@ -1,5 +1,4 @@
 -- `numbers::quotient::quotient` meets its contract: the machine's quotient is `floor`, or one more where the remainder is below 0.
--- Assumes nothing.
 use mathlib.Core.Path.{sym, ap, subst, _∙_}
 use Prim.Native.Nat.{_≤_, zero-le}
 use lib.IntN.{ℤ, natAbs}

@@ -1,5 +1,4 @@
 -- `residue::modulo` meets its contract: `%` leaves a remainder with the dividend's sign, and one that is negative is raised by d.
--- Assumes nothing.
 use mathlib.Core.Path.{_≡_, sym, ap, subst, _∙_}
 use mathlib.Core.Bool.{true, false}
 use Prim.Native.Nat.{_<_}

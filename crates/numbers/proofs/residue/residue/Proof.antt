@@ -1,4 +1,4 @@
--- `residue::residue` meets its contract: twice the remainder exceeds d exactly when the remainder exceeds what it lacks of d. Assumes nothing.
+-- `residue::residue` meets its contract: twice the remainder exceeds d exactly when the remainder exceeds what it lacks of d.
 use mathlib.Core.Path.{_≡_, sym, ap, ap₂, subst, _∙_}
 use mathlib.Core.Logic.{_≢_}
 use native.Mathlib.Nat as NatL

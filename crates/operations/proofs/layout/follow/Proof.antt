@@ -1,4 +1,4 @@
--- `operations::layout::follow` meets its contract, by what `on_lines` ensures of the follower and then of the inverse companion. Assumes nothing.
+-- `operations::layout::follow` meets its contract, by what `on_lines` ensures of the follower and then of the inverse companion.
 use mathlib.Core.Path.{_≡_, sym, subst, _∙_}
 use borrow.Author.Needs.{needs}
 use Prim.Native.Nat.{ℕ}

@@ -1,5 +1,4 @@
 -- `bring_pivot` meets its contract: each operation is one of those of step b, and the test of the sign is the one that step b makes.
--- Assumes nothing.
 use mathlib.Core.Path.{_≡_, _∙_}
 use Prim.Native.Nat.{ℕ}
 use lib.ListN.{length}

@@ -1,5 +1,5 @@
 -- `clear_column` meets its contract. The invariant: what is left of the row pass from the present state is the whole pass from the start. The
--- measure is how many rows are left. Assumes nothing.
+-- measure is how many rows are left.
 use mathlib.Core.Path.{_≡_, refl, _∙_, ap}
 use Prim.Native.Nat.{ℕ, _-_}
 use native.Mathlib.Omega.{arith}

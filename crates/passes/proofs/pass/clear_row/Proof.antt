@@ -1,5 +1,5 @@
 -- `clear_row` meets its contract. The invariant: what is left of the column pass from the present state is the whole pass from the start. The
--- measure is how many columns are left. A column whose entry is 0 is passed over (`columns-first`). Assumes nothing.
+-- measure is how many columns are left. A column whose entry is 0 is passed over (`columns-first`).
 use mathlib.Core.Path.{_≡_, _∙_}
 use Prim.Native.Nat.{_+_, _-_}
 use native.Mathlib.Omega.{arith}

@@ -1,5 +1,5 @@
 -- `reduce_matrix` meets its contract. The invariant: the machine has come from letter a of stage 0 to letter a of stage k. The measure counts the stages
--- that are left, and within a stage the absolute value of the entry to be chosen. Assumes nothing.
+-- that are left, and within a stage the absolute value of the entry to be chosen.
 use mathlib.Core.Path.{_∙_}
 use native.Mathlib.Omega.{arith}
 use Prim.Native.Nat.{_+_}

@@ -1,5 +1,5 @@
 -- The cycle of calls of a stage: pivot choice, row pass and column pass meet their contracts. Each measure is 4 times the rounds left and a number
--- below 4 for the place in the round (`Measures`). Where a function goes, with what holds there, is a lemma of `Stages`. Assumes nothing.
+-- below 4 for the place in the round (`Measures`). Where a function goes, with what holds there, is a lemma of `Stages`.
 use mathlib.Core.Path.{_≡_, refl, sym, ap, _∙_}
 use mathlib.Core.List.{List}
 use Prim.Native.Nat.{ℕ, _<_}

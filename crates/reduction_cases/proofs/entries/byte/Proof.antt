@@ -1,4 +1,4 @@
--- `entries::byte` meets its contract. Assumes nothing.
+-- `entries::byte` meets its contract.
 use native.Mathlib.Omega.{arith}
 use borrow.Author.Needs.{needs}
 use Rattle.reduction_cases.proofs.entries.byte.Statement.{statement}

@@ -1,5 +1,5 @@
 -- `entries::read_entries` meets its contract. The invariant: i entries are read, and every slot lies within the limit. The measure is what is
--- left of the input. Assumes nothing.
+-- left of the input.
 use mathlib.Core.Path.{_≡_}
 use mathlib.Core.List.{List}
 use Prim.Native.Nat.{ℕ, _*_, _-_, _≤_}

@@ -1,4 +1,4 @@
--- `entries::signed` is safe: the difference is that of two numbers below 2 ^ 33. Assumes nothing.
+-- `entries::signed` is safe: the difference is that of two numbers below 2 ^ 33.
 use Prim.Native.Nat.{ℕ, _^_, _<_}
 use native.Mathlib.Omega.{arith}
 use lib.IntN.{pos, _-ℤ_}

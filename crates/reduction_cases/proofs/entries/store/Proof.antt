@@ -1,4 +1,4 @@
--- `entries::store` meets its contract: what it stores has passed both tests of the limit. Assumes nothing.
+-- `entries::store` meets its contract: what it stores has passed both tests of the limit.
 use Prim.Native.Nat.{_≤_}
 use lib.IntN.{ℤ, natAbs}
 use mir.Syntax.{w32, w64}

@@ -1,4 +1,4 @@
--- `entries::write_identities` meets its contract: each call keeps the length and the limit. Assumes nothing.
+-- `entries::write_identities` meets its contract: each call keeps the length and the limit.
 use native.Mathlib.Omega.{arith}
 use borrow.Author.Needs.{needs}
 use Rattle.reduction_cases.proofs.entries.write_identities.Statement.{statement}

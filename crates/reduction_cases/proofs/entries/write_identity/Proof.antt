@@ -1,5 +1,5 @@
 -- `entries::write_identity` meets its contract. The invariant: the next place is at most 9 further for each line passed, and every slot lies
--- within the limit. The measure is the count of lines left. Assumes nothing.
+-- within the limit. The measure is the count of lines left.
 use mathlib.Core.Path.{_≡_}
 use mathlib.Core.List.{List}
 use Prim.Native.Nat.{ℕ, _+_, _*_, _-_, _≤_}

@@ -1,4 +1,4 @@
--- `layout::lay_out` meets its contract: a matrix of at most 8 lines of at most 8 entries has at most 64. Assumes nothing.
+-- `layout::lay_out` meets its contract: a matrix of at most 8 lines of at most 8 entries has at most 64.
 use mathlib.Core.Path.{_≡_, refl}
 use Prim.Native.Nat.{ℕ, _*_, _≤_}
 use native.Mathlib.Nat as NatL

@@ -1,4 +1,4 @@
--- `print::print_line` is safe and ends. The invariant: i is at most the count. The measure is the count of entries left. Assumes nothing.
+-- `print::print_line` is safe and ends. The invariant: i is at most the count. The measure is the count of entries left.
 use Prim.Native.Nat.{_*_, _-_, _≤_}
 use native.Mathlib.Nat as NatL
 use native.Mathlib.Omega.{arith}

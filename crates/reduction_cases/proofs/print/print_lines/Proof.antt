@@ -1,4 +1,4 @@
--- `print::print_lines` is safe and ends. The invariant: i is at most the count of lines. The measure is the count of lines left. Assumes nothing.
+-- `print::print_lines` is safe and ends. The invariant: i is at most the count of lines. The measure is the count of lines left.
 use Prim.Native.Nat.{_*_, _-_, _≤_}
 use native.Mathlib.Nat as NatL
 use native.Mathlib.Omega.{arith}

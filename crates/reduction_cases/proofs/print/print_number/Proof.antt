@@ -1,4 +1,4 @@
--- `print::print_number` is safe: the absolute value of a number of 32 bits fits 64 bits. Assumes nothing.
+-- `print::print_number` is safe: the absolute value of a number of 32 bits fits 64 bits.
 use mathlib.Core.Path.{_≡_, sym, _∙_}
 use mathlib.Core.Bool.{true, false, false≢true}
 use Prim.Native.Nat.{ℕ, _≤_}

@@ -1,4 +1,4 @@
--- `scans::pivot::absolute` meets its contract. Assumes nothing.
+-- `scans::pivot::absolute` meets its contract.
 use Prim.Native.Nat.{_^_, _<_}
 use native.Mathlib.Omega.{arith}
 use lib.IntN.{natAbs}

@@ -1,5 +1,5 @@
 -- `scans::pivot::along_row` meets its contract. The loop's invariant: the row up to place j has been scanned. The measure is what is left of the
--- row. Assumes nothing.
+-- row.
 use Prim.Native.Nat.{_-_}
 use native.Mathlib.Omega.{arith}
 use borrow.Author.Needs.{needs}

@@ -1,4 +1,4 @@
--- `scans::pivot::better` meets its contract: the choice as `better` makes it. Assumes nothing.
+-- `scans::pivot::better` meets its contract: the choice as `better` makes it.
 use mathlib.Core.Path.{_≡_, sym, ap, subst, _∙_}
 use Prim.Native.Nat.{_+_, _≤_}
 use lib.IntN.{ℤ, pos, natAbs}

@@ -1,5 +1,5 @@
 -- `scans::pivot::find_pivot` meets its contract. The loop's invariant: the rows up to row i have been scanned. The measure is the number of rows
--- left. Assumes nothing.
+-- left.
 use mathlib.Core.Path.{sym, ap, _∙_}
 use Prim.Native.Nat.{_-_}
 use native.Mathlib.Omega.{arith}

@@ -1,5 +1,5 @@
 -- `scans::remainder::column_keeps` meets its contract. The loop's invariant: no entry passed is nonzero. The measure is what is left of the
--- column. Assumes nothing.
+-- column.
 use mathlib.Core.Path.{sym, _∙_}
 use Prim.Native.Nat.{suc, _-_}
 use native.Mathlib.Omega.{arith}

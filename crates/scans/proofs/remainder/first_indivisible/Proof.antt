@@ -1,5 +1,5 @@
 -- `scans::remainder::first_indivisible` meets its contract. The loop's invariant: the pivot divides every entry of the rows passed. The measure
--- is the number of rows left. Assumes nothing.
+-- is the number of rows left.
 use mathlib.Core.Path.{_≡_, sym, ap, subst, _∙_}
 use Prim.Native.Nat.{suc, _-_}
 use native.Mathlib.Omega.{arith}

@@ -1,5 +1,5 @@
 -- `scans::remainder::row_indivisible` meets its contract. The loop's invariant: the divisor divides every entry passed. The measure is what is
--- left of the row. Assumes nothing.
+-- left of the row.
 use mathlib.Core.Path.{refl, sym, _∙_}
 use Prim.Native.Nat.{_-_}
 use native.Mathlib.Omega.{arith}

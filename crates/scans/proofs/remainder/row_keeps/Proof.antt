@@ -1,5 +1,4 @@
 -- `scans::remainder::row_keeps` meets its contract: the row keeps a nonzero entry exactly where its first one stands before its end.
--- Assumes nothing.
 use native.Mathlib.Omega.{arith}
 use borrow.Author.Needs.{needs}
 use Rattle.lines.proofs.Spans.{line-span, span-inside}

@@ -1,5 +1,5 @@
 -- The proof of the cycle of calls {put_digits}: the digits of a tenth are put, and the last digit behind them (`digits-large`). The measure is the
--- number itself. Assumes nothing.
+-- number itself.
 use Prim.Native.Nat.{ℕ, suc, _<_}
 use mathlib.Core.Path.{_≡_, sym, _∙_, ap}
 use native.Mathlib.Omega.{arith}

@@ -1,4 +1,4 @@
--- `text::decimal::put` meets its contract: one byte put over is a store. Assumes nothing.
+-- `text::decimal::put` meets its contract: one byte put over is a store.
 use borrow.Author.Needs.{needs}
 use native.Mathlib.Omega.{arith}
 use Rattle.text.specs.PutLaws.{puts-byte}

@@ -1,5 +1,5 @@
 -- `text::decimal::put_decimal` meets its contract. The size of a negative number is computed without leaving the word (`Negative`), and the
--- digits of the size stand behind the sign. Assumes nothing.
+-- digits of the size stand behind the sign.
 use mathlib.Core.Path.{ap}
 use native.Mathlib.Omega.{arith}
 use lib.ListN.{length}

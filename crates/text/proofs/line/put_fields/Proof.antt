@@ -1,5 +1,5 @@
 -- `text::line::put_fields` meets its contract. The loop's invariant is `Fields`: the numbers passed are put, each after a space.
--- The measure is how many are left. Assumes nothing.
+-- The measure is how many are left.
 use mathlib.Core.Path.{_∙_}
 use Prim.Native.Nat.{_-_}
 use native.Mathlib.Omega.{arith}

@@ -1,4 +1,4 @@
--- `text::line::put_heading` meets its contract: the parts of the line stand one behind the other (`heading-put`). Assumes nothing.
+-- `text::line::put_heading` meets its contract: the parts of the line stand one behind the other (`heading-put`).
 use mathlib.Core.Path.{_∙_, subst}
 use native.Mathlib.Omega.{arith}
 use lib.IntN.{ℤ}

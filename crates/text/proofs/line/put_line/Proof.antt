@@ -1,4 +1,4 @@
--- `text::line::put_line` meets its contract: the letter, the fields and the line feed stand one behind the other. Assumes nothing.
+-- `text::line::put_line` meets its contract: the letter, the fields and the line feed stand one behind the other.
 use native.Mathlib.Omega.{arith}
 use borrow.Author.Needs.{needs}
 use Rattle.text.specs.PutLaws.{within-length, within-append, within-more}

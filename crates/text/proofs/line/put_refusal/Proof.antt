@@ -1,4 +1,4 @@
--- `text::line::put_refusal` meets its contract: the single number of the line is the refusal's. Assumes nothing.
+-- `text::line::put_refusal` meets its contract: the single number of the line is the refusal's.
 use mathlib.Core.Path.{_∙_, ap, subst}
 use mathlib.Core.List.{[], _∷_}
 use native.Mathlib.Omega.{arith}

@@ -1,5 +1,5 @@
 -- `text::line::put_report` meets its contract. The loop's invariant is `Generators`: the lines of the generators passed are put behind the first
--- line. The measure is how many are left. Assumes nothing.
+-- line. The measure is how many are left.
 use mathlib.Core.Path.{_∙_}
 use Prim.Native.Nat.{_+_, _-_, _*_, _≤_}
 use native.Mathlib.Omega.{arith}

@@ -1,4 +1,4 @@
--- `layouts::first_layout` meets its contract: the room for the matrix is a product of two counts. Assumes nothing.
+-- `layouts::first_layout` meets its contract: the room for the matrix is a product of two counts.
 use Prim.Native.Nat.{_≤_, _*_, _^_}
 use native.Mathlib.Omega.{arith}
 use borrow.Author.Needs.{needs}

@@ -1,4 +1,4 @@
--- `layouts::second_layout` meets its contract: every place is a sum of products of two counts. Assumes nothing.
+-- `layouts::second_layout` meets its contract: every place is a sum of products of two counts.
 use Prim.Native.Nat.{_≤_, _*_, _^_}
 use native.Mathlib.Omega.{arith}
 use borrow.Author.Needs.{needs}

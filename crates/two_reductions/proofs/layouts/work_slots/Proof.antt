@@ -1,4 +1,4 @@
--- `layouts::work_slots` meets its contract. Assumes nothing.
+-- `layouts::work_slots` meets its contract.
 use native.Mathlib.Omega.{arith}
 use borrow.Author.Needs.{needs}
 use Rattle.two_reductions.proofs.Room.{slots-below, max-below}

@@ -1,5 +1,5 @@
 -- `reductions::fill_first` meets its contract: the boundary matrix, V and its inverse are written one after another in a slice of zeros, each
--- where the others do not stand. Assumes nothing.
+-- where the others do not stand.
 use mathlib.Core.Path.{_≡_, sym, subst, _∙_, ap}
 use mathlib.Core.List.{List}
 use mathlib.Core.Logic.{⊎-elim}

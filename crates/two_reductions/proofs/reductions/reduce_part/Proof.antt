@@ -1,5 +1,4 @@
 -- `reductions::reduce_part` meets its contract: each call's answer is one step of the definition of the two reductions (`Outcomes`).
--- Assumes nothing.
 use mathlib.Core.Path.{_≡_, refl, sym, _∙_, ap}
 use Prim.Native.Nat.{ℕ}
 use native.Mathlib.Omega.{arith}

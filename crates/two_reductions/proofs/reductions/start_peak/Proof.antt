@@ -1,4 +1,4 @@
--- `reductions::start_peak` meets its contract: 0 without cells, else 1. Assumes nothing.
+-- `reductions::start_peak` meets its contract: 0 without cells, else 1.
 use mathlib.Core.Path.{_≡_, refl}
 use mathlib.Core.Logic.{_≢_}
 use Prim.Native.Nat.{ℕ, zero, suc}

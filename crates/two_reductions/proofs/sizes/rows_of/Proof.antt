@@ -1,4 +1,4 @@
--- `sizes::rows_of` meets its contract: dimension 0 has no rows. Assumes nothing.
+-- `sizes::rows_of` meets its contract: dimension 0 has no rows.
 use mathlib.Core.Path.{sym, _∙_}
 use native.Mathlib.Omega.{arith}
 use borrow.Author.Needs.{needs}

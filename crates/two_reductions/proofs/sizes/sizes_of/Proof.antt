@@ -1,4 +1,4 @@
--- `sizes::sizes_of` meets its contract: each size is a field of the header. Assumes nothing.
+-- `sizes::sizes_of` meets its contract: each size is a field of the header.
 use borrow.Author.Needs.{needs}
 use denote.Ref.{now}
 use Rattle.two_reductions.proofs.Sheet.{sizes-read}

@@ -1,5 +1,5 @@
 -- `coordinates::row_times_chain` meets its contract. The invariant: the total is the sum of the products passed, each of which is at most
--- the product of the two limits. The measure is what is left of the chain. Assumes nothing.
+-- the product of the two limits. The measure is what is left of the chain.
 use mathlib.Core.Path.{_≡_, refl, sym, ap, subst, _∙_}
 use mathlib.Core.Logic.{⊎-elim}
 use mathlib.Core.List.{List}

@@ -1,5 +1,5 @@
 -- `coordinates::write_coordinates` meets its contract. The invariant: the coordinates at the rows passed whose kind is not 1 stand in the slice.
--- The measure is how many rows are left. Assumes nothing.
+-- The measure is how many rows are left.
 use mathlib.Core.Path.{_≡_, refl, sym, ap, ap₂, subst, _∙_}
 use mathlib.Core.Logic.{⊎-elim}
 use mathlib.Core.List.{List, [], _∷_}

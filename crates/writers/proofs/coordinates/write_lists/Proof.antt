@@ -1,5 +1,4 @@
 -- `coordinates::write_lists` meets its contract. The invariant: the lists of the chains passed are written. The measure is how many are left.
--- Assumes nothing.
 use mathlib.Core.Path.{_≡_, refl, ap, ap₂, _∙_}
 use Prim.Native.Nat.{ℕ, _+_, _-_, _*_, _≤_}
 use native.Mathlib.Nat.{le-antisymm}

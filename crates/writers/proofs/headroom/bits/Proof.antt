@@ -1,4 +1,4 @@
--- `headroom::bits` meets its contract. Assumes nothing.
+-- `headroom::bits` meets its contract.
 use native.Mathlib.Omega.{arith}
 use lib.Count.{leading-le}
 use Rattle.reports.proofs.BitsLaws.{bits-leading}

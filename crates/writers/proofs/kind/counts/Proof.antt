@@ -1,4 +1,4 @@
--- `kind::counts` meets its contract. Assumes nothing.
+-- `kind::counts` meets its contract.
 use mathlib.Core.Path.{refl}
 use Rattle.reports.specs.Report.{torsionCount}
 use Rattle.writers.proofs.Held.{matrix-held}

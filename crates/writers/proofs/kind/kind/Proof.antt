@@ -1,4 +1,4 @@
--- `kind::kind` meets its contract. Assumes nothing.
+-- `kind::kind` meets its contract.
 use mathlib.Core.Path.{sym, _∙_}
 use borrow.Author.Needs.{needs}
 use mir.Facts.{toZ-ofZ}

@@ -1,5 +1,4 @@
 -- `kind::reported_count` meets its contract. The invariant: so many of the rows passed are reported. The measure is how many rows are left.
--- Assumes nothing.
 use mathlib.Core.Path.{_≡_, refl, sym, ap, _∙_}
 use mathlib.Core.Logic.{⊎-elim}
 use mathlib.Core.List.{List, [], _∷_}

@@ -1,5 +1,5 @@
 -- `report::write_generators` meets its contract. The invariant: the columns of G for the rows passed whose kind is not 1 stand in the report.
--- The measure is how many rows are left. Assumes nothing.
+-- The measure is how many rows are left.
 use mathlib.Core.Path.{_≡_, sym, ap, subst, _∙_}
 use mathlib.Core.Logic.{⊎-elim}
 use mathlib.Core.List.{List}

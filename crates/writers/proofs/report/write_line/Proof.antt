@@ -1,5 +1,4 @@
 -- `report::write_line` meets its contract. The invariant: the entries passed stand in the report. The measure is how many are left.
--- Assumes nothing.
 use mathlib.Core.Path.{_≡_, refl, sym, ap, _∙_}
 use mathlib.Core.List.{List, [], _∷_, _++_}
 use Prim.Native.Nat.{ℕ, zero, suc, _+_, _-_, _≤_, _<_}

@@ -1,5 +1,5 @@
 -- `report::write_orders` meets its contract. The invariant: the orders among the kinds of the rows passed stand in the report. The measure is
--- how many rows are left. Assumes nothing.
+-- how many rows are left.
 use mathlib.Core.Path.{_≡_, refl, sym, ap, _∙_}
 use mathlib.Core.Logic.{⊎-elim}
 use mathlib.Core.List.{[], _∷_}

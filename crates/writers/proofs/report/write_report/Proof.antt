@@ -1,4 +1,4 @@
--- `report::write_report` meets its contract: the counts, the orders and the columns are written one behind the other. Assumes nothing.
+-- `report::write_report` meets its contract: the counts, the orders and the columns are written one behind the other.
 use mathlib.Core.Path.{sym, ap, subst, _∙_}
 use mathlib.Core.List.{List, [], _∷_, _++_, map}
 use Prim.Native.Nat.{ℕ, zero, suc, _+_, _*_, _-_, _^_, _≤_, _<_}

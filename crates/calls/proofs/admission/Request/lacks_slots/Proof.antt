@@ -1,4 +1,4 @@
--- `Request::lacks_slots` meets its contract: by cases on what is asked, and a count is below 65536. Assumes nothing.
+-- `Request::lacks_slots` meets its contract: by cases on what is asked, and a count is below 65536.
 use mathlib.Core.Path.{_≡_, sym, ap, _∙_}
 use mathlib.Core.Bool.{not}
 use Prim.Native.Nat.{ℕ, _*_, _/_, _^_, _≤_, _<_}

@@ -1,4 +1,4 @@
--- `Request::work_slots` meets its contract: the two reductions are laid into so many slots. Assumes nothing.
+-- `Request::work_slots` meets its contract: the two reductions are laid into so many slots.
 use borrow.Author.Needs.{needs}
 use Rattle.calls.proofs.admission.Request.work_slots.Statement.{statement}
 use Rattle.calls.proofs.admission.Request.work_slots.Tie as tie

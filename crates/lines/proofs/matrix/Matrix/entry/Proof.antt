@@ -1,4 +1,4 @@
--- `Matrix::entry` meets its contract. Assumes nothing.
+-- `Matrix::entry` meets its contract.
 use mathlib.Core.Path.{ap, _∙_}
 use Prim.Native.Nat.{ℕ, _+_, _≤_}
 use native.Mathlib.Omega.{arith}

@@ -1,4 +1,4 @@
--- `Matrix::line` meets its contract: nothing wraps, since the matrix ends below 2 ^ 63. Assumes nothing.
+-- `Matrix::line` meets its contract: nothing wraps, since the matrix ends below 2 ^ 63.
 use native.Mathlib.Nat as NatL
 use native.Mathlib.Omega.{arith}
 use borrow.Author.Needs.{needs}

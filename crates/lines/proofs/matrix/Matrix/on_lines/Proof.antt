@@ -1,4 +1,4 @@
--- `Matrix::on_lines` meets its contract: a matrix whose lines are empty holds nothing that an operation changes. Assumes nothing.
+-- `Matrix::on_lines` meets its contract: a matrix whose lines are empty holds nothing that an operation changes.
 use borrow.Author.Needs.{needs}
 use Rattle.matrices.specs.Operation.{onRows}
 use Rattle.lines.specs.Matrices.{contents}

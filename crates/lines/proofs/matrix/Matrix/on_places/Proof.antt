@@ -1,5 +1,5 @@
 -- `Matrix::on_places` meets its contract: a subtraction by what `line::subtract_places` ensures of the places of one line, another operation by what
--- `swap_places` and `negate_places` ensure. Assumes nothing.
+-- `swap_places` and `negate_places` ensure.
 use mathlib.Core.Path.{_≡_, sym, subst}
 use Prim.Native.Nat.{ℕ, _+_, _<_}
 use borrow.Author.Needs.{needs}

@@ -1,5 +1,4 @@
--- `Matrix::on_wide_lines` meets its contract, by what `line::subtract`, `line::swap` and `line::negate` ensure of lines of the matrix. Assumes
--- nothing.
+-- `Matrix::on_wide_lines` meets its contract, by what `line::subtract`, `line::swap` and `line::negate` ensure of lines of the matrix.
 use mathlib.Core.Path.{refl}
 use mathlib.Core.Logic.{inl}
 use Rattle.matrices.specs.Operation.{swap, negate}

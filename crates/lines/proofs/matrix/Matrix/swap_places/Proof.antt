@@ -1,4 +1,4 @@
--- `Matrix::swap_places` meets its contract. The invariant: the lines passed have been changed. The measure is how many are left. Assumes nothing.
+-- `Matrix::swap_places` meets its contract. The invariant: the lines passed have been changed. The measure is how many are left.
 use mathlib.Core.Path.{_≡_, _∙_}
 use Prim.Native.Nat.{ℕ, _+_, _-_, _<_}
 use native.Mathlib.Omega.{arith}

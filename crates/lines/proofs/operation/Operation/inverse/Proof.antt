@@ -1,4 +1,4 @@
--- `Operation::inverse` meets its contract, case by case. Assumes nothing.
+-- `Operation::inverse` meets its contract, case by case.
 use mathlib.Core.Path.{sym, ap, subst, _∙_}
 use Prim.Native.Nat.{_≤_}
 use lib.IntN.{ℤ, natAbs}

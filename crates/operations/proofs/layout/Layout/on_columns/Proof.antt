@@ -1,4 +1,4 @@
--- `operations::layout::Layout::on_columns` meets its contract: the matrix undergoes it, then its companions of the columns. Assumes nothing.
+-- `operations::layout::Layout::on_columns` meets its contract: the matrix undergoes it, then its companions of the columns.
 use mathlib.Core.Path.{_∙_}
 use borrow.Author.Needs.{needs}
 use Rattle.lines.specs.Operations.{operationOf}

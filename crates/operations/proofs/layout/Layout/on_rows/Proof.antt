@@ -1,4 +1,4 @@
--- `operations::layout::Layout::on_rows` meets its contract: the matrix undergoes it, then its companions of the rows. Assumes nothing.
+-- `operations::layout::Layout::on_rows` meets its contract: the matrix undergoes it, then its companions of the rows.
 use mathlib.Core.Path.{_∙_}
 use borrow.Author.Needs.{needs}
 use Rattle.lines.specs.Operations.{operationOf}

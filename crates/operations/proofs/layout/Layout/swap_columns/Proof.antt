@@ -1,4 +1,4 @@
--- `operations::layout::Layout::swap_columns` meets its contract: a column exchanged with itself leaves all as it is. Assumes nothing.
+-- `operations::layout::Layout::swap_columns` meets its contract: a column exchanged with itself leaves all as it is.
 use borrow.Author.Needs.{needs}
 use Rattle.matrices.specs.Operation.{swap}
 use Rattle.operations.proofs.Unchanged.{swap-fits, unchanged}
