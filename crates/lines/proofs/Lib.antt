@@ -6,7 +6,4 @@ pub mod Store
 pub mod Blocks
 pub mod Zeros
 pub mod Spans
-pub mod Holding
-pub mod Operations
-pub mod Subtraction
-pub mod Places
+pub mod UpTo

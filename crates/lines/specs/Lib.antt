@@ -1,4 +1,3 @@
 -- What the contracts of src/ cite.
 pub mod Slice
 pub mod Matrices
-pub mod Operations

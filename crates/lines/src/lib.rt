@@ -1,5 +1,4 @@
-// Matrices in a lent slice of signed 32-bit numbers, and operations on their lines.
+// Lines in a lent slice of signed 32-bit numbers, operations on them, and matrices that stand there by lines.
 pub mod line;
 pub mod matrix;
-pub mod operation;
 pub mod zero;

@@ -20,7 +20,7 @@ use Rattle.reduction_steps.specs.State.{State, made, tooWide, largest, noted, w
 use Rattle.reduction_laws.specs.Tables.{entry-table, table-ext, Eq-table, tableLargest-table}
 use Rattle.lines.specs.Slice.{entryLimit, at, lineAt, Small, Under, Bounded, Covered}
 use Rattle.lines.specs.Matrices.{Held, contents, Entries, EntryOf, Exceeds, Became}
-use Rattle.lines.specs.Operations.{Fits, Writes, OnLines}
+use Rattle.elementary_operations.specs.Operations.{Fits, Writes, OnLines}
 use Rattle.lines.proofs.Peaks.{covered-trans, under-covered, small-bounded}
 use Rattle.reduction_laws.specs.Shape.{linesAnew}
 use Rattle.lines.specs.declared.matrix.Matrix.{Matrix}

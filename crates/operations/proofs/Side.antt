@@ -14,9 +14,9 @@ use Rattle.reduction_laws.specs.Tables.{table-entry}
 use Rattle.reduction_laws.specs.Shape.{Shaped, linesAnew, rows-anew, columns-anew}
 use Rattle.lines.specs.Slice.{entryLimit}
 use Rattle.lines.specs.Matrices.{end, Held, contents, Entries, EntryOf}
-use Rattle.lines.specs.Operations.{Fits, Writes}
+use Rattle.elementary_operations.specs.Operations.{Fits, Writes}
 use Rattle.lines.specs.declared.matrix.Matrix.{Matrix}
-use Rattle.lines.proofs.Operations.{Fits-inverse}
+use Rattle.elementary_operations.proofs.Operations.{Fits-inverse}
 use Rattle.operations.specs.Laid.{Laid, sizesOf, linesOf, stateOf}
 use Rattle.operations.specs.declared.layout.Layout.{Layout}
 use Rattle.operations.proofs.Regions.{Disjoint}

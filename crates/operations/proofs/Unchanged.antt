@@ -16,7 +16,7 @@ use lib.ListN.{length}
 use Rattle.reduction_steps.specs.State.{made, onRow, onColumn}
 use Rattle.lines.specs.Slice.{entryLimit, Small, Under, Bounded}
 use Rattle.lines.specs.Matrices.{contents, Entries, Holds}
-use Rattle.lines.specs.Operations.{Fits, Writes}
+use Rattle.elementary_operations.specs.Operations.{Fits, Writes}
 use Rattle.lines.proofs.Peaks.{under-small, small-bounded, covered-same}
 use Rattle.lines.specs.declared.matrix.Matrix.{Matrix}
 use Rattle.lines.specs.declared.line.Effect.the-variants.{Done}

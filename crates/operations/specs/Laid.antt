@@ -9,7 +9,7 @@ use Rattle.reduction_steps.specs.Table.{Table, table}
 use Rattle.reduction_steps.specs.State.{Sizes, State, Outcome, made, tooWide, onRow, onColumn}
 use Rattle.lines.specs.Slice.{entryLimit, Under, Bounded, Covered}
 use Rattle.lines.specs.Matrices.{end, contents, EntryOf}
-use Rattle.lines.specs.Operations.{Writes, OnLines}
+use Rattle.elementary_operations.specs.Operations.{Writes, OnLines}
 use Rattle.lines.specs.declared.matrix.Matrix.{Matrix}
 use Rattle.lines.specs.declared.line.Effect.{Effect}
 use Rattle.lines.specs.declared.line.Effect.the-variants.{Done, TooWide}

@@ -3,12 +3,14 @@ ghost use Prim.Native.Nat.{_<_};
 ghost use lib.ListN.{length};
 ghost use Rattle.matrices.specs.Operation.{swap, inverse as undoing};
 ghost use Rattle.lines.specs.Slice.{Small, Bounded};
-ghost use Rattle.lines.specs.Operations.{operationOf, Fits, Alone};
+ghost use Rattle.elementary_operations.specs.Operations.{operationOf, Fits, Alone};
 ghost use Rattle.lines.specs.Matrices.{Held};
 ghost use Rattle.operations.specs.Laid.{Laid, RowsOperated, ColumnsOperated, Followed};
+use elementary_operations::apply::on_lines;
+use elementary_operations::apply::on_places;
+use elementary_operations::operation::Operation;
 use lines::line::Effect;
 use lines::matrix::Matrix;
-use lines::operation::Operation;
 
 // The companions undergo the row operations, by rows, their inverses, by columns, the column operations, by columns, and their inverses, by rows.
 pub struct Layout {
@@ -32,10 +34,10 @@ fn follow(follower: Matrix, inverse: Matrix, w: &mut [i32], op: Operation, befor
         }
     }
     let undone = op.inverse();
-    let Effect::Done(first) = follower.on_lines(w, op, before) else {
+    let Effect::Done(first) = on_lines(follower, w, op, before) else {
         return Effect::TooWide;
     };
-    let Effect::Done(second) = inverse.on_lines(w, undone, first) else {
+    let Effect::Done(second) = on_lines(inverse, w, undone, first) else {
         return Effect::TooWide;
     };
     Effect::Done(second)
@@ -49,7 +51,7 @@ impl Layout {
         requires { ⌜ Fits (self .matrix .lines) (operationOf op) ⌝ }
         ensures { λ r. ⌜ RowsOperated self (operationOf op) (now (w .entry)) r (now (w .exit)) ⌝ }
     {
-        let Effect::Done(first) = self.matrix.on_lines(w, op, 0) else {
+        let Effect::Done(first) = on_lines(self.matrix, w, op, 0) else {
             return Effect::TooWide;
         };
         let Effect::Done(second) = follow(self.row_follower, self.row_inverse, w, op, first) else {
@@ -65,7 +67,7 @@ impl Layout {
         requires { ⌜ Fits (self .matrix .width) (operationOf op) × Alone (self .matrix) (now w) (operationOf op) ⌝ }
         ensures { λ r. ⌜ ColumnsOperated self (operationOf op) (now (w .entry)) r (now (w .exit)) ⌝ }
     {
-        let Effect::Done(first) = self.matrix.on_places(w, op, 0) else {
+        let Effect::Done(first) = on_places(self.matrix, w, op, 0) else {
             return Effect::TooWide;
         };
         let Effect::Done(second) = follow(self.column_follower, self.column_inverse, w, op, first)

@@ -2,9 +2,9 @@
 // changes nothing, and no operation is called for it.
 ghost use lib.ListN.{length};
 ghost use Rattle.passes.specs.PassAnswers.{Placed, ColumnClear, rowPassOf, columnPassOf, Passed};
+use elementary_operations::operation::Operation;
 use lines::line::Effect;
 use lines::line::clear;
-use lines::operation::Operation;
 use lines::zero::first_nonzero;
 use numbers::absolute::larger;
 use numbers::quotient::quotient;

@@ -11,7 +11,7 @@ use Rattle.matrices.specs.Matrix.{Eq, identity, null}
 use Rattle.matrices.proofs.Product.{identity-at, identity-other}
 use Rattle.lines.specs.Matrices.{contents}
 use Rattle.lines.specs.declared.matrix.Matrix.{Matrix}
-use Rattle.lines.proofs.Operations.{upTo, upTo-below, upTo-from}
+use Rattle.lines.proofs.UpTo.{upTo, upTo-below, upTo-from}
 use Rattle.boundaries.specs.Filled.{MatrixFilled}
 use Rattle.boundaries.proofs.Store.{Place, place-inside, entry-set, matrix-set}
 use Rattle.boundaries.proofs.fill.fill_identity.Statement.{statement}

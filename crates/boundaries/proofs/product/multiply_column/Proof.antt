@@ -23,7 +23,7 @@ use Rattle.lines.specs.declared.matrix.Matrix.{Matrix}
 use Rattle.lines.proofs.Peaks.{bounded-small, bounded-larger, covered-same, covered-trans, Raised, raised-by, raised-small}
 use Rattle.lines.proofs.Store.{bounded-set, covered-set}
 use Rattle.lines.proofs.Spans.{line-span, span-inside}
-use Rattle.lines.proofs.Operations.{upTo, upTo-below, upTo-from}
+use Rattle.lines.proofs.UpTo.{upTo, upTo-below, upTo-from}
 use Rattle.boundaries.specs.Filled.{ColumnFilled}
 use Rattle.boundaries.specs.Column.{atPlaces, ColumnHolds, ColumnExceeds}
 use Rattle.boundaries.proofs.Store.{Place, place-inside, entry-set, column-set}

@@ -5,10 +5,10 @@ use Prim.Native.Nat.{ℕ}
 use lib.ListN.{length}
 use Rattle.matrices.specs.Operation.{Operation, onRows, inverse}
 use Rattle.lines.specs.Matrices.{contents}
-use Rattle.lines.specs.Operations.{operationOf, Fits, Writes, OnLines}
+use Rattle.elementary_operations.specs.Operations.{operationOf, Fits, Writes, OnLines}
 use Rattle.lines.specs.declared.line.Effect.{Effect}
 use Rattle.lines.specs.declared.line.Effect.the-variants.{Done, TooWide}
-use Rattle.lines.proofs.Holding.{holds-nothing}
+use Rattle.elementary_operations.proofs.Holding.{holds-nothing}
 use Rattle.operations.specs.Laid.{Followed}
 use Rattle.operations.proofs.layout.follow.Statement.{statement}
 use Rattle.operations.proofs.layout.follow.Tie as tie

@@ -1,7 +1,7 @@
 -- `operations::layout::Layout::on_columns` meets its contract: the matrix undergoes it, then its companions of the columns.
 use mathlib.Core.Path.{_∙_}
 use borrow.Author.Needs.{needs}
-use Rattle.lines.specs.Operations.{operationOf}
+use Rattle.elementary_operations.specs.Operations.{operationOf}
 use Rattle.lines.specs.declared.line.Effect.the-variants.{Done, TooWide}
 use Rattle.lines.proofs.Peaks.{small-bounded}
 use Rattle.operations.proofs.Side.{columns, matrix-held}

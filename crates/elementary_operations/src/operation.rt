@@ -1,7 +1,7 @@
 // The elementary operations on the lines of a matrix, or on the places of every line.
 ghost use mathlib.Core.Path.{_≡_};
 ghost use Rattle.matrices.specs.Operation as theory;
-ghost use Rattle.lines.specs.Operations.{operationOf, FactorWithin};
+ghost use Rattle.elementary_operations.specs.Operations.{operationOf, FactorWithin};
 
 // `Subtract(i, k, q)` takes q times line k from line i, `Swap(i, k)` exchanges lines i and k, `Negate(k)` negates line k.
 pub enum Operation {

@@ -1,14 +1,14 @@
--- `Matrix::swap_places` meets its contract. The invariant: the lines passed have been changed. The measure is how many are left.
+-- `apply::swap_places` meets its contract. The invariant: the lines passed have been changed. The measure is how many are left.
 use mathlib.Core.Path.{_≡_, _∙_}
 use Prim.Native.Nat.{ℕ, _+_, _-_, _<_}
 use native.Mathlib.Omega.{arith}
 use borrow.Author.Needs.{needs}
 use lib.ListN.{length}
 use Rattle.matrices.specs.Operation.{swap}
 use Rattle.lines.specs.Matrices.{Held}
-use Rattle.lines.proofs.Places.{Passed, none-passed, one-passed, all-passed, passed-held, place-inside, swapped-places}
-use Rattle.lines.proofs.matrix.Matrix.swap_places.Statement.{statement}
-use Rattle.lines.proofs.matrix.Matrix.swap_places.Tie as tie
+use Rattle.elementary_operations.proofs.Places.{Passed, none-passed, one-passed, all-passed, passed-held, place-inside, swapped-places}
+use Rattle.elementary_operations.proofs.apply.swap_places.Statement.{statement}
+use Rattle.elementary_operations.proofs.apply.swap_places.Tie as tie
 
 abbrev Inv-loop : tie.InvT-loop
 Inv-loop M w₀ j k before lines largest₀ i₀ w largest i = Passed M w₀ (swap j k) before w largest i
@@ -17,7 +17,7 @@ abbrev μ-loop : tie.MeasureT-loop
 μ-loop M w₀ j k before lines largest₀ i₀ w largest i = M .lines - i
 
 loop-holds : tie.Need-loop-holds Inv-loop μ-loop
-loop-holds c = none-passed (c .args .self) (c .args .w .now) (swap (c .args .j) (c .args .k)) (c .args .before) (c .pre .1 .0)
+loop-holds c = none-passed (c .args .m) (c .args .w .now) (swap (c .args .j) (c .args .k)) (c .args .before) (c .pre .1 .0)
 
 module _ (c : tie.After-line Inv-loop μ-loop) where
   abbrev head : tie.At-loop Inv-loop μ-loop
@@ -26,18 +26,18 @@ module _ (c : tie.After-line Inv-loop μ-loop) where
   abbrev start : tie.Start Inv-loop μ-loop
   start = head .before
 
-  more : head .loop .i < start .args .self .lines
+  more : head .loop .i < start .args .m .lines
   more = c .before .loop-test .taken
 
-  held : Held (length (head .loop .w)) (start .args .self)
+  held : Held (length (head .loop .w)) (start .args .m)
   held = passed-held (head .loop .inv) (start .pre .0)
 
-  within : (start .args .j < start .args .self .width) × (start .args .k < start .args .self .width)
+  within : (start .args .j < start .args .m .width) × (start .args .k < start .args .m .width)
   within = (start .pre .1 .1 .within .first, start .pre .1 .1 .within .second)
 
   -- the places of the line lie within the slice
-  inside : (j : ℕ) → j < start .args .self .width → c .line .result + j < length (head .loop .w)
-  inside = place-inside (start .args .self) (head .loop .i) (c .line .result) (c .line .ensures) held more
+  inside : (j : ℕ) → j < start .args .m .width → c .line .result + j < length (head .loop .w)
+  inside = place-inside (start .args .m) (head .loop .i) (c .line .result) (c .line .ensures) held more
 
 add-swap-entries : tie.Need-add-swap-entries Inv-loop μ-loop
 add-swap-entries c = let at = c .before in search (needs, inside at (start at .args .j) (within at .0))
@@ -54,7 +54,7 @@ loop-again : tie.Need-loop-again Inv-loop μ-loop
 loop-again c =
     let called = c .before in let at = called .before .before in let s = start at in
     one-passed (head at .loop .inv) (s .pre .1 .1 .within) (more at)
-    (swapped-places (s .args .self) (head at .loop .i) (at .line .result) (at .line .ensures) (head at .loop .w) (called .swap-entries .last .0) (s .args .j) (s .args .k)
+    (swapped-places (s .args .m) (head at .loop .i) (at .line .result) (at .line .ensures) (head at .loop .w) (called .swap-entries .last .0) (s .args .j) (s .args .k)
     (head at .loop .largest) (called .swap-entries .result) (within at) (called .swap-entries .ensures))
 
 same-length : tie.Need-same-length Inv-loop μ-loop

@@ -1,4 +1,4 @@
--- `Matrix::on_places` meets its contract: a subtraction by what `line::subtract_places` ensures of the places of one line, another operation by what
+-- `apply::on_places` meets its contract: a subtraction by what `line::subtract_places` ensures of the places of one line, another operation by what
 -- `swap_places` and `negate_places` ensure.
 use mathlib.Core.Path.{_≡_, sym, subst}
 use Prim.Native.Nat.{ℕ, _+_, _<_}
@@ -6,16 +6,16 @@ use borrow.Author.Needs.{needs}
 use lib.ListN.{length}
 use Rattle.matrices.specs.Operation.{subtract}
 use Rattle.matrices.specs.Within.{Within}
 use Rattle.lines.specs.Slice.{lineAt}
 use Rattle.lines.specs.Matrices.{placesOf}
-use Rattle.lines.specs.Operations.{operationOf, AloneAt, OnPlaces}
+use Rattle.elementary_operations.specs.Operations.{operationOf, AloneAt, OnPlaces}
 use Rattle.lines.specs.declared.line.Effect.the-variants.{Done}
-use Rattle.lines.specs.declared.operation.Operation.{Operation}
-use Rattle.lines.proofs.Operations.{fits-case}
-use Rattle.lines.proofs.Places.{places-held, place-is, place-inside, alone-line, subtract-became}
-use Rattle.lines.proofs.Subtraction.{subtraction-asks, subtraction-came}
-use Rattle.lines.proofs.matrix.Matrix.on_places.Statement.{statement}
-use Rattle.lines.proofs.matrix.Matrix.on_places.Tie as tie
+use Rattle.elementary_operations.specs.declared.operation.Operation.{Operation}
+use Rattle.elementary_operations.proofs.Operations.{fits-case}
+use Rattle.elementary_operations.proofs.Places.{places-held, place-is, place-inside, alone-line, subtract-became}
+use Rattle.elementary_operations.proofs.Subtraction.{subtraction-asks, subtraction-came}
+use Rattle.elementary_operations.proofs.apply.on_places.Statement.{statement}
+use Rattle.elementary_operations.proofs.apply.on_places.Tie as tie
 
 -- ---- a subtraction
 
@@ -23,8 +23,8 @@ module _ (c : tie.After-op) where
   abbrev subtracting : tie.Start
   subtracting = c .before .before
 
-  alone : AloneAt (subtracting .args .self) (subtracting .args .w .now) (c .op .given .0 .1 .0)
-  alone = alone-line (c .op .given .1) (subtracting .args .self) (subtracting .args .w .now) (subtracting .pre .1 .1 .1)
+  alone : AloneAt (subtracting .args .m) (subtracting .args .w .now) (c .op .given .0 .1 .0)
+  alone = alone-line (c .op .given .1) (subtracting .args .m) (subtracting .args .w .now) (subtracting .pre .1 .1 .1)
 
 line-requires : tie.Need-line-requires
 line-requires c κs = search (needs, alone (c .before) .line)
@@ -34,15 +34,15 @@ module _ (c : tie.After-line) where
   abbrev op : tie.After-op
   op = c .before .before
 
-  place-at : let k = op .op .given .0 .1 .0 in (j : ℕ) → c .line .result + j ≡ lineAt (placesOf (subtracting op .args .self) k .at) 1 j
-  place-at = place-is (subtracting op .args .self) (op .op .given .0 .1 .0) (c .line .result) (c .line .ensures)
+  place-at : let k = op .op .given .0 .1 .0 in (j : ℕ) → c .line .result + j ≡ lineAt (placesOf (subtracting op .args .m) k .at) 1 j
+  place-at = place-is (subtracting op .args .m) (op .op .given .0 .1 .0) (c .line .result) (c .line .ensures)
 
   -- the places of line k lie within the slice
-  inside : (j : ℕ) → j < subtracting op .args .self .width → c .line .result + j < length (subtracting op .args .w .now)
+  inside : (j : ℕ) → j < subtracting op .args .m .width → c .line .result + j < length (subtracting op .args .w .now)
   inside =
-      place-inside (subtracting op .args .self) (op .op .given .0 .1 .0) (c .line .result) (c .line .ensures) (subtracting op .pre .0) (alone op .line)
+      place-inside (subtracting op .args .m) (op .op .given .0 .1 .0) (c .line .result) (c .line .ensures) (subtracting op .pre .0) (alone op .line)
 
-  within : Within (subtracting op .args .self .width) (subtract (op .op .given .0 .0) (op .op .given .0 .1 .0) (op .op .given .0 .1 .1 .0))
+  within : Within (subtracting op .args .m .width) (subtract (op .op .given .0 .0) (op .op .given .0 .1 .0) (op .op .given .0 .1 .1 .0))
   within = fits-case (op .op .given .1) (subtracting op .pre .1 .1 .0) .within
 
 add-subtract-places : tie.Need-add-subtract-places
@@ -54,14 +54,14 @@ add-subtract-places-2 c = let at = c .before in search (needs, inside at (op at 
 subtract-places-requires : tie.Need-subtract-places-requires
 subtract-places-requires c κs =
     let at = c .before in let s = subtracting (op at) in let given = op at .op .given in
-    subtraction-asks (given .1) (placesOf (s .args .self) (given .0 .1 .0)) (s .pre .1 .1 .0) (place-at at (given .0 .0)) (place-at at (given .0 .1 .0))
-    (places-held (s .args .self) (given .0 .1 .0) (alone (op at) .line) (s .pre .0)) (s .pre .1 .0)
+    subtraction-asks (given .1) (placesOf (s .args .m) (given .0 .1 .0)) (s .pre .1 .1 .0) (place-at at (given .0 .0)) (place-at at (given .0 .1 .0))
+    (places-held (s .args .m) (given .0 .1 .0) (alone (op at) .line) (s .pre .0)) (s .pre .1 .0)
 
 returns : tie.Need-returns
 returns c =
     let at = c .before .before .before in let s = subtracting (op at) in let given = op at .op .given in let called = c .before .subtract-places in
-    subtract-became (given .1) (s .args .self) (s .args .w .now) (s .pre .1 .1 .1) (s .pre .1 .1 .0) (called .last .0) (s .args .before) (called .result)
-    (subtraction-came (given .1) (placesOf (s .args .self) (given .0 .1 .0)) (s .pre .1 .1 .0) (place-at at (given .0 .0)) (place-at at (given .0 .1 .0))
+    subtract-became (given .1) (s .args .m) (s .args .w .now) (s .pre .1 .1 .1) (s .pre .1 .1 .0) (called .last .0) (s .args .before) (called .result)
+    (subtraction-came (given .1) (placesOf (s .args .m) (given .0 .1 .0)) (s .pre .1 .1 .0) (place-at at (given .0 .0)) (place-at at (given .0 .1 .0))
     (s .args .w .now) (called .last .0) (s .args .before) (called .result) (called .ensures))
 
 -- ---- another operation
@@ -73,7 +73,7 @@ swap-places-requires c κs =
 returns-2 : tie.Need-returns-2
 returns-2 c =
     let called = c .before .swap-places in let op = c .before .before .before .before in let s = op .before .before in
-    subst (λ (o : Operation). OnPlaces (s .args .self) (s .args .w .now) (operationOf o) (s .args .before) (Done (called .result)) (called .last .1 .0)) (sym (op .op2 .given .1)) (called .ensures)
+    subst (λ (o : Operation). OnPlaces (s .args .m) (s .args .w .now) (operationOf o) (s .args .before) (Done (called .result)) (called .last .1 .0)) (sym (op .op2 .given .1)) (called .ensures)
 
 negate-places-requires : tie.Need-negate-places-requires
 negate-places-requires c κs =
@@ -82,7 +82,7 @@ negate-places-requires c κs =
 returns-3 : tie.Need-returns-3
 returns-3 c =
     let called = c .before .negate-places in let op = c .before .before .before .before in let s = op .before .before in
-    subst (λ (o : Operation). OnPlaces (s .args .self) (s .args .w .now) (operationOf o) (s .args .before) (Done (called .result)) (called .last .1 .0)) (sym (op .op3 .given .1)) (called .ensures)
+    subst (λ (o : Operation). OnPlaces (s .args .m) (s .args .w .now) (operationOf o) (s .args .before) (Done (called .result)) (called .last .1 .0)) (sym (op .op3 .given .1)) (called .ensures)
 
 pub on-places-spec : {M : Type 1} → statement M
 on-places-spec =

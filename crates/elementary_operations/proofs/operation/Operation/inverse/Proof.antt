@@ -4,12 +4,12 @@ use Prim.Native.Nat.{_≤_}
 use lib.IntN.{ℤ, natAbs}
 use borrow.Author.Needs.{needs}
 use Rattle.matrices.specs.Operation.{subtract, inverse}
 use Rattle.lines.specs.Slice.{entryLimit}
-use Rattle.lines.specs.Operations.{operationOf, FactorWithin}
-use Rattle.lines.specs.declared.operation.Operation.{Operation}
+use Rattle.elementary_operations.specs.Operations.{operationOf, FactorWithin}
+use Rattle.elementary_operations.specs.declared.operation.Operation.{Operation}
 use Rattle.words.specs.Negate.{negated-fits, negated-read}
-use Rattle.lines.proofs.operation.Operation.inverse.Statement.{statement}
-use Rattle.lines.proofs.operation.Operation.inverse.Tie as tie
+use Rattle.elementary_operations.proofs.operation.Operation.inverse.Statement.{statement}
+use Rattle.elementary_operations.proofs.operation.Operation.inverse.Tie as tie
 
 -- the factor of a subtraction
 factor : (c : tie.After-self) → natAbs (c .self .given .0 .1 .1 .0) ≤ entryLimit

@@ -1,14 +1,14 @@
--- `Matrix::negate_places` meets its contract. The invariant: the lines passed have been changed. The measure is how many are left.
+-- `apply::negate_places` meets its contract. The invariant: the lines passed have been changed. The measure is how many are left.
 use mathlib.Core.Path.{_≡_, _∙_}
 use Prim.Native.Nat.{ℕ, _+_, _-_, _<_}
 use native.Mathlib.Omega.{arith}
 use borrow.Author.Needs.{needs}
 use lib.ListN.{length}
 use Rattle.matrices.specs.Operation.{negate}
 use Rattle.lines.specs.Matrices.{Held}
-use Rattle.lines.proofs.Places.{Passed, none-passed, one-passed, all-passed, passed-held, place-inside, negated-place}
-use Rattle.lines.proofs.matrix.Matrix.negate_places.Statement.{statement}
-use Rattle.lines.proofs.matrix.Matrix.negate_places.Tie as tie
+use Rattle.elementary_operations.proofs.Places.{Passed, none-passed, one-passed, all-passed, passed-held, place-inside, negated-place}
+use Rattle.elementary_operations.proofs.apply.negate_places.Statement.{statement}
+use Rattle.elementary_operations.proofs.apply.negate_places.Tie as tie
 
 abbrev Inv-loop : tie.InvT-loop
 Inv-loop M w₀ k before lines largest₀ i₀ w largest i = Passed M w₀ (negate k) before w largest i
@@ -17,7 +17,7 @@ abbrev μ-loop : tie.MeasureT-loop
 μ-loop M w₀ k before lines largest₀ i₀ w largest i = M .lines - i
 
 loop-holds : tie.Need-loop-holds Inv-loop μ-loop
-loop-holds c = none-passed (c .args .self) (c .args .w .now) (negate (c .args .k)) (c .args .before) (c .pre .1 .0)
+loop-holds c = none-passed (c .args .m) (c .args .w .now) (negate (c .args .k)) (c .args .before) (c .pre .1 .0)
 
 module _ (c : tie.After-line Inv-loop μ-loop) where
   abbrev head : tie.At-loop Inv-loop μ-loop
@@ -26,15 +26,15 @@ module _ (c : tie.After-line Inv-loop μ-loop) where
   abbrev start : tie.Start Inv-loop μ-loop
   start = head .before
 
-  more : head .loop .i < start .args .self .lines
+  more : head .loop .i < start .args .m .lines
   more = c .before .loop-test .taken
 
-  held : Held (length (head .loop .w)) (start .args .self)
+  held : Held (length (head .loop .w)) (start .args .m)
   held = passed-held (head .loop .inv) (start .pre .0)
 
   -- place k of the line lies within the slice
   inside : c .line .result + start .args .k < length (head .loop .w)
-  inside = place-inside (start .args .self) (head .loop .i) (c .line .result) (c .line .ensures) held more (start .args .k) (start .pre .1 .1 .within)
+  inside = place-inside (start .args .m) (head .loop .i) (c .line .result) (c .line .ensures) held more (start .args .k) (start .pre .1 .1 .within)
 
 add-negate-places : tie.Need-add-negate-places Inv-loop μ-loop
 add-negate-places c = search (needs, inside (c .before))
@@ -47,7 +47,7 @@ loop-again : tie.Need-loop-again Inv-loop μ-loop
 loop-again c =
     let called = c .before in let at = called .before .before in let s = start at in
     one-passed (head at .loop .inv) (s .pre .1 .1 .within) (more at)
-    (negated-place (s .args .self) (head at .loop .i) (at .line .result) (at .line .ensures) (head at .loop .w) (called .negate-places .last .0) (s .args .k)
+    (negated-place (s .args .m) (head at .loop .i) (at .line .result) (at .line .ensures) (head at .loop .w) (called .negate-places .last .0) (s .args .k)
     (head at .loop .largest) (called .negate-places .result) (s .pre .1 .1 .within) (called .negate-places .ensures))
 
 same-length : tie.Need-same-length Inv-loop μ-loop

@@ -1,28 +1,24 @@
 -- What the operations on lines make of a matrix, in the words of the theory: `subtract-lines`, `negate-line`, `swap-lines`. `fits-case`,
--- `became-case`: an operation that turned out to be o. `Fits-inverse`: an operation's inverse fits where it does. `upTo`: lines below i changed.
+-- `became-case`: an operation that turned out to be o. `Fits-inverse`: an operation's inverse fits where it does.
 use mathlib.Core.Path.{_≡_, refl, sym, subst}
 use mathlib.Core.Logic.{inl, inr}
-use mathlib.Core.Bool.{cond}
 use mathlib.Core.List.{List}
-use Prim.Native.Nat.{ℕ, _+_, _<_, _≤_}
-use lib.Dec.{ltb}
+use Prim.Native.Nat.{ℕ, _+_}
 use lib.IntN.{ℤ}
-use borrow.Author.Tests.{lt-ltb, le-ltb}
 use Rattle.integers.proofs.Order.{natAbs-neg}
-use Rattle.matrices.specs.Matrix as theory
 use Rattle.matrices.specs.Operation as definitions
 use Rattle.matrices.specs.Operation.{subtract, swap, negate, onRows, inverse}
 use Rattle.matrices.proofs.OperationLaws.{onRows-subtract-at, onRows-subtract-other, onRows-swap-first, onRows-swap-second, onRows-swap-other, onRows-negate-at, onRows-negate-other}
 use Rattle.matrices.specs.Within.{Within-inverse}
 use Rattle.lines.specs.Slice.{Subtracted, Negated, LinesSwapped}
 use Rattle.lines.specs.Matrices.{contents}
-use Rattle.lines.specs.Operations.{operationOf, FactorWithin, Fits, Writes, OnLines}
+use Rattle.elementary_operations.specs.Operations.{operationOf, FactorWithin, Fits, Writes, OnLines}
 use Rattle.lines.specs.declared.matrix.Matrix.{Matrix}
 use Rattle.lines.specs.declared.line.Effect.{Effect}
 use Rattle.lines.specs.declared.line.Effect.the-variants.{Done}
-use Rattle.lines.specs.declared.operation.Operation.{Operation}
+use Rattle.elementary_operations.specs.declared.operation.Operation.{Operation}
 use Rattle.lines.proofs.Spans.{Span, off-line}
-use Rattle.lines.proofs.Holding.{subtracted-became, negated-holds, swapped-holds}
+use Rattle.elementary_operations.proofs.Holding.{subtracted-became, negated-holds, swapped-holds}
 
 -- ---- whole lines
 
@@ -65,15 +61,3 @@ factor-inverse (negate k) l = tt
 
 pub Fits-inverse : {n : ℕ} (op : definitions.Operation) → Fits n op → Fits n (inverse op)
 Fits-inverse {n} op f = record { within = Within-inverse n op (f .within); factor = factor-inverse op (f .factor) }
-
--- ---- a change made line by line
-
--- A on the lines below i, B on the others
-abbrev pub upTo : ℕ → theory.Matrix → theory.Matrix → theory.Matrix
-upTo i A B a b = cond (ltb a i) (A a b) (B a b)
-
-pub upTo-below : (i : ℕ) (A B : theory.Matrix) (a b : ℕ) → a < i → upTo i A B a b ≡ A a b
-upTo-below i A B a b l = rw (lt-ltb a i l)
-
-pub upTo-from : (i : ℕ) (A B : theory.Matrix) (a b : ℕ) → i ≤ a → upTo i A B a b ≡ B a b
-upTo-from i A B a b l = rw (le-ltb a i l)

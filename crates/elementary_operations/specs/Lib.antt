@@ -1,0 +1,2 @@
+-- What the contracts of src/ cite.
+pub mod Operations
