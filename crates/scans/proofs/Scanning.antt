@@ -4,40 +4,31 @@ use mathlib.Core.Path.{_≡_, refl, sym, ap, subst, _∙_}
 use mathlib.Core.List.{List}
 use mathlib.Core.Logic.{_≢_}
 use Prim.Native.Nat.{ℕ, zero, suc, _+_, _-_, _<_, _≤_}
+use native.Mathlib.Nat.{suc-ne-zero}
 use native.Mathlib.Omega.{arith}
 use native.Mathlib.Numerals.{add-one}
-use lib.IntN.{ℤ, pos, negsuc, natAbs}
+use lib.IntN.{ℤ, pos, natAbs}
 use Rattle.matrices.specs.Matrix.{Matrix}
 use Rattle.reduction_steps.specs.Pivot.{Choice, none, place, better, alongRow, downRows}
 use Rattle.reduction_steps.proofs.PivotLaws.{alongRow-one, downRows-one}
 use Rattle.lines.specs.Slice.{at, lineAt, FirstNonzero}
 use Rattle.lines.specs.Matrices.{contents}
 use Rattle.lines.specs.declared.matrix.Matrix as lines
-use Rattle.scans.proofs.Choosing.{better-zero}
-use Rattle.scans.specs.Scan.{choiceAt, choiceOf, SizeOf, IsBest}
+use Rattle.scans.proofs.Choosing.{better-zero, choice-some, size-is}
+use Rattle.scans.specs.Scan.{noBest, choiceOf, IsBest}
 use Rattle.scans.specs.declared.pivot.Best.{Best}
 
--- ---- the place chosen
+-- ---- an entry of absolute value 1
 
-pub choice-some : (b : Best) → b .size ≢ pos 0 → choiceOf b ≡ place (b .row) (b .column)
-choice-some b f = pick (b .size) f
-  where
-    pick : (z : ℤ) → z ≢ pos 0 → choiceAt z (b .row) (b .column) ≡ place (b .row) (b .column)
-    pick (pos zero) f = absurd (f refl)
-    pick (pos (suc n)) f = refl
-    pick (negsuc n) f = refl
+module _ {A : Matrix} {b : Best} (h : IsBest A b) (e : b .size ≡ 1) where
+  some : b .size ≢ 0
+  some z = suc-ne-zero 0 (sym e ∙ z)
 
-pub choice-none : (b : Best) → b .size ≡ pos 0 → choiceOf b ≡ none
-choice-none b e = rw e
+  choice-one : choiceOf b ≡ place (b .row) (b .column)
+  choice-one = choice-some b some
 
--- an entry of absolute value 1 is chosen
-pub choice-one : (b : Best) → b .size ≡ pos 1 → choiceOf b ≡ place (b .row) (b .column)
-choice-one b e = rw e
-
-size-one : (A : Matrix) (b : Best) → IsBest A b → b .size ≡ pos 1 → natAbs (A (b .row) (b .column)) ≡ 1
-size-one A b h e =
-    let s : SizeOf A (choiceAt (pos 1) (b .row) (b .column)) (pos 1) = rw e at (h .sized) in
-    ap natAbs (sym s)
+  size-one : natAbs (A (b .row) (b .column)) ≡ 1
+  size-one = sym (size-is h some) ∙ e
 
 -- ---- along a row
 
@@ -67,12 +58,12 @@ module _ {A : Matrix} {i k n : ℕ} {c : Choice} {j : ℕ} {b : Best} (h : Along
         step : alongRow A i (n - (j + 1)) (suc j) (better A (choiceOf b) i j) ≡ alongRow A i (n - (j + 1)) (j + 1) (choiceOf b′)
         step = rw (add-one j, is)
 
-    pub along-one : b′ .size ≡ pos 1 → choiceOf b′ ≡ alongRow A i (n - k) k c
+    pub along-one : b′ .size ≡ 1 → choiceOf b′ ≡ alongRow A i (n - k) k c
     along-one e =
         sym (along-next .rest
-        ∙ ap (alongRow A i (n - (j + 1)) (j + 1)) (choice-one b′ e)
-        ∙ alongRow-one A (b′ .row) (b′ .column) (size-one A b′ h′ e) i (n - (j + 1)) (j + 1)
-        ∙ sym (choice-one b′ e))
+        ∙ ap (alongRow A i (n - (j + 1)) (j + 1)) (choice-one h′ e)
+        ∙ alongRow-one A (b′ .row) (b′ .column) (size-one h′ e) i (n - (j + 1)) (j + 1)
+        ∙ sym (choice-one h′ e))
 
 -- places that hold 0 change nothing
 pub along-zeros :
@@ -100,8 +91,8 @@ pub record Down (A : Matrix) (k across n i : ℕ) (b : Best) : Type 0 where
   pub best : IsBest A b
   pub rest : downRows A k across (n - k) k none ≡ downRows A k across (n - i) i (choiceOf b)
 
-pub down-starts : (A : Matrix) (k across n : ℕ) (row column : ℕ) → Down A k across n k (record { size = pos 0; row = row; column = column })
-down-starts A k across n row column = record { best = record { sized = refl }; rest = refl }
+pub down-starts : (A : Matrix) (k across n : ℕ) → Down A k across n k noBest
+down-starts A k across n = record { best = record { sized = refl }; rest = refl }
 
 module _ {A : Matrix} {k across n i : ℕ} {b : Best} (h : Down A k across n i b) where
   pub down-ends : n ≤ i → choiceOf b ≡ downRows A k across (n - k) k none
@@ -121,8 +112,8 @@ module _ {A : Matrix} {k across n i : ℕ} {b : Best} (h : Down A k across n i b
         step : downRows A k across (n - (i + 1)) (suc i) (alongRow A i across k (choiceOf b)) ≡ downRows A k across (n - (i + 1)) (i + 1) (choiceOf b′)
         step = rw (add-one i, is)
 
-    pub down-one : b′ .size ≡ pos 1 → place (b′ .row) (b′ .column) ≡ downRows A k across (n - k) k none
+    pub down-one : b′ .size ≡ 1 → place (b′ .row) (b′ .column) ≡ downRows A k across (n - k) k none
     down-one e =
         sym (down-next .rest
-        ∙ ap (downRows A k across (n - (i + 1)) (i + 1)) (choice-one b′ e)
-        ∙ downRows-one A (b′ .row) (b′ .column) (size-one A b′ h′ e) k across (n - (i + 1)) (i + 1))
+        ∙ ap (downRows A k across (n - (i + 1)) (i + 1)) (choice-one h′ e)
+        ∙ downRows-one A (b′ .row) (b′ .column) (size-one h′ e) k across (n - (i + 1)) (i + 1))

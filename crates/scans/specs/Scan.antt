@@ -1,7 +1,7 @@
 -- What the scans of the matrix answer.
 use mathlib.Core.Path.{_≡_}
 use Prim.Native.Nat.{ℕ, zero, suc, _<_}
-use lib.IntN.{ℤ, pos, negsuc, natAbs}
+use lib.IntN.{natAbs}
 use Rattle.matrices.specs.Matrix.{Matrix}
 use Rattle.reduction_steps.specs.Pivot.{Choice, none, place}
 use Rattle.reduction_steps.specs.Step.{Row, noRow, row}
@@ -13,21 +13,20 @@ use Rattle.scans.specs.declared.remainder.Indivisible.the-variants as in
 
 -- no entry is chosen yet
 abbrev pub noBest : Best
-noBest = record { size = pos 0; row = 0; column = 0 }
+noBest = record { size = 0; row = 0; column = 0 }
 
 -- the place that the scan has chosen so far
-abbrev pub choiceAt : ℤ → ℕ → ℕ → Choice
-choiceAt (pos zero) i j = none
-choiceAt (pos (suc n)) i j = place i j
-choiceAt (negsuc n) i j = place i j
+abbrev pub choiceAt : ℕ → ℕ → ℕ → Choice
+choiceAt zero i j = none
+choiceAt (suc n) i j = place i j
 
 abbrev pub choiceOf : Best → Choice
 choiceOf b = choiceAt (b .size) (b .row) (b .column)
 
 -- its size is the absolute value of the entry there, or 0 where there is none
-abbrev pub SizeOf : Matrix → Choice → ℤ → Type 0
-SizeOf A none size = size ≡ pos 0
-SizeOf A (place i j) size = size ≡ pos (natAbs (A i j))
+abbrev pub SizeOf : Matrix → Choice → ℕ → Type 0
+SizeOf A none size = size ≡ 0
+SizeOf A (place i j) size = size ≡ natAbs (A i j)
 
 pub record IsBest (A : Matrix) (b : Best) : Type 0 where
   pub sized : SizeOf A (choiceOf b) (b .size)

@@ -4,16 +4,16 @@ ghost use mathlib.Core.Path.{_≡_};
 ghost use Prim.Native.Nat.{_+_, _-_, _<_, _≤_};
 ghost use lib.ListN.{length};
 ghost use Rattle.reduction_steps.specs.Pivot as steps;
-ghost use lib.IntN.{pos, natAbs};
-ghost use Rattle.lines.specs.Slice.{entryLimit, Small};
+ghost use Rattle.lines.specs.Slice.{Small};
 ghost use Rattle.lines.specs.Matrices.{Held, contents};
 ghost use Rattle.scans.specs.Scan.{noBest, IsBest, choiceOf, pivotChoice};
 use lines::matrix::Matrix;
 use lines::zero::first_nonzero;
+use numbers::absolute::absolute;
 
 // The entry chosen so far: its absolute value, 0 where there is none, and its place.
 pub struct Best {
-    pub size: i64,
+    pub size: u64,
     pub row: usize,
     pub column: usize,
 }
@@ -34,14 +34,6 @@ impl Best {
 pub enum Pivot {
     At(usize, usize),
     Nothing,
-}
-
-// The absolute value of an entry.
-fn absolute(x: i64) -> i64
-    requires { ⌜ natAbs x ≤ entryLimit ⌝ }
-    ensures { λ r. ⌜ r ≡ pos (natAbs x) ⌝ }
-{
-    if x < 0 { -x } else { x }
 }
 
 // The choice after the entry at place j of row i. A tie stays with the entry chosen so far.

@@ -6,8 +6,6 @@ use borrow.Author.Needs.{needs}
 use Rattle.lines.specs.Matrices.{contents}
 use Rattle.lines.proofs.Spans.{line-span, span-inside}
 use Rattle.scans.specs.Scan.{choiceOf}
-use Rattle.words.specs.Read.{of-bits}
-use Rattle.scans.proofs.Choosing.{size-fits}
 use Rattle.scans.proofs.Scanning.{Along, along-first, along-next, along-one, along-ends}
 use Rattle.scans.proofs.pivot.along_row.Statement.{statement}
 use Rattle.scans.proofs.pivot.along_row.Tie as tie
@@ -38,14 +36,15 @@ better-requires c κs =
 
 returns : tie.Need-returns Inv-loop μ-loop
 returns c =
-    let s = c .before .before .before .before .before .before .before .before in
-    let b = c .before .before .before .better .ensures in
-    (b .0, along-one (c .before .before .before .before .before .loop .inv) (c .before .before .before .before .loop-test .taken) (b .0) (b .1) (of-bits (size-fits (s .args .m) (s .args .w .now) (s .pre .1 .0) (b .0)) (c .if1 .taken)))
+    let a = c .before .before in
+    let b = a .better .ensures in
+    (b .0, along-one (a .before .before .loop .inv) (a .before .loop-test .taken) (b .0) (b .1) (c .if1 .taken))
 
 loop-again : tie.Need-loop-again Inv-loop μ-loop
 loop-again c =
-    let b = c .before .before .before .better .ensures in
-    along-next (c .before .before .before .before .before .loop .inv) (c .before .before .before .before .loop-test .taken) (b .0) (b .1)
+    let a = c .before .before in
+    let b = a .better .ensures in
+    along-next (a .before .before .loop .inv) (a .before .loop-test .taken) (b .0) (b .1)
 
 returns-2 : tie.Need-returns-2 Inv-loop μ-loop
 returns-2 c = (c .before .loop .inv .best, along-ends (c .before .loop .inv) (c .loop-test .left))

@@ -1,16 +1,13 @@
 -- `scans::pivot::find_pivot` meets its contract. The loop's invariant: the rows up to row i have been scanned. The measure is the number of rows
 -- left.
-use mathlib.Core.Path.{sym, ap, _∙_}
+use mathlib.Core.Path.{sym, _∙_}
 use Prim.Native.Nat.{_-_}
 use native.Mathlib.Omega.{arith}
 use borrow.Author.Needs.{needs}
-use mir.Syntax.{w64}
-use mir.Val.{ofZ}
 use Rattle.reduction_steps.specs.Pivot.{release1}
 use Rattle.lines.specs.Matrices.{contents}
-use Rattle.words.specs.Read.{of-bits}
-use Rattle.scans.proofs.Choosing.{size-fits}
-use Rattle.scans.proofs.Scanning.{Down, down-starts, down-next, down-one, down-ends, choice-some, choice-none}
+use Rattle.scans.proofs.Choosing.{choice-some, choice-none}
+use Rattle.scans.proofs.Scanning.{Down, down-starts, down-next, down-one, down-ends}
 use Rattle.scans.proofs.pivot.find_pivot.Statement.{statement}
 use Rattle.scans.proofs.pivot.find_pivot.Tie as tie
 
@@ -23,7 +20,7 @@ abbrev μ-loop : tie.MeasureT-loop
 loop-holds : tie.Need-loop-holds Inv-loop μ-loop
 loop-holds c =
     let a = c .before .args in
-    rw (c .none .ensures) (down-starts (contents (a .m) (a .w .now)) (a .k) (a .m .width - a .k) (a .m .lines) 0 0)
+    rw (c .none .ensures) (down-starts (contents (a .m) (a .w .now)) (a .k) (a .m .width - a .k) (a .m .lines))
 
 along-row-requires : tie.Need-along-row-requires Inv-loop μ-loop
 along-row-requires c κs =
@@ -33,28 +30,29 @@ along-row-requires c κs =
 returns : tie.Need-returns Inv-loop μ-loop
 unfolding release1
 returns c =
-    let s = c .before .before .before .before .before .before .before in
-    let b = c .before .before .before .along-row .ensures in
-    down-one (c .before .before .before .before .before .loop .inv) (c .before .before .before .before .loop-test .taken) (b .0) (b .1) (of-bits (size-fits (s .args .m) (s .args .w .now) (s .pre .1 .0) (b .0)) (c .if1 .taken))
+    let a = c .before .before in
+    let b = a .along-row .ensures in
+    down-one (a .before .before .loop .inv) (a .before .loop-test .taken) (b .0) (b .1) (c .if1 .taken)
 
 loop-again : tie.Need-loop-again Inv-loop μ-loop
 loop-again c =
-    let b = c .before .before .before .along-row .ensures in
-    down-next (c .before .before .before .before .before .loop .inv) (c .before .before .before .before .loop-test .taken) (b .0) (b .1)
+    let a = c .before .before in
+    let b = a .along-row .ensures in
+    down-next (a .before .before .loop .inv) (a .before .loop-test .taken) (b .0) (b .1)
 
 returns-2 : tie.Need-returns-2 Inv-loop μ-loop
 unfolding release1
 returns-2 c =
-    let s = c .before .before .before .before .before .before in
-    let h = c .before .before .before .before .loop .inv in
-    sym (choice-none (c .before .before .before .before .loop .best) (of-bits (size-fits (s .args .m) (s .args .w .now) (s .pre .1 .0) (h .best)) (c .if2 .taken)))
-    ∙ down-ends h (c .before .before .before .loop-test .left)
+    let end = c .before .before in
+    let loop = end .before .loop in
+    sym (choice-none (loop .best) (c .if2 .taken)) ∙ down-ends (loop .inv) (end .loop-test .left)
 
 returns-3 : tie.Need-returns-3 Inv-loop μ-loop
 unfolding release1
 returns-3 c =
-    let h = c .before .before .before .before .loop .inv in
-    sym (choice-some (c .before .before .before .before .loop .best) (λ e. c .if2 .left (ap (ofZ w64) e))) ∙ down-ends h (c .before .before .before .loop-test .left)
+    let end = c .before .before in
+    let loop = end .before .loop in
+    sym (choice-some (loop .best) (c .if2 .left)) ∙ down-ends (loop .inv) (end .loop-test .left)
 
 pub find-pivot-spec : {M : Type 1} → statement M
 find-pivot-spec =
