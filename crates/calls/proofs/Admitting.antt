@@ -1,5 +1,5 @@
 -- What a call on a dimension was given (`Lent`, `Lengths`), and what its callees answered.
---     admit-refused, admit-granted     the first of the checks 1 to 9; `Granted`, what they ask, the sizes of the dimension and the chain complex
+--     admit-refused, admit-granted     the first of the checks 1 to 9; `Granted`, what they ask, the cell counts of the dimension and the chain complex
 --     regrant                          the same for other chains that want as many slots
 --     twice-refused, twice-done        the two reductions went too wide; they left the state that is written
 use mathlib.Core.Path.{_≡_, subst}
@@ -22,9 +22,9 @@ use Rattle.refusal.specs.declared.Refusal.{Refusal}
 use Rattle.passes.specs.PassAnswers.{Cleared}
 use Rattle.two_reductions.specs.declared.reduced.Reduced.{Reduced}
 use Rattle.two_reductions.specs.Slices.{ReducedTwice, TwiceReduced}
-use Rattle.two_reductions.specs.Sizes.{sizesIn, SizesRead}
+use Rattle.two_reductions.specs.CellCounts.{cellCountsIn, CellCountsRead}
 use Rattle.calls.specs.Admission.{slotsFor, spaceFor, admission, Admits}
-use Rattle.two_reductions.specs.declared.sizes.Sizes.{Sizes}
+use Rattle.two_reductions.specs.declared.cell_counts.CellCounts.{CellCounts}
 use Rattle.calls.specs.declared.admission.Request.{Request}
 use Rattle.calls.specs.declared.admission.Request.the-variants.{Coordinates}
 use Rattle.calls.specs.declared.admission.Admission.{Admission}
@@ -59,14 +59,14 @@ cellsOf q = count (sectionsOf (q .sheet)) (q .dimension)
 module _ (l : Lengths) (request : Request) where
   -- the slots that check 9 asks for
   abbrev pub slotsAsked : ℕ
-  slotsAsked = slotsFor request (sizesIn (sectionsOf (l .question .sheet)) (l .question .dimension))
+  slotsAsked = slotsFor request (cellCountsIn (sectionsOf (l .question .sheet)) (l .question .dimension))
 
   abbrev pub spaceAsked : ℕ
-  spaceAsked = spaceFor request (sizesIn (sectionsOf (l .question .sheet)) (l .question .dimension))
+  spaceAsked = spaceFor request (cellCountsIn (sectionsOf (l .question .sheet)) (l .question .dimension))
 
-  pub record Granted (n : Sizes) : Type 0 where
+  pub record Granted (n : CellCounts) : Type 0 where
     pub passed : Passed (l .limit) (l .question) slotsAsked spaceAsked (l .slots) (l .work)
-    pub sizes : SizesRead (sectionsOf (l .question .sheet)) (l .question .dimension) n
+    pub cell-counts : CellCountsRead (sectionsOf (l .question .sheet)) (l .question .dimension) n
     pub library : Accepted (l .question .sheet)
     pub chains : ChainComplex libraryLimit (sectionsOf (l .question .sheet))
 
@@ -77,15 +77,15 @@ module _ (l : Lengths) (request : Request) where
     pub admit-refused : {x : Refusal} → r ≡ Refused x → admission (l .limit) (l .question) request (l .slots) (l .work) ≡ numberOf x
     admit-refused e = subst Answered e h
 
-    pub admit-granted : {n : Sizes} → l .limit ≤ libraryLimit → Bytes (l .question .sheet) → r ≡ Admitted n → Granted n
+    pub admit-granted : {n : CellCounts} → l .limit ≤ libraryLimit → Bytes (l .question .sheet) → r ≡ Admitted n → Granted n
     admit-granted within bytes e =
         let k = subst Answered e h in
         let passed = callChecks-zero (l .limit) (l .question) slotsAsked spaceAsked (l .slots) (l .work) .0 (k .0) in
         let library = accepted-library within (passed .accepted) in
-        record { passed = passed; sizes = k .1; library = library; chains = sheet-chains bytes library }
+        record { passed = passed; cell-counts = k .1; library = library; chains = sheet-chains bytes library }
 
 -- what is granted for some chains is granted for others that want as many slots
-pub regrant : (l : Lengths) {m number : ℕ} {n : Sizes} → m * cellsOf (l .question) ≡ number * cellsOf (l .question)
+pub regrant : (l : Lengths) {m number : ℕ} {n : CellCounts} → m * cellsOf (l .question) ≡ number * cellsOf (l .question)
     → Granted l (Coordinates number) n → Granted l (Coordinates m) n
 regrant l e g =
     record {
@@ -95,7 +95,7 @@ regrant l e g =
         output-slots = rw e (g .passed .output-slots);
         work-slots = g .passed .work-slots;
       };
-      sizes = g .sizes;
+      cell-counts = g .cell-counts;
       library = g .library;
       chains = g .chains;
     }

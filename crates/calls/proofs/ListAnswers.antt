@@ -31,7 +31,7 @@ use Rattle.two_reductions.specs.declared.reduced.Reduced.{Reduced}
 use Rattle.passes.specs.PassAnswers.{Cleared}
 use Rattle.calls.specs.Admission.{admission}
 use Rattle.calls.specs.CallAnswers.{CallAnswers}
-use Rattle.two_reductions.specs.declared.sizes.Sizes.{Sizes}
+use Rattle.two_reductions.specs.declared.cell_counts.CellCounts.{CellCounts}
 use Rattle.calls.specs.declared.admission.Request.the-variants.{Coordinates}
 use Rattle.calls.specs.declared.answer.Answer.the-variants.{Done, Refused}
 use Rattle.calls.proofs.Admitting.{Lent, lengths, cellsOf, Granted, twice, Reduces}
@@ -68,7 +68,7 @@ module _ (l : Lent) (number : ℕ) (chains : List ℤ) where
       → CallAnswers listsCalled (Refused x) (l .output) (l .work)
   lists-refuse x e = told x (admission-told (lengths l) number chains x e)
 
-  module _ {n : Sizes} (g : Granted (lengths l) (Coordinates number) n) where
+  module _ {n : CellCounts} (g : Granted (lengths l) (Coordinates number) n) where
     pub length-refuses : length chains ≢ number * many → CallAnswers listsCalled (Refused refusal.ChainLengthDiffers) (l .output) (l .work)
     length-refuses d = told refusal.ChainLengthDiffers (length-told (lengths l) number chains g d)
 

@@ -22,7 +22,7 @@ use Rattle.refusal.specs.Number.{numberOf}
 use Rattle.refusal.specs.NumberLaws.{number-positive}
 use Rattle.refusal.specs.declared.Refusal.{Refusal}
 use Rattle.calls.specs.Admission.{admission}
-use Rattle.two_reductions.specs.declared.sizes.Sizes.{Sizes}
+use Rattle.two_reductions.specs.declared.cell_counts.CellCounts.{CellCounts}
 use Rattle.calls.specs.declared.admission.Request.the-variants.{Coordinates}
 use Rattle.calls.proofs.Admitting.{Lengths, cellsOf, slotsAsked, spaceAsked, Granted}
 
@@ -56,7 +56,7 @@ module _ (l : Lengths) (number : ℕ) (chains : List ℤ) where
   admission-told x e =
       early-is ∙ call-told (l .limit) (l .question) slots space (l .slots) (l .work) chainChecked (λ q. absurd (omega (arith, number-positive x))) ∙ e
 
-  module _ {n : Sizes} (g : Granted l (Coordinates number) n) where
+  module _ {n : CellCounts} (g : Granted l (Coordinates number) n) where
     chains-next : listsEarly ≡ first chainChecked
     chains-next =
         early-is

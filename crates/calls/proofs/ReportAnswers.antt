@@ -26,7 +26,7 @@ use Rattle.two_reductions.specs.declared.reduced.Reduced.{Reduced}
 use Rattle.passes.specs.PassAnswers.{Cleared}
 use Rattle.calls.specs.Admission.{admission}
 use Rattle.calls.specs.CallAnswers.{CallAnswers}
-use Rattle.two_reductions.specs.declared.sizes.Sizes.{Sizes}
+use Rattle.two_reductions.specs.declared.cell_counts.CellCounts.{CellCounts}
 use Rattle.calls.specs.declared.admission.Request.the-variants.{Report}
 use Rattle.calls.specs.declared.answer.Answer.the-variants.{Done, Refused}
 use Rattle.calls.proofs.Admitting.{Lent, lengths, cellsOf, slotsAsked, spaceAsked, Granted, twice, Reduces}
@@ -63,7 +63,7 @@ module _ (l : Lent) where
   unfolding call
   report-refuses e = refuses early (two (l .question)) left (l .output) (l .work) (early-is ∙ e)
 
-  module _ {n : Sizes} (g : Granted (lengths l) Report n) where
+  module _ {n : CellCounts} (g : Granted (lengths l) Report n) where
     passes : early ≡ 0
     passes =
         early-is

@@ -8,9 +8,9 @@ use fields::field::TOP;
 use refusal::Refusal;
 use sheet::reader::Reading;
 use sheet::reader::Sheet;
+use two_reductions::cell_counts::CellCounts;
+use two_reductions::cell_counts::cell_counts_of;
 use two_reductions::layouts::work_slots;
-use two_reductions::sizes::Sizes;
-use two_reductions::sizes::sizes_of;
 
 // What a call asks of a dimension: its report, or the coordinates of a number of chains.
 pub enum Request {
@@ -20,17 +20,17 @@ pub enum Request {
 
 // The dimension may be worked on, or the call is refused.
 pub enum Admission {
-    Admitted(Sizes),
+    Admitted(CellCounts),
     Refused(Refusal),
 }
 
 impl Request {
     // Whether an output of `output` slots is too short. The slots are divided by the cells, because a product with the number of chains could wrap.
-    fn lacks_slots(self, sizes: Sizes, output: usize) -> bool
-        requires { ⌜ sizes .cells < 65536 ⌝ }
-        ensures { λ r. ⌜ r ≡ ltb output (slotsFor self sizes) ⌝ }
+    fn lacks_slots(self, n: CellCounts, output: usize) -> bool
+        requires { ⌜ n .cells < 65536 ⌝ }
+        ensures { λ r. ⌜ r ≡ ltb output (slotsFor self n) ⌝ }
     {
-        let cells = sizes.cells;
+        let cells = n.cells;
         match self {
             Request::Report => output < 2 + cells + cells * cells,
             Request::Coordinates(number) => cells != 0 && output / cells < number,
@@ -38,15 +38,15 @@ impl Request {
     }
 
     // The work slots that are wanted: those of the two reductions.
-    fn work_slots(self, sizes: Sizes) -> usize
-        requires { ⌜ (sizes .cells < 65536) × (sizes .rows < 65536) × (sizes .columns < 65536) ⌝ }
-        ensures { λ r. ⌜ r ≡ spaceFor self sizes ⌝ }
+    fn work_slots(self, n: CellCounts) -> usize
+        requires { ⌜ (n .cells < 65536) × (n .rows < 65536) × (n .columns < 65536) ⌝ }
+        ensures { λ r. ⌜ r ≡ spaceFor self n ⌝ }
     {
-        work_slots(sizes.cells, sizes.rows, sizes.columns)
+        work_slots(n.cells, n.rows, n.columns)
     }
 }
 
-// The sizes of the dimension, or the first of the checks 1 to 9 that applies; `output` and `work` are the lengths of the slices lent.
+// The cell counts of the dimension, or the first of the checks 1 to 9 that applies; `output` and `work` are the lengths of the slices lent.
 pub fn admit(
     sheet: Sheet,
     s: &[u8],
@@ -64,12 +64,12 @@ pub fn admit(
     if TOP < p {
         return Admission::Refused(Refusal::DimensionExceedsTop);
     }
-    let sizes = sizes_of(s, p);
-    if request.lacks_slots(sizes, output) {
+    let n = cell_counts_of(s, p);
+    if request.lacks_slots(n, output) {
         return Admission::Refused(Refusal::SliceTooShort);
     }
-    if work < request.work_slots(sizes) {
+    if work < request.work_slots(n) {
         return Admission::Refused(Refusal::SliceTooShort);
     }
-    Admission::Admitted(sizes)
+    Admission::Admitted(n)
 }

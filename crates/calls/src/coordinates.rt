@@ -36,7 +36,7 @@ pub fn coordinate_lists(
         r left work-left
         ⌝ }
 {
-    let sizes = match admit(
+    let n = match admit(
         Sheet::library(),
         s,
         dimension,
@@ -45,10 +45,10 @@ pub fn coordinate_lists(
         work.len(),
     ) {
         Admission::Refused(refusal) => return Answer::Refused(refusal),
-        Admission::Admitted(sizes) => sizes,
+        Admission::Admitted(n) => n,
     };
     let p = dimension as usize;
-    let cells = sizes.cells;
+    let cells = n.cells;
     if chains.len() != number * cells {
         return Answer::Refused(Refusal::ChainLengthDiffers);
     }
@@ -56,7 +56,7 @@ pub fn coordinate_lists(
     if let Check::Refused(refusal) = check_chains(s, p, cells, lists, chains) {
         return Answer::Refused(refusal);
     }
-    let Reductions::Done(reduced) = reduce_twice(s, p, sizes, work) else {
+    let Reductions::Done(reduced) = reduce_twice(s, p, n, work) else {
         return Answer::Refused(Refusal::TooWide);
     };
     write_lists(reduced, work, cells, lists, chains, coordinates);

@@ -31,7 +31,7 @@ pub fn report_at(
         CallAnswers (call (sheet .limit) (asked (now (s .entry)) dimension) requests.report (now (report .entry)) (now (work .entry))) r left work-left
         ⌝ }
 {
-    let sizes = match admit(
+    let n = match admit(
         sheet,
         s,
         dimension,
@@ -40,10 +40,10 @@ pub fn report_at(
         work.len(),
     ) {
         Admission::Refused(refusal) => return Answer::Refused(refusal),
-        Admission::Admitted(sizes) => sizes,
+        Admission::Admitted(n) => n,
     };
     let p = dimension as usize;
-    let Reductions::Done(reduced) = reduce_twice(s, p, sizes, work) else {
+    let Reductions::Done(reduced) = reduce_twice(s, p, n, work) else {
         return Answer::Refused(Refusal::TooWide);
     };
     let counts = write_report(reduced, work, report);

@@ -31,7 +31,7 @@ use Rattle.refusal.specs.declared.Refusal.the-variants as refusal
 use Rattle.two_reductions.specs.declared.reduced.Reduced.{Reduced}
 use Rattle.two_reductions.specs.Slices.{stateIn}
 use Rattle.calls.specs.Admission.{admission}
-use Rattle.two_reductions.specs.declared.sizes.Sizes.{Sizes}
+use Rattle.two_reductions.specs.declared.cell_counts.CellCounts.{CellCounts}
 use Rattle.calls.specs.declared.admission.Request.the-variants.{Coordinates}
 use Rattle.calls.proofs.Admitting.{Lengths, cellsOf, Granted, twice, Reduces}
 use Rattle.calls.proofs.ListChecks.{listsEarly, admission-told, length-told, cycles-next, small-coefficients}
@@ -80,7 +80,7 @@ module _ (q : Question) (number : ℕ) (chains output : List ℕ) {work : ℕ} (
   pub lists-refuse : (x : Refusal) → admission hostLimit q (Coordinates number) (slotsIn output) work ≡ numberOf x → HostAnswers called (numberOf x) output
   lists-refuse x e = told x (admission-told l number coefficients x e)
 
-  module _ {n : Sizes} (g : Granted l (Coordinates number) n) where
+  module _ {n : CellCounts} (g : Granted l (Coordinates number) n) where
     pub length-refuses : length chains ≢ 4 * (number * many) → HostAnswers called 10 output
     length-refuses d = told refusal.ChainLengthDiffers (length-told l number coefficients g (chainFrom-other (number * many) chains d))
 

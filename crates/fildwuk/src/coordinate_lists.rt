@@ -101,7 +101,7 @@ pub fn lists_through(
         ⌝ }
 {
     let slots = coordinates.len() / 8;
-    let sizes = match admit(
+    let n = match admit(
         Sheet::host(),
         sheet,
         dimension,
@@ -110,10 +110,10 @@ pub fn lists_through(
         work.len(),
     ) {
         Admission::Refused(refusal) => return refusal.number(),
-        Admission::Admitted(sizes) => sizes,
+        Admission::Admitted(n) => n,
     };
     let p = dimension as usize;
-    let cells = sizes.cells;
+    let cells = n.cells;
     if chains.len() != 4 * (number * cells) {
         return Refusal::ChainLengthDiffers.number();
     }
@@ -121,7 +121,7 @@ pub fn lists_through(
     if let Check::Refused(refusal) = check_bytes(sheet, p, cells, lists, chains) {
         return refusal.number();
     }
-    let Reductions::Done(reduced) = reduce_twice(sheet, p, sizes, work) else {
+    let Reductions::Done(reduced) = reduce_twice(sheet, p, n, work) else {
         return Refusal::TooWide.number();
     };
     write_bytes(reduced, work, cells, lists, chains, coordinates);

@@ -1,4 +1,4 @@
--- What the sheet gives the two reductions and the calls: rows-none, rows-section and rows-before, the rows of a boundary matrix; sizes-read, the sizes of a
+-- What the sheet gives the two reductions and the calls: rows-none, rows-section and rows-before, the rows of a boundary matrix; cell-counts-read, the cell counts of a
 -- dimension, and what follows from them; accepted-library, a sheet that is accepted at a lower limit is accepted at the library's; sheet-chains.
 use mathlib.Core.Path.{_≡_, refl, sym, _∙_, ap}
 use mathlib.Core.Logic.{_≢_}
@@ -20,8 +20,8 @@ use Rattle.limits.specs.Limits.{libraryLimit}
 use Rattle.requests.specs.Call.{workSlots}
 use Rattle.faces.specs.Face.{Accepted}
 use Rattle.two_reductions.specs.Layouts.{firstLayout, secondLayout}
-use Rattle.two_reductions.specs.Sizes.{SizesRead}
-use Rattle.two_reductions.specs.declared.sizes.Sizes.{Sizes}
+use Rattle.two_reductions.specs.CellCounts.{CellCountsRead}
+use Rattle.two_reductions.specs.declared.cell_counts.CellCounts.{CellCounts}
 use Rattle.two_reductions.specs.Slices.{firstLayoutOf, secondLayoutOf}
 
 pub rows-none : (K : Sections) (p : ℕ) → p ≡ 0 → countBelow K p ≡ 0
@@ -56,9 +56,9 @@ accepted-library {limit} {b} h e = record {
 pub sheet-chains : {b : List ℕ} → Bytes b → Accepted b → ChainComplex libraryLimit (sectionsOf b)
 sheet-chains {b} bytes h = accepted-chains libraryLimit b bytes (h .none-applies)
 
-pub sizes-read : (b : List ℕ) {p cells rows columns : ℕ} → ReadsBelow 65536 (countField b p) cells → ReadsBelow 65536 (countBelow (sectionsOf b) p) rows
-    → ReadsBelow 65536 (countField b (p + 1)) columns → SizesRead (sectionsOf b) p (record { cells = cells; rows = rows; columns = columns })
-sizes-read b {p} c r d = record {
+pub cell-counts-read : (b : List ℕ) {p cells rows columns : ℕ} → ReadsBelow 65536 (countField b p) cells → ReadsBelow 65536 (countBelow (sectionsOf b) p) rows
+    → ReadsBelow 65536 (countField b (p + 1)) columns → CellCountsRead (sectionsOf b) p (record { cells = cells; rows = rows; columns = columns })
+cell-counts-read b {p} c r d = record {
   is =
       cc (
         c .is ∙ sym (count-sectionsOf b p),
@@ -70,15 +70,15 @@ sizes-read b {p} c r d = record {
   columns-below = d .below;
 }
 
-module _ {K : Sections} {p : ℕ} {n : Sizes} (h : SizesRead K p n) where
+module _ {K : Sections} {p : ℕ} {n : CellCounts} (h : CellCountsRead K p n) where
   pub cells-of : n .cells ≡ count K p
-  cells-of = ap (λ (k : Sizes). k .cells) (h .is)
+  cells-of = ap (λ (k : CellCounts). k .cells) (h .is)
 
   pub slots-of : n .cells * (2 * n .cells + max (n .rows) (n .columns)) ≡ workSlots K p
-  slots-of = ap (λ (k : Sizes). k .cells * (2 * k .cells + max (k .rows) (k .columns))) (h .is)
+  slots-of = ap (λ (k : CellCounts). k .cells * (2 * k .cells + max (k .rows) (k .columns))) (h .is)
 
   pub first-of : firstLayout (n .cells) (n .rows) (n .columns) ≡ firstLayoutOf K p
-  first-of = ap (λ (k : Sizes). firstLayout (k .cells) (k .rows) (k .columns)) (h .is)
+  first-of = ap (λ (k : CellCounts). firstLayout (k .cells) (k .rows) (k .columns)) (h .is)
 
   pub second-of : (rank : ℕ) → secondLayout (n .cells) (n .rows) (n .columns) rank ≡ secondLayoutOf K p rank
-  second-of rank = ap (λ (k : Sizes). secondLayout (k .cells) (k .rows) (k .columns) rank) (h .is)
+  second-of rank = ap (λ (k : CellCounts). secondLayout (k .cells) (k .rows) (k .columns) rank) (h .is)

@@ -9,13 +9,13 @@ ghost use Rattle.reduction_steps.specs.Pivot.{pivotRule};
 ghost use Rattle.requests.specs.Call.{workSlots};
 ghost use Rattle.reports.specs.Reductions.{reductionsOf};
 ghost use Rattle.faces.specs.Face.{Accepted};
-ghost use Rattle.two_reductions.specs.Sizes.{SizesRead};
+ghost use Rattle.two_reductions.specs.CellCounts.{CellCountsRead};
 ghost use Rattle.two_reductions.specs.Slices.{firstLayoutOf, startPeak, Filled, TwiceReduced, ZeroFrom};
+use crate::cell_counts::CellCounts;
 use crate::layouts::first_layout;
 use crate::layouts::second_layout;
 use crate::layouts::work_slots;
 use crate::reduced::Reduced;
-use crate::sizes::Sizes;
 use boundaries::fill::fill_boundary;
 use boundaries::fill::fill_identity;
 use boundaries::product::multiply;
@@ -55,19 +55,19 @@ fn start_peak(cells: usize) -> u64
 }
 
 // Reduces the boundary matrix of dimension p, then Q times the one of p + 1, in the part of the work slice that their layouts use, which reads 0.
-fn reduce_part(s: &[u8], p: usize, sizes: Sizes, w: &mut [i32]) -> Reductions
+fn reduce_part(s: &[u8], p: usize, n: CellCounts, w: &mut [i32]) -> Reductions
     requires { ⌜ Accepted (now s) × (p ≤ top) ⌝ }
     requires { ⌜ workSlots (sectionsOf (now s)) p ≤ length (now w) ⌝ }
-    requires { ⌜ SizesRead (sectionsOf (now s)) p sizes ⌝ }
+    requires { ⌜ CellCountsRead (sectionsOf (now s)) p n ⌝ }
     requires { ⌜ now w ≡ replicate (length (now w)) (pos 0) ⌝ }
     ensures { λ r. ⌜ TwiceReduced (sectionsOf (now (s .entry))) p (reductionsOf pivotRule (sectionsOf (now (s .entry))) p) (length (now (w .entry))) r (now (w .exit)) ⌝ }
 {
-    let first = first_layout(sizes.cells, sizes.rows, sizes.columns);
+    let first = first_layout(n.cells, n.rows, n.columns);
     fill_first(s, p, first, w);
-    let Reduction::Done(rank, halfway) = reduce_matrix(first, w, start_peak(sizes.cells)) else {
+    let Reduction::Done(rank, halfway) = reduce_matrix(first, w, start_peak(n.cells)) else {
         return Reductions::Refused(Refusal::TooWide);
     };
-    let second = second_layout(sizes.cells, sizes.rows, sizes.columns, rank);
+    let second = second_layout(n.cells, n.rows, n.columns, rank);
     let Effect::Done(product) = multiply(s, p, second.row_follower, second.matrix, w) else {
         clear(w);
         return Reductions::Refused(Refusal::TooWide);
@@ -84,14 +84,14 @@ fn reduce_part(s: &[u8], p: usize, sizes: Sizes, w: &mut [i32]) -> Reductions
 }
 
 // The two reductions of dimension p. The work slice is cleared first, and the slots behind those of the layouts are not lent.
-pub fn reduce_twice(s: &[u8], p: usize, sizes: Sizes, w: &mut [i32]) -> Reductions
+pub fn reduce_twice(s: &[u8], p: usize, n: CellCounts, w: &mut [i32]) -> Reductions
     requires { ⌜ Accepted (now s) × (p ≤ top) ⌝ }
     requires { ⌜ workSlots (sectionsOf (now s)) p ≤ length (now w) ⌝ }
-    requires { ⌜ SizesRead (sectionsOf (now s)) p sizes ⌝ }
+    requires { ⌜ CellCountsRead (sectionsOf (now s)) p n ⌝ }
     ensures { λ r. ⌜ TwiceReduced (sectionsOf (now (s .entry))) p (reductionsOf pivotRule (sectionsOf (now (s .entry))) p) (length (now (w .entry))) r (now (w .exit)) ⌝ }
     ensures { λ r. ⌜ ZeroFrom (workSlots (sectionsOf (now (s .entry))) p) (now (w .exit)) ⌝ }
 {
     clear(w);
-    let slots = work_slots(sizes.cells, sizes.rows, sizes.columns);
-    reduce_part(s, p, sizes, &mut w[..slots])
+    let slots = work_slots(n.cells, n.rows, n.columns);
+    reduce_part(s, p, n, &mut w[..slots])
 }

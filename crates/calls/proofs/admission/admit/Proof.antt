@@ -10,7 +10,7 @@ use Rattle.sheet.specs.Number.{readingNumber}
 use Rattle.requests.specs.Question.{asked}
 use Rattle.requests.proofs.CheckLaws.{callChecks-zero}
 use Rattle.calls.specs.Admission.{slotsFor, spaceFor}
-use Rattle.two_reductions.specs.declared.sizes.Sizes.{Sizes}
+use Rattle.two_reductions.specs.declared.cell_counts.CellCounts.{CellCounts}
 use Rattle.calls.proofs.Refusals.{sheet-refused, dimension-refused, output-short, work-short}
 use Rattle.calls.proofs.Admitting.{Lengths, slotsAsked, spaceAsked}
 use Rattle.calls.proofs.admission.admit.Statement.{statement}
@@ -61,7 +61,7 @@ returns-2 c =
 -- ---- the slices
 
 lacks-slots-requires : tie.Need-lacks-slots-requires
-lacks-slots-requires c κs = c .sizes-of .ensures .cells-below
+lacks-slots-requires c κs = c .cell-counts-of .ensures .cells-below
 
 module _ (c : tie.After-lacks-slots) where
   abbrev told : tie.After-enum-told
@@ -69,7 +69,7 @@ module _ (c : tie.After-lacks-slots) where
 
   output-is : ltb (start told .args .output) (slots (start told)) ≡ c .lacks-slots .result
   output-is =
-      ap (λ (n : Sizes). ltb (start told .args .output) (slotsFor (start told .args .request) n)) (sym (c .before .sizes-of .ensures .is))
+      ap (λ (n : CellCounts). ltb (start told .args .output) (slotsFor (start told .args .request) n)) (sym (c .before .cell-counts-of .ensures .is))
       ∙ sym (c .lacks-slots .ensures)
 
 returns-3 : tie.Need-returns-3
@@ -84,7 +84,7 @@ module _ (c : tie.After-work-slots) where
   tried = c .before .before
 
   work-is : c .work-slots .result ≡ space (start (told tried))
-  work-is = c .work-slots .ensures ∙ ap (spaceFor (start (told tried) .args .request)) (tried .before .sizes-of .ensures .is)
+  work-is = c .work-slots .ensures ∙ ap (spaceFor (start (told tried) .args .request)) (tried .before .cell-counts-of .ensures .is)
 
 returns-4 : tie.Need-returns-4
 returns-4 c =
@@ -104,7 +104,7 @@ returns-5 c =
         output-slots = ltb-false (a .output) (slots (start t)) (output-is o ∙ c .before .before .if2 .left);
         work-slots = rw (← work-is (c .before)) (c .if3 .left);
       }),
-      o .before .sizes-of .ensures,
+      o .before .cell-counts-of .ensures,
     )
 
 pub admit-spec : {M : Type 1} → statement M

@@ -26,7 +26,7 @@ use Rattle.writers.specs.Written.{coordinatesOf}
 use Rattle.calls.specs.Admission.{Admits}
 use Rattle.calls.specs.CallAnswers.{CallAnswers}
 use Rattle.calls.specs.declared.answer.Answer.{Answer}
-use Rattle.two_reductions.specs.declared.sizes.Sizes.{Sizes}
+use Rattle.two_reductions.specs.declared.cell_counts.CellCounts.{CellCounts}
 use Rattle.calls.specs.declared.admission.Request.the-variants.{Coordinates}
 use Rattle.two_reductions.proofs.Sheet.{cells-of}
 use Rattle.calls.proofs.Admitting.{Lent, lengths, admit-refused, Granted, admit-granted, regrant, Reduces, twice-done, twice-refused}
@@ -58,8 +58,8 @@ returns c =
     lists-refuse l (start .args .number) (now (start .args .chains)) (c .before .refusal .given .0 .0)
     (admit-refused (lengths l) (Coordinates (start .args .number)) (called .admit .result) (admits called) (c .before .refusal .given .1))
 
-enum-known-sizes : tie.Need-enum-known-sizes
-enum-known-sizes c = c .match .keys2
+enum-known-n : tie.Need-enum-known-n
+enum-known-n c = c .match .keys2
 
 module _ (c : tie.After-known-told2) where
   abbrev called : tie.After-admit
@@ -74,20 +74,20 @@ module _ (c : tie.After-known-told2) where
   abbrev chains-of : List ℤ
   chains-of = now (entered .args .chains)
 
-  abbrev sizes : Sizes
-  sizes = c .before .sizes .given .0 .0
+  abbrev cell-counts : CellCounts
+  cell-counts = c .before .n .given .0 .0
 
   -- n_p
   abbrev cells : ℕ
   cells = count (sectionsOf (now (entered .args .s))) (entered .args .dimension)
 
-  granted : Granted (lengths (lent entered)) (Coordinates number) sizes
+  granted : Granted (lengths (lent entered)) (Coordinates number) cell-counts
   granted =
       admit-granted (lengths (lent entered)) (Coordinates number) (called .admit .result) (admits called) (le-refl libraryLimit)
-      (record { small = λ i. called .before .before .shared-slice-known .given i .fits }) (c .before .sizes .given .1)
+      (record { small = λ i. called .before .before .shared-slice-known .given i .fits }) (c .before .n .given .1)
 
-  cells-are : sizes .cells ≡ cells
-  cells-are = cells-of (granted .sizes)
+  cells-are : cell-counts .cells ≡ cells
+  cells-are = cells-of (granted .cell-counts)
 
 -- ---- the chains
 
@@ -116,7 +116,7 @@ module _ (c : tie.After-nonempty) where
   size : length (chains-of known) ≡ lists * cells known
   size = c .before .if1 .left ∙ ap (λ (n : ℕ). number known * n) (cells-are known) ∙ sym same-slots
 
-  regranted : Granted (lengths (lent (entered known))) (Coordinates lists) (sizes known)
+  regranted : Granted (lengths (lent (entered known))) (Coordinates lists) (cell-counts known)
   regranted = regrant (lengths (lent (entered known))) same-slots (granted known)
 
   -- the call on them is the call on all
@@ -163,7 +163,7 @@ module _ (c : tie.After-enum-told) where
 
 reduce-twice-requires : tie.Need-reduce-twice-requires
 reduce-twice-requires c κs =
-    let g = granted (known (counted (c .before))) in ((g .library, g .passed .dimension), (g .passed .work-slots, g .sizes))
+    let g = granted (known (counted (c .before))) in ((g .library, g .passed .dimension), (g .passed .work-slots, g .cell-counts))
 
 enum-known-reduced : tie.Need-enum-known-reduced
 enum-known-reduced c = c .match3 .keys1
@@ -230,6 +230,6 @@ returns-5 c =
 pub coordinate-lists-spec : {M : Type 1} → statement M
 coordinate-lists-spec =
     tie.close
-    (tie.spec (λ c κs. search needs) (λ c κs. search needs) enum-known-refusal returns enum-known-sizes mul-if1 returns-2 (λ c κs. search needs) check-chains-requires
+    (tie.spec (λ c κs. search needs) (λ c κs. search needs) enum-known-refusal returns enum-known-n mul-if1 returns-2 (λ c κs. search needs) check-chains-requires
     enum-known-refusal-2 returns-3 enum-told reduce-twice-requires enum-known-reduced enum-told-2 same-length returns-4 write-lists-requires counts-requires
     (λ c κs. search needs) same-length-2 same-length-3 returns-5)

@@ -27,25 +27,25 @@ returns c =
     let l = lent (called .before .before) in
     report-refuses l (admit-refused (lengths l) Report (called .admit .result) (called .admit .ensures) (c .before .refusal .given .1))
 
-enum-known-sizes : tie.Need-enum-known-sizes
-enum-known-sizes c = c .match .keys2
+enum-known-n : tie.Need-enum-known-n
+enum-known-n c = c .match .keys2
 
-module _ (c : tie.After-sizes) where
+module _ (c : tie.After-n) where
   abbrev given : Lent
   given = lent (c .before .before .before .before)
 
-  granted : Granted (lengths given) Report (c .sizes .given .0 .0)
+  granted : Granted (lengths given) Report (c .n .given .0 .0)
   granted =
       let called = c .before .before in
       admit-granted (lengths given) Report (called .admit .result) (called .admit .ensures) (called .before .before .pre)
-      (record { small = λ i. called .before .shared-slice-known .given i .fits }) (c .sizes .given .1)
+      (record { small = λ i. called .before .shared-slice-known .given i .fits }) (c .n .given .1)
 
 -- ---- the reductions
 
 reduce-twice-requires : tie.Need-reduce-twice-requires
 reduce-twice-requires c κs =
     let s = c .before .before in
-    let g = granted s in ((g .library, g .passed .dimension), (g .passed .work-slots, g .sizes))
+    let g = granted s in ((g .library, g .passed .dimension), (g .passed .work-slots, g .cell-counts))
 
 enum-known-reduced : tie.Need-enum-known-reduced
 enum-known-reduced c = c .match2 .keys1
@@ -53,7 +53,7 @@ enum-known-reduced c = c .match2 .keys1
 enum-told : tie.Need-enum-told
 enum-told c = c .match2 .keys2
 
-abbrev admitted : tie.After-reduce-twice → tie.After-sizes
+abbrev admitted : tie.After-reduce-twice → tie.After-n
 admitted c = c .before .before .before
 
 returns-2 : tie.Need-returns-2
@@ -71,7 +71,7 @@ module _ (c : tie.After-known-told3) where
   abbrev called : tie.After-reduce-twice
   called = c .before .before .before .before
 
-  abbrev sized : tie.After-sizes
+  abbrev sized : tie.After-n
   sized = admitted called
 
   reduced : Reduces (lengths (given sized)) (c .before .reduced .given .0 .0) (called .reduce-twice .last .1 .1 .1 .0)
@@ -99,5 +99,5 @@ same-length-3 c =
 pub report-at-spec : {M : Type 1} → statement M
 report-at-spec =
     tie.close
-    (tie.spec (λ c κs. search needs) enum-known-refusal returns enum-known-sizes reduce-twice-requires enum-known-reduced enum-told same-length
+    (tie.spec (λ c κs. search needs) enum-known-refusal returns enum-known-n reduce-twice-requires enum-known-reduced enum-told same-length
     returns-2 write-report-requires (λ c κs. search needs) same-length-2 same-length-3 returns-3)

@@ -21,7 +21,7 @@ use Rattle.host_calls.specs.HostListsLaws.{nonempty-host-lists}
 use Rattle.limits.specs.Limits.{hostLimit, coefficientLimit}
 use Rattle.chains.specs.Check.{checkNumber}
 use Rattle.calls.specs.Admission.{Admits}
-use Rattle.two_reductions.specs.declared.sizes.Sizes.{Sizes}
+use Rattle.two_reductions.specs.declared.cell_counts.CellCounts.{CellCounts}
 use Rattle.calls.specs.declared.admission.Request.the-variants.{Coordinates}
 use Rattle.two_reductions.proofs.Sheet.{cells-of}
 use Rattle.calls.proofs.Admitting.{Lengths, cellsOf, admit-refused, Granted, admit-granted, regrant, Reduces, twice-done, twice-refused}
@@ -73,20 +73,20 @@ module _ (c : tie.After-known-told2) where
   abbrev output : List ℕ
   output = now (entered .args .coordinates)
 
-  abbrev sizes : Sizes
-  sizes = c .before .sizes .given .0 .0
+  abbrev cell-counts : CellCounts
+  cell-counts = c .before .n .given .0 .0
 
   -- n_p
   abbrev cells : ℕ
   cells = cellsOf q
 
-  granted : Granted (given entered) (Coordinates number) sizes
+  granted : Granted (given entered) (Coordinates number) cell-counts
   granted =
       admit-granted (given entered) (Coordinates number) (called .admit .result) (admits called) (omega arith)
-      (record { small = λ i. called .before .before .before .before .shared-slice-known .given i .fits }) (c .before .sizes .given .1)
+      (record { small = λ i. called .before .before .before .before .shared-slice-known .given i .fits }) (c .before .n .given .1)
 
-  cells-are : sizes .cells ≡ cells
-  cells-are = cells-of (granted .sizes)
+  cells-are : cell-counts .cells ≡ cells
+  cells-are = cells-of (granted .cell-counts)
 
 -- ---- the chains
 
@@ -120,7 +120,7 @@ module _ (c : tie.After-nonempty) where
   size : length (bytes known) ≡ 4 * (lists * cells known)
   size = c .before .if1 .left ∙ ap (λ (n : ℕ). 4 * (number known * n)) (cells-are known) ∙ ap (λ (n : ℕ). 4 * n) (sym same-slots)
 
-  regranted : Granted (given (entered known)) (Coordinates lists) (sizes known)
+  regranted : Granted (given (entered known)) (Coordinates lists) (cell-counts known)
   regranted = regrant (given (entered known)) same-slots (granted known)
 
   -- the call on them is the call on all
@@ -178,7 +178,7 @@ module _ (c : tie.After-enum-told) where
 
 reduce-twice-requires : tie.Need-reduce-twice-requires
 reduce-twice-requires c κs =
-    let g = granted (known (counted (c .before))) in ((g .library, g .passed .dimension), (g .passed .work-slots, g .sizes))
+    let g = granted (known (counted (c .before))) in ((g .library, g .passed .dimension), (g .passed .work-slots, g .cell-counts))
 
 returns-4 : tie.Need-returns-4
 returns-4 c =

@@ -11,7 +11,7 @@ use Rattle.complexes.proofs.ChainComplex.{ChainComplex}
 use Rattle.sheet_format.specs.Check.{sectionsOf}
 use Rattle.limits.specs.Limits.{libraryLimit}
 use Rattle.reduction_steps.proofs.PivotLaws.{pivotRule-is-rule}
-use Rattle.two_reductions.specs.Sizes.{SizesRead}
+use Rattle.two_reductions.specs.CellCounts.{CellCountsRead}
 use Rattle.two_reductions.specs.Slices.{firstLayoutOf, secondLayoutOf, startPeak}
 use Rattle.two_reductions.proofs.Sheet.{sheet-chains, cells-of, first-of, second-of}
 use Rattle.two_reductions.proofs.Filling.{laid}
@@ -24,7 +24,7 @@ use Rattle.two_reductions.proofs.reductions.reduce_part.Tie as tie
 -- ---- the layouts
 
 first-layout-requires : tie.Need-first-layout-requires
-first-layout-requires c κs = let sizes = c .before .pre .1 .1 .0 in (sizes .cells-below, sizes .rows-below, sizes .columns-below)
+first-layout-requires c κs = let cell-counts = c .before .pre .1 .1 .0 in (cell-counts .cells-below, cell-counts .rows-below, cell-counts .columns-below)
 
 module _ (c : tie.After-first-layout) where
   abbrev start : tie.Start
@@ -33,11 +33,11 @@ module _ (c : tie.After-first-layout) where
   chains : ChainComplex libraryLimit (sectionsOf (now (start .args .s)))
   chains = sheet-chains (record { small = λ i. c .before .shared-slice-known .given i .fits }) (start .pre .0 .0)
 
-  sizes : SizesRead (sectionsOf (now (start .args .s))) (start .args .p) (start .args .sizes)
-  sizes = start .pre .1 .1 .0
+  cell-counts : CellCountsRead (sectionsOf (now (start .args .s))) (start .args .p) (start .args .n)
+  cell-counts = start .pre .1 .1 .0
 
   first-is : c .first-layout .result ≡ firstLayoutOf (sectionsOf (now (start .args .s))) (start .args .p)
-  first-is = c .first-layout .ensures ∙ first-of sizes
+  first-is = c .first-layout .ensures ∙ first-of cell-counts
 
 -- ---- the first reduction
 
@@ -51,7 +51,7 @@ reduce-matrix-requires c κs =
     let filled = c .before .before .before .fill-first .ensures in (
       rw (filled .kept .same-length)
           (laid (sectionsOf (now (s .args .s))) (s .args .p) (length (now (s .args .w))) (s .pre .1 .0) (first .first-layout .result) (first-is first)),
-      rw (c .start-peak .ensures, cells-of (sizes first)) (filled .kept .under),
+      rw (c .start-peak .ensures, cells-of (cell-counts first)) (filled .kept .under),
     )
 
 enum-known-rank : tie.Need-enum-known-rank
@@ -66,7 +66,7 @@ module _ (c : tie.After-reduce-matrix) where
 
   -- the peak at the start
   started-from : let s = start at-first in c .before .start-peak .result ≡ startPeak (count (sectionsOf (now (s .args .s))) (s .args .p))
-  started-from = c .before .start-peak .ensures ∙ ap startPeak (cells-of (sizes at-first))
+  started-from = c .before .start-peak .ensures ∙ ap startPeak (cells-of (cell-counts at-first))
 
 returns : tie.Need-returns
 returns c =
@@ -103,11 +103,11 @@ module _ (c : tie.After-known-told) where
 
 second-layout-requires : tie.Need-second-layout-requires
 second-layout-requires c κs =
-    let n = sizes (began c) in (n .cells-below, n .rows-below, n .columns-below, rw (cells-of n) (first c .rank-within))
+    let n = cell-counts (began c) in (n .cells-below, n .rows-below, n .columns-below, rw (cells-of n) (first c .rank-within))
 
 second-is : (c : tie.After-second-layout) →
     let s = start (began (c .before)) in c .second-layout .result ≡ secondLayoutOf (sectionsOf (now (s .args .s))) (s .args .p) (rank (c .before))
-second-is c = c .second-layout .ensures ∙ second-of (sizes (began (c .before))) (rank (c .before))
+second-is c = c .second-layout .ensures ∙ second-of (cell-counts (began (c .before))) (rank (c .before))
 
 multiply-requires : tie.Need-multiply-requires
 multiply-requires c κs =

@@ -21,7 +21,7 @@ use Rattle.two_reductions.proofs.reductions.reduce_twice.Tie as tie
 
 work-slots-requires : tie.Need-work-slots-requires
 work-slots-requires c κs =
-    let sizes = c .before .before .before .before .pre .1 .1 in (sizes .cells-below, sizes .rows-below, sizes .columns-below)
+    let cell-counts = c .before .before .before .before .pre .1 .1 in (cell-counts .cells-below, cell-counts .rows-below, cell-counts .columns-below)
 
 module _ (c : tie.After-work-slots) where
   abbrev start : tie.Start

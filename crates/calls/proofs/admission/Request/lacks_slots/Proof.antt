@@ -11,11 +11,11 @@ use lib.Dec.{eqb, ltb}
 use Rattle.two_reductions.proofs.Room.{product-below}
 use Rattle.calls.specs.Admission.{slotsFor}
 use Rattle.calls.specs.declared.admission.Request.{Request}
-use Rattle.two_reductions.specs.declared.sizes.Sizes.{Sizes}
+use Rattle.two_reductions.specs.declared.cell_counts.CellCounts.{CellCounts}
 use Rattle.calls.proofs.admission.Request.lacks_slots.Statement.{statement}
 use Rattle.calls.proofs.admission.Request.lacks_slots.Tie as tie
 
-square-below : (c : tie.Start) → c .args .sizes .cells * c .args .sizes .cells ≤ 2 ^ 32
+square-below : (c : tie.Start) → c .args .n .cells * c .args .n .cells ≤ 2 ^ 32
 square-below c = product-below (c .pre) (c .pre)
 
 mul-result : tie.Need-mul-result
@@ -37,21 +37,21 @@ empty : (output number cells : ℕ) → cells ≡ 0 → not (eqb cells 0) ≡ lt
 empty output number cells e = rw (e, mul-zero number) (sym (le-ltb output 0 (omega arith)))
 
 -- what is asked
-asked : (output : ℕ) (sizes : Sizes) {x y : Request} → x ≡ y → ltb output (slotsFor y sizes) ≡ ltb output (slotsFor x sizes)
-asked output sizes e = ap (λ (r : Request). ltb output (slotsFor r sizes)) (sym e)
+asked : (output : ℕ) (cell-counts : CellCounts) {x y : Request} → x ≡ y → ltb output (slotsFor y cell-counts) ≡ ltb output (slotsFor x cell-counts)
+asked output cell-counts e = ap (λ (r : Request). ltb output (slotsFor r cell-counts)) (sym e)
 
 returns : tie.Need-returns
-returns c = let a = c .before .before .args in asked (a .output) (a .sizes) (c .enum-told .given .1)
+returns c = let a = c .before .before .args in asked (a .output) (a .n) (c .enum-told .given .1)
 
 returns-2 : tie.Need-returns-2
 returns-2 c =
     let a = c .before .before .before .before .args in
-    divided (a .output) (a .sizes .cells) (c .before .before .self .given .0 .0) (omega (arith, c .if1 .taken)) ∙ asked (a .output) (a .sizes) (c .before .before .self .given .1)
+    divided (a .output) (a .n .cells) (c .before .before .self .given .0 .0) (omega (arith, c .if1 .taken)) ∙ asked (a .output) (a .n) (c .before .before .self .given .1)
 
 returns-3 : tie.Need-returns-3
 returns-3 c =
     let a = c .before .before .before .before .args in
-    empty (a .output) (c .before .before .self .given .0 .0) (a .sizes .cells) (c .if1 .left) ∙ asked (a .output) (a .sizes) (c .before .before .self .given .1)
+    empty (a .output) (c .before .before .self .given .0 .0) (a .n .cells) (c .if1 .left) ∙ asked (a .output) (a .n) (c .before .before .self .given .1)
 
 pub lacks-slots-spec : {M : Type 1} → statement M
 lacks-slots-spec =

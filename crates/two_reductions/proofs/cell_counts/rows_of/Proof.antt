@@ -1,12 +1,12 @@
--- `sizes::rows_of` meets its contract: dimension 0 has no rows.
+-- `cell_counts::rows_of` meets its contract: dimension 0 has no rows.
 use mathlib.Core.Path.{sym, _∙_}
 use native.Mathlib.Omega.{arith}
 use borrow.Author.Needs.{needs}
 use denote.Ref.{now}
 use Rattle.sheet_format.specs.Check.{sectionsOf}
 use Rattle.two_reductions.proofs.Sheet.{rows-none, rows-before}
-use Rattle.two_reductions.proofs.sizes.rows_of.Statement.{statement}
-use Rattle.two_reductions.proofs.sizes.rows_of.Tie as tie
+use Rattle.two_reductions.proofs.cell_counts.rows_of.Statement.{statement}
+use Rattle.two_reductions.proofs.cell_counts.rows_of.Tie as tie
 
 returns : tie.Need-returns
 returns c =

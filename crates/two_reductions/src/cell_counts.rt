@@ -1,14 +1,14 @@
-// The sizes of a dimension.
+// The cell counts of a dimension.
 ghost use Rattle.complexes.specs.Boundary.{countBelow};
 ghost use Prim.Native.Nat.{_≤_};
 ghost use Rattle.fields.specs.Read.{ReadsBelow};
 ghost use Rattle.sheet_format.specs.Layout.{top};
 ghost use Rattle.sheet_format.specs.Check.{sectionsOf};
-ghost use Rattle.two_reductions.specs.Sizes.{SizesRead};
+ghost use Rattle.two_reductions.specs.CellCounts.{CellCountsRead};
 use fields::field::count;
 
 // The counts that a dimension p works with: n_p cells, n_(p-1) rows of its boundary matrix, n_(p+1) columns of the next.
-pub struct Sizes {
+pub struct CellCounts {
     pub cells: usize,
     pub rows: usize,
     pub columns: usize,
@@ -21,12 +21,12 @@ fn rows_of(s: &[u8], p: usize) -> usize
     if p == 0 { 0 } else { count(s, p - 1) }
 }
 
-// The sizes of dimension p.
-pub fn sizes_of(s: &[u8], p: usize) -> Sizes
+// The cell counts of dimension p.
+pub fn cell_counts_of(s: &[u8], p: usize) -> CellCounts
     requires { ⌜ p ≤ top ⌝ }
-    ensures { λ r. ⌜ SizesRead (sectionsOf (now (s .entry))) p r ⌝ }
+    ensures { λ r. ⌜ CellCountsRead (sectionsOf (now (s .entry))) p r ⌝ }
 {
-    Sizes {
+    CellCounts {
         cells: count(s, p),
         rows: rows_of(s, p),
         columns: count(s, p + 1),
