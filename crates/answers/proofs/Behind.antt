@@ -6,7 +6,7 @@ use mathlib.Core.Bool.{true}
 use Prim.Native.Nat.{ℕ, _≤_}
 use native.Mathlib.Omega.{arith}
 use Rattle.limits.specs.Limits.{entryLimit}
-use Rattle.trials.specs.Trial.{first}
+use Rattle.trials.specs.Trial.{firstRefusal}
 use Rattle.complexes.proofs.ChainComplex.{ChainComplex}
 use Rattle.sheet_format.specs.Sheet.{Bytes}
 use Rattle.sheet_format.proofs.Accept.{accepted-chains}
@@ -26,7 +26,7 @@ use Rattle.answers.proofs.LeastLimit.{AtLimit, reductions-limit}
 use Rattle.answers.specs.Outcome.{TooWide, EndsAt, Ends}
 
 -- what passes the early checks has a chain complex
-pub early-chains : (limit : ℕ) (q : Question) (request : Request) (output work : ℕ) → Bytes (q .sheet) → first (earlyChecks limit q request output work) ≡ 0
+pub early-chains : (limit : ℕ) (q : Question) (request : Request) (output work : ℕ) → Bytes (q .sheet) → firstRefusal (earlyChecks limit q request output work) ≡ 0
     → ChainComplex limit (cells q)
 unfolding cells
 early-chains limit q request output work bytes e = accepted-chains limit (q .sheet) bytes (early-iff limit q request output work .0 e .0 .accepted)

@@ -12,7 +12,7 @@ use Rattle.lists.specs.Splice.{splices}
 use Rattle.lists.proofs.SplicesLaws.{Fit, splices-in}
 use Rattle.trials.proofs.TrialLaws as trial
 use Rattle.trials.proofs.TrialLaws.{Conclusion, conclusion}
-use Rattle.trials.specs.Trial.{first, done, refused, numberTold, Answer, Called, cleared}
+use Rattle.trials.specs.Trial.{firstRefusal, done, refused, numberTold, Answer, Called, cleared}
 use Rattle.complexes.proofs.ChainComplex.{ChainComplex}
 use Rattle.sheet_format.specs.Sheet.{Bytes}
 use Rattle.reduction_steps.specs.State.{State}
@@ -31,7 +31,7 @@ use Rattle.answers.proofs.ListLaws.{numbers-width, width-fits}
 -- a call that is done, with what stands behind it
 pub record Answered (limit : ℕ) (q : Question) (request : Request) (output work : ℕ) : Type 0 where
   pub passed : Passed limit q (listCount request * listSlots q request) (workSlots (cells q) (q .dimension)) output work
-  pub request-passed : first (requestChecks q request) ≡ 0
+  pub request-passed : firstRefusal (requestChecks q request) ≡ 0
   pub chains : ChainComplex limit (cells q)
   pub reductions-behind : Behind q
 
@@ -40,7 +40,7 @@ done-number e = ap numberTold e
 
 module _ (limit : ℕ) (q : Question) (request : Request) (output work : List ℤ) (bytes : Bytes (q .sheet)) where
   abbrev early : ℕ
-  early = first (earlyChecks limit q request (length output) (length work))
+  early = firstRefusal (earlyChecks limit q request (length output) (length work))
 
   abbrev left : ℕ → ℕ → State → List ℤ
   left s r x = splices (listSlots q request) (numbersOf q request s r x) (listCount request) output
@@ -50,13 +50,13 @@ module _ (limit : ℕ) (q : Question) (request : Request) (output work : List �
 
   pub call-outcome : Outcome limit q request output work called
   unfolding call
-  call-outcome = go (two q) refl (conclusion (ofReduced noCounts countsOf (two q)) (ofReduced output left (two q)) output work early (first (lateChecks (two q))))
+  call-outcome = go (two q) refl (conclusion (ofReduced noCounts countsOf (two q)) (ofReduced output left (two q)) output work early (firstRefusal (lateChecks (two q))))
     where
       chains : early ≡ 0 → ChainComplex limit (cells q)
       chains = early-chains limit q request (length output) (length work) bytes
 
       go : (R : Reductions) → two q ≡ R
-          → Conclusion early (first (lateChecks R)) (ofReduced noCounts countsOf R) (ofReduced output left R) output work called
+          → Conclusion early (firstRefusal (lateChecks R)) (ofReduced noCounts countsOf R) (ofReduced output left R) output work called
           → Outcome limit q request output work called
       go R f (trial.refused-early d is) = refused-early early d (early-narrow limit q request (length output) (length work)) refl is
       go tooWide f (trial.refused-late e d is) = too-wide e (two-wide q (chains e) .0 f) is
@@ -120,19 +120,19 @@ counts-behind limit q request output work bytes {counts} e =
     cc
 
 -- a call that passes the early checks, where the reductions are done
-pub passed-done : (limit : ℕ) (q : Question) (request : Request) (output work : List ℤ) → first (earlyChecks limit q request (length output) (length work)) ≡ 0 → (B : Behind q)
+pub passed-done : (limit : ℕ) (q : Question) (request : Request) (output work : List ℤ) → firstRefusal (earlyChecks limit q request (length output) (length work)) ≡ 0 → (B : Behind q)
     → call limit q request output work .answer ≡ done (countsOf (B .rows) (B .rank) (B .state))
 unfolding call
 passed-done limit q request output work e B =
     ap (λ (c : Called Counts ℤ). c .answer)
-    (with-done (first (earlyChecks limit q request (length output) (length work))) (two q)
+    (with-done (firstRefusal (earlyChecks limit q request (length output) (length work))) (two q)
     (λ s r x. splices (listSlots q request) (numbersOf q request s r x) (listCount request) output) output work e (B .rows) (B .rank) (B .state) (B .reductions-are))
 
 -- a number but 13 is told exactly when the early checks give it
 pub call-earlier : (limit : ℕ) (q : Question) (request : Request) (output work : List ℤ) (k : ℕ) → k ≢ 0 → k ≢ 13
-    → (numberTold (call limit q request output work .answer) ≡ k) ↔ (first (earlyChecks limit q request (length output) (length work)) ≡ k)
+    → (numberTold (call limit q request output work .answer) ≡ k) ↔ (firstRefusal (earlyChecks limit q request (length output) (length work)) ≡ k)
 unfolding call
-call-earlier limit q request output work k nonzero narrow = go (first (earlyChecks limit q request (length output) (length work))) (two q)
+call-earlier limit q request output work k nonzero narrow = go (firstRefusal (earlyChecks limit q request (length output) (length work))) (two q)
   where
     left : ℕ → ℕ → State → List ℤ
     left s r x = splices (listSlots q request) (numbersOf q request s r x) (listCount request) output

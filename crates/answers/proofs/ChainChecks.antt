@@ -13,7 +13,7 @@ use lib.IntN.{ℤ, natAbs}
 use Rattle.integers.proofs.Order.{natAbs-zero}
 use Rattle.matrices.specs.Vector.{apply}
 use Rattle.complexes.specs.Boundary.{countBelow, boundary}
-use Rattle.trials.specs.Trial.{first}
+use Rattle.trials.specs.Trial.{firstRefusal}
 use Rattle.sheet_format.specs.Check.{some}
 use Rattle.trials.proofs.FirstLaws.{first-zero, first-append-absent}
 use Rattle.sheet_format.specs.CheckLaws.{some-false}
@@ -60,13 +60,13 @@ size-iff K p z = (
   λ e. ap not (eq-eqb (length z) (count K p) e),
 )
 
-pub chain-passes : (limit : ℕ) (K : Sections) (p : ℕ) (z : List ℤ) → first (chainChecks limit K p z) ≡ 0 → ChainPasses limit K p z
+pub chain-passes : (limit : ℕ) (K : Sections) (p : ℕ) (z : List ℤ) → firstRefusal (chainChecks limit K p z) ≡ 0 → ChainPasses limit K p z
 unfolding chainChecks
 chain-passes limit K p z e =
     let (size, (small, (cycle, _))) = first-zero (chainChecks limit K p z) refl .0 e in
     record { size = size-iff K p z .0 size; small = coefficients-iff limit z .0 small; cycle = cycle-iff K p z .0 cycle }
 
-pub not-a-cycle-iff : (limit : ℕ) (K : Sections) (p : ℕ) (z : List ℤ) → (first (chainChecks limit K p z) ≡ 12) ↔ NoCycle limit K p z
+pub not-a-cycle-iff : (limit : ℕ) (K : Sections) (p : ℕ) (z : List ℤ) → (firstRefusal (chainChecks limit K p z) ≡ 12) ↔ NoCycle limit K p z
 unfolding chainChecks
 not-a-cycle-iff limit K p z = (forward, backward)
   where
@@ -77,14 +77,14 @@ not-a-cycle-iff limit K p z = (forward, backward)
     last : Bool → List (ℕ × Bool)
     last t = (12, t) ∷ []
 
-    forward : first (chainChecks limit K p z) ≡ 12 → NoCycle limit K p z
+    forward : firstRefusal (chainChecks limit K p z) ≡ 12 → NoCycle limit K p z
     forward e =
         let k = first-append-absent earlier (last (boundaryNotZero K p z)) refl 12 refl e in
         let (size, (small, _)) = first-zero earlier refl .0 (k .0) in
         record {
           size = size-iff K p z .0 size;
           small = coefficients-iff limit z .0 small;
-          no-cycle = λ c. zero≢twelve (sym (ap (λ (t : Bool). first (last t)) (cycle-iff K p z .1 c)) ∙ k .1);
+          no-cycle = λ c. zero≢twelve (sym (ap (λ (t : Bool). firstRefusal (last t)) (cycle-iff K p z .1 c)) ∙ k .1);
         }
       where
         zero≢twelve : _≡_ {A = ℕ} 0 12 → ⊥
@@ -94,7 +94,7 @@ not-a-cycle-iff limit K p z = (forward, backward)
     told h true e = refl
     told h false e = absurd (h .no-cycle (cycle-iff K p z .0 e))
 
-    backward : NoCycle limit K p z → first (chainChecks limit K p z) ≡ 12
+    backward : NoCycle limit K p z → firstRefusal (chainChecks limit K p z) ≡ 12
     backward h =
         rw (
           size-iff K p z .1 (h .size),
@@ -104,6 +104,6 @@ not-a-cycle-iff limit K p z = (forward, backward)
 
 -- a chain of many, of n_p coefficients, is at fault as by itself
 pub chain-told : (limit : ℕ) (K : Sections) (p : ℕ) (chains : List ℤ) (i : ℕ) → length (chainAt (count K p) chains i) ≡ count K p
-    → first (chainChecks limit K p (chainAt (count K p) chains i)) ≡ fault limit K p chains i
+    → firstRefusal (chainChecks limit K p (chainAt (count K p) chains i)) ≡ fault limit K p chains i
 unfolding chainChecks
 chain-told limit K p chains i e = rw (eq-eqb (length (chainAt (count K p) chains i)) (count K p) e)

@@ -11,7 +11,7 @@ use lib.IntN.{ℤ}
 use Rattle.limits.specs.Limits.{libraryLimit, hostLimit}
 use Rattle.lists.specs.Splice.{splices}
 use Rattle.lists.proofs.SplicesLaws.{Fit, length-splices, splices-in, splices-between, splices-past, splices-each}
-use Rattle.trials.specs.Trial.{first, done, numberTold, Called}
+use Rattle.trials.specs.Trial.{firstRefusal, done, numberTold, Called}
 use Rattle.sheet_format.specs.Sheet.{Bytes}
 use Rattle.reduction_steps.specs.State.{State}
 use Rattle.reports.specs.Reductions.{Reductions, tooWide, reduced}
@@ -154,7 +154,7 @@ module _ (q : Question) (request : Request) (output : List ℕ) (bytes : Bytes (
   unfolding hostCall call
   number-is =
       ap (λ (k : ℕ). numberTold (callWith k (two q) (bytesLeft q request output) output [] .answer)) (sym (early-same q request output (length slots) (length work) (λ a. rw size) (λ a. room)))
-      ∙ same-number (first (earlyChecks hostLimit q request (length slots) (length work))) (two q) (bytesLeft q request output)
+      ∙ same-number (firstRefusal (earlyChecks hostLimit q request (length slots) (length work))) (two q) (bytesLeft q request output)
       (λ s r x. splices (listSlots q request) (numbersOf q request s r x) (listCount request) slots) output slots [] work
 
   module _ (counts : Counts) (e : library .answer ≡ done counts) where

@@ -9,7 +9,7 @@ use native.Mathlib.Omega.{arith}
 use lib.ListN.{length}
 use lib.IntN.{ℤ}
 use Rattle.limits.specs.Limits.{hostLimit}
-use Rattle.trials.specs.Trial.{first, done, refused, Called}
+use Rattle.trials.specs.Trial.{firstRefusal, done, refused, Called}
 use Rattle.trials.proofs.TrialLaws.{refused≢done}
 use Rattle.sheet_format.specs.Layout.{top}
 use Rattle.sheet_format.specs.Check.{refusal}
@@ -88,7 +88,7 @@ pub record WentWide (q : Question) (k : ℕ) : Type 0 where
 
 module _ (q : Question) (accepted : refusal hostLimit (q .sheet) ≡ 0) (dimension : q .dimension ≤ top) (output work : List ℤ) (size : length output ≡ reportRoom)
     (space : length work ≡ workRoom) where
-  pub accepted-passes : first (earlyChecks hostLimit q report (length output) (length work)) ≡ 0
+  pub accepted-passes : firstRefusal (earlyChecks hostLimit q report (length output) (length work)) ≡ 0
   accepted-passes =
       early-iff hostLimit q report (length output) (length work) .1 (
         record {
@@ -102,7 +102,7 @@ module _ (q : Question) (accepted : refusal hostLimit (q .sheet) ≡ 0) (dimensi
 
   pub accepted-refused : (k : ℕ) → call hostLimit q report output work .answer ≡ refused k → WentWide q k
   unfolding call
-  accepted-refused k e = go (first (earlyChecks hostLimit q report (length output) (length work))) (two q) accepted-passes refl e
+  accepted-refused k e = go (firstRefusal (earlyChecks hostLimit q report (length output) (length work))) (two q) accepted-passes refl e
     where
       left : ℕ → ℕ → State → List ℤ
       left s r x = splices (listSlots q report) (numbersOf q report s r x) 1 output

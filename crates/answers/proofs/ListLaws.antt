@@ -8,7 +8,7 @@ use native.Mathlib.Omega.{arith}
 use lib.ListN.{length}
 use lib.IntN.{ℤ}
 use Rattle.limits.specs.Limits.{libraryLimit, entryLimit, coefficientLimit}
-use Rattle.trials.specs.Trial.{first}
+use Rattle.trials.specs.Trial.{firstRefusal}
 use Rattle.reduction_steps.specs.State.{State, within}
 use Rattle.reports.specs.Report.{freeRank, torsionCount, reportList, coordinateList}
 use Rattle.reports.proofs.ReportLaws.{report-fits, coordinates-fit}
@@ -29,7 +29,7 @@ module _ (q : Question) {s r : ℕ} {x : State} (R : Right (cells q) (q .dimensi
   pub numbers-width : (request : Request) (i : ℕ) → length (numbersOf q request s r x i) ≡ listWidth q request (freeRank s r) (torsionCount r x)
   numbers-width report i = report-length R
   numbers-width (coordinates z) i = coordinates-length R z
-  numbers-width (lists number chains) i = coordinates-length R (chainAt (cellCount q) chains i)
+  numbers-width (lists many chains) i = coordinates-length R (chainAt (cellCount q) chains i)
 
   total-fits : torsionCount r x + freeRank s r ≤ cellCount q
   total-fits = omega (arith, coordinates-length R [], coordinates-fit (cellCount q) s x [] (R .rows-bound))
@@ -37,15 +37,15 @@ module _ (q : Question) {s r : ℕ} {x : State} (R : Right (cells q) (q .dimensi
   pub width-fits : (request : Request) → listWidth q request (freeRank s r) (torsionCount r x) ≤ listSlots q request
   width-fits report = omega (arith, report-length R, report-fits (cellCount q) s r x (R .rank-bound) (R .rows-bound))
   width-fits (coordinates z) = total-fits
-  width-fits (lists number chains) = total-fits
+  width-fits (lists many chains) = total-fits
 
   module _ (small : within entryLimit x ≡ true) (few : cellCount q ≤ libraryLimit) where
-    pub numbers-word : (request : Request) → first (requestChecks q request) ≡ 0 → (i : ℕ) → i < listCount request → (j : ℕ) → Word (slot (numbersOf q request s r x i) j)
+    pub numbers-word : (request : Request) → firstRefusal (requestChecks q request) ≡ 0 → (i : ℕ) → i < listCount request → (j : ℕ) → Word (slot (numbersOf q request s r x i) j)
     numbers-word report passed i l j = report-word R small few j
     numbers-word (coordinates z) passed i l j = coordinates-word R small few z (chain-passes coefficientLimit (cells q) (q .dimension) z passed .small) j
-    numbers-word (lists number chains) passed i l j =
+    numbers-word (lists many chains) passed i l j =
         coordinates-word R small few (chainAt (cellCount q) chains i)
-        (fault-small coefficientLimit (cells q) (q .dimension) chains i (chains-zero coefficientLimit (cells q) (q .dimension) chains number .0 passed .1 i l)) j
+        (fault-small coefficientLimit (cells q) (q .dimension) chains i (chains-zero coefficientLimit (cells q) (q .dimension) chains many .0 passed .1 i l)) j
 
 -- how many coordinates a chain has, by what stands behind a call
 abbrev pub coordinates-width : {q : Question} → Behind q → ℕ

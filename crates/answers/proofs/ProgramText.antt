@@ -11,7 +11,7 @@ use lib.IntN.{ℤ, pos}
 use Rattle.limits.specs.Limits.{hostLimit}
 use Rattle.lists.specs.Splice.{written, splices}
 use Rattle.lists.proofs.SplicesLaws.{splices-single}
-use Rattle.trials.specs.Trial.{first, done, Called, cleared}
+use Rattle.trials.specs.Trial.{firstRefusal, done, Called, cleared}
 use Rattle.complexes.proofs.ChainComplex.{ChainComplex}
 use Rattle.sheet_format.specs.Layout.{top}
 use Rattle.sheet_format.specs.Check.{refusal}
@@ -68,7 +68,7 @@ module _ (b : List ℕ) (bytes : Bytes b) (accepted : refusal hostLimit b ≡ 0)
     abbrev work : List ℤ
     work = replicate (workSlots (cells q) p) (pos 0)
 
-    passes : p ≤ top → first (earlyChecks hostLimit q report (length output) (length work)) ≡ 0
+    passes : p ≤ top → firstRefusal (earlyChecks hostLimit q report (length output) (length work)) ≡ 0
     passes h =
         early-iff hostLimit q report (length output) (length work) .1 (
           record {
@@ -86,7 +86,7 @@ module _ (b : List ℕ) (bytes : Bytes b) (accepted : refusal hostLimit b ≡ 0)
 
       called : call hostLimit q report output work ≡ record { answer = done (countsOf s r x); output = left s r x; work = cleared work }
       unfolding call
-      called = with-done (first (earlyChecks hostLimit q report (length output) (length work))) (two q) left output work (passes h) s r x e
+      called = with-done (firstRefusal (earlyChecks hostLimit q report (length output) (length work))) (two q) left output work (passes h) s r x e
 
       report-left : call hostLimit q report output work .output ≡ written (reportList (cellCount q) s r x) output
       report-left = ap (λ (c : Called Counts ℤ). c .output) called ∙ splices-single (listSlots q report) (numbersOf q report s r x) output

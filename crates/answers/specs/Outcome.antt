@@ -9,7 +9,7 @@ use lib.ListN.{length, getD}
 use lib.IntN.{ℤ, natAbs}
 use Rattle.limits.specs.Limits.{entryLimit}
 use Rattle.lists.specs.Splice.{splices}
-use Rattle.trials.specs.Trial.{first, done, refused, numberTold, Called, cleared}
+use Rattle.trials.specs.Trial.{firstRefusal, done, refused, numberTold, Called, cleared}
 use Rattle.complexes.specs.Complex.{Sections, count}
 use Rattle.reduction_steps.specs.Table.{tableWithin}
 use Rattle.reduction_steps.specs.State.{State}
@@ -45,13 +45,13 @@ Ends q s r x = EndsAt entryLimit q s r x
 -- the work slice reads 0.
 pub data Outcome (limit : ℕ) (q : Question) (request : Request) (output work : List ℤ) (called : Called Counts ℤ) : Type 0 where
   refused-early :
-      (k : ℕ) → k ≢ 0 → k ≢ 13 → first (earlyChecks limit q request (length output) (length work)) ≡ k →
+      (k : ℕ) → k ≢ 0 → k ≢ 13 → firstRefusal (earlyChecks limit q request (length output) (length work)) ≡ k →
       called ≡ record { answer = refused k; output = output; work = work } → Outcome limit q request output work called
   too-wide :
-      first (earlyChecks limit q request (length output) (length work)) ≡ 0 → TooWide q →
+      firstRefusal (earlyChecks limit q request (length output) (length work)) ≡ 0 → TooWide q →
       called ≡ record { answer = refused 13; output = output; work = cleared work } → Outcome limit q request output work called
   is-done :
-      first (earlyChecks limit q request (length output) (length work)) ≡ 0 → (TooWide q → ⊥) → (s r : ℕ) (x : State) → Ends q s r x →
+      firstRefusal (earlyChecks limit q request (length output) (length work)) ≡ 0 → (TooWide q → ⊥) → (s r : ℕ) (x : State) → Ends q s r x →
       called
       ≡ record {
         answer = done (countsOf s r x);
@@ -69,7 +69,7 @@ pub record NoCycle (limit : ℕ) (K : Sections) (p : ℕ) (z : List ℤ) : Type 
 abbrev pub listWidth : Question → Request → ℕ → ℕ → ℕ
 listWidth q report f t = reportLength (cells q) (q .dimension) f t
 listWidth q (coordinates z) f t = t + f
-listWidth q (lists number chains) f t = t + f
+listWidth q (lists many chains) f t = t + f
 
 -- A host call on an output beside the library's on as many slots: its number is that of the library's answer, a refusal leaves the output, the numbers
 -- read from its bytes are those that the library's call leaves, every other byte stays, and bytes stay bytes.

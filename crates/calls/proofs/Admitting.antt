@@ -85,8 +85,8 @@ module _ (l : Lengths) (request : Request) where
         record { passed = passed; cell-counts = k .1; library = library; chains = sheet-chains bytes library }
 
 -- what is granted for some chains is granted for others that want as many slots
-pub regrant : (l : Lengths) {m number : ℕ} {n : CellCounts} → m * cellsOf (l .question) ≡ number * cellsOf (l .question)
-    → Granted l (Coordinates number) n → Granted l (Coordinates m) n
+pub regrant : (l : Lengths) {m many : ℕ} {n : CellCounts} → m * cellsOf (l .question) ≡ many * cellsOf (l .question)
+    → Granted l (Coordinates many) n → Granted l (Coordinates m) n
 regrant l e g =
     record {
       passed = record {

@@ -1,4 +1,4 @@
--- What the call on many chains answers: lists-refuse, for the checks 1 to 9; length-refuses, for 10; cycles-refuse, for 11 and 12; lists-wide,
+-- What the call on each chains answers: lists-refuse, for the checks 1 to 9; length-refuses, for 10; cycles-refuse, for 11 and 12; lists-wide,
 -- lists-done.
 use mathlib.Core.Path.{_≡_, _∙_, ap}
 use mathlib.Core.Logic.{_≢_}
@@ -9,7 +9,7 @@ use lib.IntN.{ℤ, pos}
 use lib.ListN.{length, replicate}
 use Rattle.limits.specs.Limits.{coefficientLimit}
 use Rattle.lists.specs.Splice.{splices}
-use Rattle.trials.specs.Trial.{first, Called}
+use Rattle.trials.specs.Trial.{firstRefusal, Called}
 use Rattle.complexes.specs.Complex.{Sections}
 use Rattle.sheet_format.specs.Check.{sectionsOf}
 use Rattle.reduction_steps.specs.State.{State}
@@ -39,7 +39,7 @@ use Rattle.calls.proofs.Answering.{refuses, goes-wide, is-done}
 use Rattle.calls.proofs.ListChecks.{listsEarly, admission-told, length-told, cycles-next, small-coefficients}
 use Rattle.calls.proofs.Writing.{follower-width, can-coordinate}
 
-module _ (l : Lent) (number : ℕ) (chains : List ℤ) where
+module _ (l : Lent) (many : ℕ) (chains : List ℤ) where
   abbrev K : Sections
   K = sectionsOf (l .question .sheet)
 
@@ -47,38 +47,38 @@ module _ (l : Lent) (number : ℕ) (chains : List ℤ) where
   p = l .question .dimension
 
   -- n_p
-  abbrev many : ℕ
-  many = cellsOf (l .question)
+  abbrev each : ℕ
+  each = cellsOf (l .question)
 
   abbrev early : ℕ
-  early = listsEarly (lengths l) number chains
+  early = listsEarly (lengths l) many chains
 
   -- what the coordinates leave
   abbrev left : ℕ → ℕ → State → List ℤ
-  left s r x = splices (listSlots (l .question) (lists number chains)) (numbersOf (l .question) (lists number chains) s r x) number (l .output)
+  left s r x = splices (listSlots (l .question) (lists many chains)) (numbersOf (l .question) (lists many chains) s r x) many (l .output)
 
   abbrev pub listsCalled : Called reports.Counts ℤ
-  listsCalled = call (l .limit) (l .question) (lists number chains) (l .output) (l .work)
+  listsCalled = call (l .limit) (l .question) (lists many chains) (l .output) (l .work)
 
   told : (x : Refusal) → early ≡ numberOf x → CallAnswers listsCalled (Refused x) (l .output) (l .work)
   unfolding call
   told x e = refuses early (two (l .question)) left (l .output) (l .work) e
 
-  pub lists-refuse : (x : Refusal) → admission (l .limit) (l .question) (Coordinates number) (length (l .output)) (length (l .work)) ≡ numberOf x
+  pub lists-refuse : (x : Refusal) → admission (l .limit) (l .question) (Coordinates many) (length (l .output)) (length (l .work)) ≡ numberOf x
       → CallAnswers listsCalled (Refused x) (l .output) (l .work)
-  lists-refuse x e = told x (admission-told (lengths l) number chains x e)
+  lists-refuse x e = told x (admission-told (lengths l) many chains x e)
 
-  module _ {n : CellCounts} (g : Granted (lengths l) (Coordinates number) n) where
-    pub length-refuses : length chains ≢ number * many → CallAnswers listsCalled (Refused refusal.ChainLengthDiffers) (l .output) (l .work)
-    length-refuses d = told refusal.ChainLengthDiffers (length-told (lengths l) number chains g d)
+  module _ {n : CellCounts} (g : Granted (lengths l) (Coordinates many) n) where
+    pub length-refuses : length chains ≢ many * each → CallAnswers listsCalled (Refused refusal.ChainLengthDiffers) (l .output) (l .work)
+    length-refuses d = told refusal.ChainLengthDiffers (length-told (lengths l) many chains g d)
 
-    module _ (size : length chains ≡ number * many) where
-      pub cycles-refuse : (x : Refusal) → first (cyclesChecks coefficientLimit K p number chains) ≡ numberOf x → CallAnswers listsCalled (Refused x) (l .output) (l .work)
-      cycles-refuse x e = told x (cycles-next (lengths l) number chains g size ∙ e)
+    module _ (size : length chains ≡ many * each) where
+      pub cycles-refuse : (x : Refusal) → firstRefusal (cyclesChecks coefficientLimit K p many chains) ≡ numberOf x → CallAnswers listsCalled (Refused x) (l .output) (l .work)
+      cycles-refuse x e = told x (cycles-next (lengths l) many chains g size ∙ e)
 
-      module _ (passed : first (cyclesChecks coefficientLimit K p number chains) ≡ 0) where
+      module _ (passed : firstRefusal (cyclesChecks coefficientLimit K p many chains) ≡ 0) where
         passes : early ≡ 0
-        passes = cycles-next (lengths l) number chains g size ∙ passed
+        passes = cycles-next (lengths l) many chains g size ∙ passed
 
         pub lists-wide : {x : Refusal} {work′ : List ℤ} → (twice (lengths l) ≡ tooWide) × Cleared (length (l .work)) x work′
             → CallAnswers listsCalled (Refused refusal.TooWide) (l .output) work′
@@ -87,23 +87,23 @@ module _ (l : Lent) (number : ℕ) (chains : List ℤ) where
 
         module _ {x : Reduced} {w : List ℤ} (h : Reduces (lengths l) x w) where
           -- the lists can be written
-          pub can-list : CanList x w many number chains (length (l .output))
+          pub can-list : CanList x w each many chains (length (l .output))
           can-list = record {
             size = size;
             room = g .passed .output-slots;
             each = λ i m.
                 can-coordinate pivotRule-is-rule (g .chains) (g .passed .work-slots) h
-                (omega (arith, chain-inside many number chains size i m, size, g .passed .output-slots))
-                (length-chainAt many number chains size i m) (small-coefficients (lengths l) number chains passed i m);
+                (omega (arith, chain-inside each many chains size i m, size, g .passed .output-slots))
+                (length-chainAt each many chains size i m) (small-coefficients (lengths l) many chains passed i m);
           }
 
           pub lists-done : {counts : Counts} {coordinates′ work′ : List ℤ} → Counted x w counts
-              → coordinates′ ≡ splices many (λ i. coordinatesOf x w (chainAt many chains i)) number (l .output) → work′ ≡ replicate (length w) (pos 0)
+              → coordinates′ ≡ splices each (λ i. coordinatesOf x w (chainAt each chains i)) many (l .output) → work′ ≡ replicate (length w) (pos 0)
               → CallAnswers listsCalled (Done counts) coordinates′ work′
           unfolding call two rule cells
           lists-done k o e =
               is-done early (two (l .question)) left (l .output) (l .work) passes (h .is) k
               (o
-              ∙ ap (λ (width : ℕ). splices many (λ i. coordinateList width (x .layout .matrix .lines) (stateIn x w) (chainAt many chains i)) number (l .output))
+              ∙ ap (λ (width : ℕ). splices each (λ i. coordinateList width (x .layout .matrix .lines) (stateIn x w) (chainAt each chains i)) many (l .output))
               (follower-width pivotRule-is-rule (g .chains) (g .passed .work-slots) h))
               (e ∙ ap (λ (m : ℕ). replicate m (pos 0)) (h .kept .same-length))

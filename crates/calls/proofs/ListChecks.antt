@@ -10,7 +10,7 @@ use borrow.Author.Tests.{ne-eqb}
 use lib.IntN.{ℤ, pos, natAbs}
 use lib.ListN.{length, getD}
 use Rattle.limits.specs.Limits.{coefficientLimit}
-use Rattle.trials.specs.Trial.{first}
+use Rattle.trials.specs.Trial.{firstRefusal}
 use Rattle.complexes.specs.Complex.{Sections}
 use Rattle.sheet_format.specs.Check.{sectionsOf}
 use Rattle.requests.specs.Question.{cells}
@@ -26,7 +26,7 @@ use Rattle.two_reductions.specs.declared.cell_counts.CellCounts.{CellCounts}
 use Rattle.calls.specs.declared.admission.Request.the-variants.{Coordinates}
 use Rattle.calls.proofs.Admitting.{Lengths, cellsOf, slotsAsked, spaceAsked, Granted}
 
-module _ (l : Lengths) (number : ℕ) (chains : List ℤ) where
+module _ (l : Lengths) (many : ℕ) (chains : List ℤ) where
   abbrev K : Sections
   K = sectionsOf (l .question .sheet)
 
@@ -35,41 +35,41 @@ module _ (l : Lengths) (number : ℕ) (chains : List ℤ) where
 
   -- the first of the early checks
   abbrev pub listsEarly : ℕ
-  listsEarly = first (earlyChecks (l .limit) (l .question) (lists number chains) (l .slots) (l .work))
+  listsEarly = firstRefusal (earlyChecks (l .limit) (l .question) (lists many chains) (l .slots) (l .work))
 
   -- the slots that check 9 asks for
   abbrev slots : ℕ
-  slots = slotsAsked l (Coordinates number)
+  slots = slotsAsked l (Coordinates many)
 
   abbrev space : ℕ
-  space = spaceAsked l (Coordinates number)
+  space = spaceAsked l (Coordinates many)
 
   -- 10 to 12
   abbrev chainChecked : List (ℕ × Bool)
-  chainChecked = chainsChecks coefficientLimit K p number chains
+  chainChecked = chainsChecks coefficientLimit K p many chains
 
-  early-is : listsEarly ≡ first (callChecks (l .limit) (l .question) slots space (l .slots) (l .work) ++ chainChecked)
+  early-is : listsEarly ≡ firstRefusal (callChecks (l .limit) (l .question) slots space (l .slots) (l .work) ++ chainChecked)
   unfolding earlyChecks cells
   early-is = refl
 
-  pub admission-told : (x : Refusal) → admission (l .limit) (l .question) (Coordinates number) (l .slots) (l .work) ≡ numberOf x → listsEarly ≡ numberOf x
+  pub admission-told : (x : Refusal) → admission (l .limit) (l .question) (Coordinates many) (l .slots) (l .work) ≡ numberOf x → listsEarly ≡ numberOf x
   admission-told x e =
       early-is ∙ call-told (l .limit) (l .question) slots space (l .slots) (l .work) chainChecked (λ q. absurd (omega (arith, number-positive x))) ∙ e
 
-  module _ {n : CellCounts} (g : Granted l (Coordinates number) n) where
-    chains-next : listsEarly ≡ first chainChecked
+  module _ {n : CellCounts} (g : Granted l (Coordinates many) n) where
+    chains-next : listsEarly ≡ firstRefusal chainChecked
     chains-next =
         early-is
         ∙ call-passed (l .limit) (l .question) slots space (l .slots) (l .work) chainChecked
         (callChecks-zero (l .limit) (l .question) slots space (l .slots) (l .work) .1 (g .passed))
 
-    pub length-told : length chains ≢ number * cellsOf (l .question) → listsEarly ≡ 10
+    pub length-told : length chains ≢ many * cellsOf (l .question) → listsEarly ≡ 10
     unfolding chainsChecks
-    length-told d = chains-next ∙ rw (ne-eqb (length chains) (number * cellsOf (l .question)) d)
+    length-told d = chains-next ∙ rw (ne-eqb (length chains) (many * cellsOf (l .question)) d)
 
-    pub cycles-next : length chains ≡ number * cellsOf (l .question) → listsEarly ≡ first (cyclesChecks coefficientLimit K p number chains)
-    cycles-next size = chains-next ∙ chains-sized coefficientLimit K p chains number size
+    pub cycles-next : length chains ≡ many * cellsOf (l .question) → listsEarly ≡ firstRefusal (cyclesChecks coefficientLimit K p many chains)
+    cycles-next size = chains-next ∙ chains-sized coefficientLimit K p chains many size
 
-  pub small-coefficients : first (cyclesChecks coefficientLimit K p number chains) ≡ 0 → (i : ℕ) → i < number → (j : ℕ)
+  pub small-coefficients : firstRefusal (cyclesChecks coefficientLimit K p many chains) ≡ 0 → (i : ℕ) → i < many → (j : ℕ)
       → natAbs (getD (chainAt (cellsOf (l .question)) chains i) j (pos 0)) ≤ coefficientLimit
-  small-coefficients passed i m = fault-small coefficientLimit K p chains i (cycles-zero coefficientLimit K p chains number .0 passed i m)
+  small-coefficients passed i m = fault-small coefficientLimit K p chains i (cycles-zero coefficientLimit K p chains many .0 passed i m)

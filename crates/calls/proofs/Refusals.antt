@@ -6,7 +6,7 @@ use Prim.Native.Nat.{ℕ, _<_, _≤_}
 use native.Mathlib.Omega.{arith}
 use borrow.Author.Tests.{lt-ltb, le-ltb}
 use lib.Dec.{ltb}
-use Rattle.trials.specs.Trial.{first}
+use Rattle.trials.specs.Trial.{firstRefusal}
 use Rattle.sheet_format.specs.Layout.{top}
 use Rattle.sheet_format.specs.Check.{refusal}
 use Rattle.requests.specs.Question.{Question}
@@ -18,7 +18,7 @@ use Rattle.refusal.specs.declared.Refusal.{Refusal}
 
 module _ (limit : ℕ) (q : Question) (slots space output work : ℕ) where
   abbrev before : ℕ
-  before = first (callChecks limit q slots space output work)
+  before = firstRefusal (callChecks limit q slots space output work)
 
   pub sheet-refused : (x : Refusal) → refusal limit (q .sheet) ≡ numberOf x → before ≡ numberOf x
   sheet-refused x e = sheet-told limit q slots space output work (λ z. absurd (omega (arith, number-positive x))) ∙ e
@@ -34,6 +34,6 @@ module _ (limit : ℕ) (q : Question) (slots space output work : ℕ) where
     work-short h k =
         sheet-passed limit q slots space output work accepted ∙ rw (le-ltb top (q .dimension) h, lt-ltb work space k) (either (ltb output slots))
       where
-        either : (t : Bool) → first ((9, t || true) ∷ []) ≡ 9
+        either : (t : Bool) → firstRefusal ((9, t || true) ∷ []) ≡ 9
         either true = refl
         either false = refl

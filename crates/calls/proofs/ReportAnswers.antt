@@ -7,7 +7,7 @@ use lib.IntN.{ℤ, pos}
 use lib.ListN.{length, replicate}
 use Rattle.lists.specs.Splice.{written, splices}
 use Rattle.lists.proofs.SplicesLaws.{splices-single}
-use Rattle.trials.specs.Trial.{first, Called}
+use Rattle.trials.specs.Trial.{firstRefusal, Called}
 use Rattle.reduction_steps.specs.State.{State}
 use Rattle.reduction_steps.proofs.PivotLaws.{pivotRule-is-rule}
 use Rattle.reports.specs.Report as reports
@@ -36,14 +36,14 @@ use Rattle.calls.proofs.Writing.{inverse-width}
 module _ (l : Lent) where
   -- the first of the early checks
   abbrev early : ℕ
-  early = first (earlyChecks (l .limit) (l .question) report (length (l .output)) (length (l .work)))
+  early = firstRefusal (earlyChecks (l .limit) (l .question) report (length (l .output)) (length (l .work)))
 
   -- it is the first of the checks 1 to 9
   early-is : early ≡ admission (l .limit) (l .question) Report (length (l .output)) (length (l .work))
   unfolding earlyChecks cells
   early-is =
-      ap first (append-nil (callChecks (l .limit) (l .question) (1 * slots) space (length (l .output)) (length (l .work))))
-      ∙ ap (λ (n : ℕ). first (callChecks (l .limit) (l .question) n space (length (l .output)) (length (l .work)))) (one-mul slots)
+      ap firstRefusal (append-nil (callChecks (l .limit) (l .question) (1 * slots) space (length (l .output)) (length (l .work))))
+      ∙ ap (λ (n : ℕ). firstRefusal (callChecks (l .limit) (l .question) n space (length (l .output)) (length (l .work)))) (one-mul slots)
     where
       slots : ℕ
       slots = slotsAsked (lengths l) Report

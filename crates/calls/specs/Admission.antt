@@ -1,7 +1,7 @@
 -- What `admit` answers.
 use mathlib.Core.Path.{_≡_}
 use Prim.Native.Nat.{ℕ, _+_, _*_, max}
-use Rattle.trials.specs.Trial.{first}
+use Rattle.trials.specs.Trial.{firstRefusal}
 use Rattle.sheet_format.specs.Check.{sectionsOf}
 use Rattle.requests.specs.Question.{Question}
 use Rattle.requests.specs.Call.{callChecks}
@@ -16,7 +16,7 @@ use Rattle.calls.specs.declared.admission.Admission.the-variants.{Admitt
 -- the slots that check 9 asks of the output
 abbrev pub slotsFor : Request → CellCounts → ℕ
 slotsFor Report n = 2 + n .cells + n .cells * n .cells
-slotsFor (Coordinates number) n = number * n .cells
+slotsFor (Coordinates many) n = many * n .cells
 
 -- .. and of the work slice
 abbrev pub spaceFor : Request → CellCounts → ℕ
@@ -26,7 +26,7 @@ spaceFor request n = n .cells * (2 * n .cells + max (n .rows) (n .columns))
 abbrev pub admission : ℕ → Question → Request → ℕ → ℕ → ℕ
 admission limit q request output work =
     let n = cellCountsIn (sectionsOf (q .sheet)) (q .dimension) in
-    first (callChecks limit q (slotsFor request n) (spaceFor request n) output work)
+    firstRefusal (callChecks limit q (slotsFor request n) (spaceFor request n) output work)
 
 -- its refusal, or the cell counts of the dimension
 abbrev pub Admits : ℕ → Question → Request → ℕ → ℕ → Admission → Type 0

@@ -33,7 +33,7 @@ impl Request {
         let cells = n.cells;
         match self {
             Request::Report => output < 2 + cells + cells * cells,
-            Request::Coordinates(number) => cells != 0 && output / cells < number,
+            Request::Coordinates(many) => cells != 0 && output / cells < many,
         }
     }
 

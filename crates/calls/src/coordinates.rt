@@ -19,11 +19,11 @@ use two_reductions::reductions::reduce_twice;
 use writers::coordinates::write_lists;
 use writers::kind::counts;
 
-// The coordinate lists of `number` chains: document 02, Note 1.
+// The coordinate lists of `many` chains: document 02, Note 1.
 pub fn coordinate_lists(
     s: &[u8],
     dimension: u32,
-    number: usize,
+    many: usize,
     chains: &[i32],
     coordinates: &mut [i64],
     work: &mut [i32],
@@ -32,7 +32,7 @@ pub fn coordinate_lists(
         let left = now (coordinates .exit) in
         let work-left = now (work .exit) in ⌜
         CallAnswers
-        (call libraryLimit (asked (now (s .entry)) dimension) (requests.lists number (now (chains .entry))) (now (coordinates .entry)) (now (work .entry)))
+        (call libraryLimit (asked (now (s .entry)) dimension) (requests.lists many (now (chains .entry))) (now (coordinates .entry)) (now (work .entry)))
         r left work-left
         ⌝ }
 {
@@ -40,7 +40,7 @@ pub fn coordinate_lists(
         Sheet::library(),
         s,
         dimension,
-        Request::Coordinates(number),
+        Request::Coordinates(many),
         coordinates.len(),
         work.len(),
     ) {
@@ -49,10 +49,10 @@ pub fn coordinate_lists(
     };
     let p = dimension as usize;
     let cells = n.cells;
-    if chains.len() != number * cells {
+    if chains.len() != many * cells {
         return Answer::Refused(Refusal::ChainLengthDiffers);
     }
-    let lists = nonempty(number, cells);
+    let lists = nonempty(many, cells);
     if let Check::Refused(refusal) = check_chains(s, p, cells, lists, chains) {
         return Answer::Refused(refusal);
     }

@@ -4,7 +4,7 @@ ghost use Prim.Native.Nat.{_≤_, _*_};
 ghost use lib.ListN.{length};
 ghost use Rattle.complexes.specs.Complex.{count};
 ghost use Rattle.sheet_format.specs.Layout.{top};
-ghost use Rattle.trials.specs.Trial.{first};
+ghost use Rattle.trials.specs.Trial.{firstRefusal};
 ghost use Rattle.sheet_format.specs.Check.{sectionsOf};
 ghost use Rattle.requests.specs.Chains.{cycleChecks, cyclesChecks};
 ghost use Rattle.requests.specs.Chains.{nonempty};
@@ -26,7 +26,7 @@ pub enum Check {
 pub fn check_chain(s: &[u8], p: usize, chain: &[i32]) -> Check
     requires { ⌜ Accepted (now s) ⌝ }
     requires { ⌜ (p ≤ top) × (length (now chain) ≡ count (sectionsOf (now s)) p) ⌝ }
-    ensures { λ r. ⌜ first (cycleChecks coefficientLimit (sectionsOf (now (s .entry))) p (now (chain .entry))) ≡ checkNumber r ⌝ }
+    ensures { λ r. ⌜ firstRefusal (cycleChecks coefficientLimit (sectionsOf (now (s .entry))) p (now (chain .entry))) ≡ checkNumber r ⌝ }
 {
     if coefficient_exceeds(chain, Sheet::COEFFICIENT_LIMIT) {
         return Check::Refused(Refusal::CoefficientExceedsLimit);
@@ -37,21 +37,21 @@ pub fn check_chain(s: &[u8], p: usize, chain: &[i32]) -> Check
     Check::Passed
 }
 
-// How many of the `number` chains have coefficients: none where there are no cells.
-pub fn nonempty(number: usize, cells: usize) -> usize
-    ensures { λ r. ⌜ r ≡ nonempty number cells ⌝ }
+// How many of the `many` chains have coefficients: none where there are no cells.
+pub fn nonempty(many: usize, cells: usize) -> usize
+    ensures { λ r. ⌜ r ≡ nonempty many cells ⌝ }
 {
-    if cells == 0 { 0 } else { number }
+    if cells == 0 { 0 } else { many }
 }
 
-// The first of 11 and 12 that applies to the first faulty of the `number` chains.
-pub fn check_chains(s: &[u8], p: usize, cells: usize, number: usize, chains: &[i32]) -> Check
+// The first of 11 and 12 that applies to the first faulty of the `many` chains.
+pub fn check_chains(s: &[u8], p: usize, cells: usize, many: usize, chains: &[i32]) -> Check
     requires { ⌜ Accepted (now s) ⌝ }
-    requires { ⌜ (p ≤ top) × (cells ≡ count (sectionsOf (now s)) p) × (length (now chains) ≡ number * cells) ⌝ }
-    ensures { λ r. ⌜ first (cyclesChecks coefficientLimit (sectionsOf (now (s .entry))) p number (now (chains .entry))) ≡ checkNumber r ⌝ }
+    requires { ⌜ (p ≤ top) × (cells ≡ count (sectionsOf (now s)) p) × (length (now chains) ≡ many * cells) ⌝ }
+    ensures { λ r. ⌜ firstRefusal (cyclesChecks coefficientLimit (sectionsOf (now (s .entry))) p many (now (chains .entry))) ≡ checkNumber r ⌝ }
 {
     let mut i: usize = 0;
-    while i < number {
+    while i < many {
         let at = i * cells;
         if let Check::Refused(refusal) = check_chain(s, p, &chains[at..at + cells]) {
             return Check::Refused(refusal);

@@ -39,8 +39,8 @@ module _ {Says : Called Counts ℤ → Type 0} {s : List ℕ} {p : ℕ} {o w : L
     refused = λ es ep ez eo ew. says _ ((λ i. call libraryLimit (asked (es i) (ep i)) (coordinates (ez i)) (eo i) (ew i)) ∙ coordinates-refused);
   }
 
-  pub lists-used : {number : ℕ} {chains : List ℤ} → ((called : Called Counts ℤ) → call libraryLimit (asked s p) (lists number chains) o w ≡ called → Says called) →
-      ListsUsed Says s p o w number chains
+  pub lists-used : {many : ℕ} {chains : List ℤ} → ((called : Called Counts ℤ) → call libraryLimit (asked s p) (lists many chains) o w ≡ called → Says called) →
+      ListsUsed Says s p o w many chains
   lists-used says = record {
     written = λ es ep en ec eo ew. says _ ((λ i. call libraryLimit (asked (es i) (ep i)) (lists (en i) (ec i)) (eo i) (ew i)) ∙ lists-done);
     refused = λ es ep en ec eo ew. says _ ((λ i. call libraryLimit (asked (es i) (ep i)) (lists (en i) (ec i)) (eo i) (ew i)) ∙ lists-refused);
@@ -87,8 +87,8 @@ module _ {s : List ℕ} {p : ℕ} {o : List ℕ} {r : ℕ} {o′ : List ℕ} whe
     refused = λ es ep ez eo. host-gives is ((λ i. hostCall (asked (es i) (ep i)) (coordinatesIn (asked (es i) (ep i)) (ez i)) (eo i)) ∙ host-coordinates-refused);
   }
 
-  pub host-lists-used : {number : ℕ} {chains : List ℕ} → hostCall (asked s p) (listsIn (asked s p) number chains) o ≡ record { number = r; output = o′ } →
-      HostListsUsed s p o r o′ number chains
+  pub host-lists-used : {many : ℕ} {chains : List ℕ} → hostCall (asked s p) (listsIn (asked s p) many chains) o ≡ record { number = r; output = o′ } →
+      HostListsUsed s p o r o′ many chains
   host-lists-used is = record {
     written = λ es ep en ec eo. host-gives is ((λ i. hostCall (asked (es i) (ep i)) (listsIn (asked (es i) (ep i)) (en i) (ec i)) (eo i)) ∙ host-lists-done);
     refused = λ es ep en ec eo. host-gives is ((λ i. hostCall (asked (es i) (ep i)) (listsIn (asked (es i) (ep i)) (en i) (ec i)) (eo i)) ∙ host-lists-refused);

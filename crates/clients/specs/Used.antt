@@ -31,9 +31,9 @@ module _ (Says : Called Counts ℤ → Type 0) (sheet : List ℕ) (p : ℕ) (out
     pub written : sheet ≡ hollowTriangle → p ≡ 1 → chain ≡ backwards → output ≡ nines 4 → work ≡ nines 30 → Says coordinatesDone
     pub refused : sheet ≡ hollowTriangle → p ≡ 1 → chain ≡ edge → output ≡ nines 4 → work ≡ nines 30 → Says coordinatesRefused
 
-  pub record ListsUsed (number : ℕ) (chains : List ℤ) : Type 0 where
-    pub written : sheet ≡ hollowTriangle → p ≡ 1 → number ≡ 2 → chains ≡ both → output ≡ nines 7 → work ≡ nines 30 → Says listsDone
-    pub refused : sheet ≡ hollowTriangle → p ≡ 1 → number ≡ 2 → chains ≡ edge → output ≡ nines 7 → work ≡ nines 30 → Says listsRefused
+  pub record ListsUsed (many : ℕ) (chains : List ℤ) : Type 0 where
+    pub written : sheet ≡ hollowTriangle → p ≡ 1 → many ≡ 2 → chains ≡ both → output ≡ nines 7 → work ≡ nines 30 → Says listsDone
+    pub refused : sheet ≡ hollowTriangle → p ≡ 1 → many ≡ 2 → chains ≡ edge → output ≡ nines 7 → work ≡ nines 30 → Says listsRefused
 
 -- ---- the host calls
 
@@ -49,9 +49,9 @@ module _ (sheet : List ℕ) (p : ℕ) (output : List ℕ) (r : ℕ) (output′ :
     pub written : sheet ≡ hollowTriangle → p ≡ 1 → chain ≡ backwardsBytes → output ≡ lent 29 → HostGives r output′ hostCoordinatesDone
     pub refused : sheet ≡ hollowTriangle → p ≡ 1 → chain ≡ edgeBytes → output ≡ lent 29 → HostGives r output′ hostCoordinatesRefused
 
-  pub record HostListsUsed (number : ℕ) (chains : List ℕ) : Type 0 where
-    pub written : sheet ≡ hollowTriangle → p ≡ 1 → number ≡ 2 → chains ≡ bothBytes → output ≡ lent 51 → HostGives r output′ hostListsDone
-    pub refused : sheet ≡ hollowTriangle → p ≡ 1 → number ≡ 2 → chains ≡ edgeBytes → output ≡ lent 51 → HostGives r output′ hostListsRefused
+  pub record HostListsUsed (many : ℕ) (chains : List ℕ) : Type 0 where
+    pub written : sheet ≡ hollowTriangle → p ≡ 1 → many ≡ 2 → chains ≡ bothBytes → output ≡ lent 51 → HostGives r output′ hostListsDone
+    pub refused : sheet ≡ hollowTriangle → p ≡ 1 → many ≡ 2 → chains ≡ edgeBytes → output ≡ lent 51 → HostGives r output′ hostListsRefused
 
 -- ---- headroom: the peak and the bits are written where the call is done, and left where it is refused
 

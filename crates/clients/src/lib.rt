@@ -46,7 +46,7 @@ pub fn use_coordinates(
 pub fn use_lists(
     sheet: &[u8],
     dimension: u32,
-    number: usize,
+    many: usize,
     chains: &[i32],
     coordinates: &mut [i64],
     work: &mut [i32],
@@ -54,10 +54,10 @@ pub fn use_lists(
     ensures { λ r.
         let left = now (coordinates .exit) in
         let work-left = now (work .exit) in ⌜
-        ListsUsed (Gives (answered r) left work-left) (now (sheet .entry)) dimension (now (coordinates .entry)) (now (work .entry)) number (now (chains .entry))
+        ListsUsed (Gives (answered r) left work-left) (now (sheet .entry)) dimension (now (coordinates .entry)) (now (work .entry)) many (now (chains .entry))
         ⌝ }
 {
-    calls::coordinates::coordinate_lists(sheet, dimension, number, chains, coordinates, work)
+    calls::coordinates::coordinate_lists(sheet, dimension, many, chains, coordinates, work)
 }
 
 // The library's report for C.
@@ -113,7 +113,7 @@ pub fn use_library_coordinates(
 pub fn use_library_lists(
     sheet: &[u8],
     dimension: u32,
-    number: usize,
+    many: usize,
     chains: &[i32],
     coordinates: &mut [i64],
     work: &mut [i32],
@@ -121,10 +121,10 @@ pub fn use_library_lists(
     ensures { λ r.
         let left = now (coordinates .exit) in
         let work-left = now (work .exit) in ⌜
-        ListsUsed (Numbers r left work-left) (now (sheet .entry)) dimension (now (coordinates .entry)) (now (work .entry)) number (now (chains .entry))
+        ListsUsed (Numbers r left work-left) (now (sheet .entry)) dimension (now (coordinates .entry)) (now (work .entry)) many (now (chains .entry))
         ⌝ }
 {
-    fildwuk_library_coordinate_lists(sheet, dimension, number, chains, coordinates, work)
+    fildwuk_library_coordinate_lists(sheet, dimension, many, chains, coordinates, work)
 }
 
 // The host's report.
@@ -150,13 +150,13 @@ pub fn use_host_coordinates(
 pub fn use_host_lists(
     sheet: &[u8],
     dimension: u32,
-    number: u32,
+    many: u32,
     chains: &[u8],
     coordinates: &mut [u8],
 ) -> u32
-    ensures { λ r. ⌜ HostListsUsed (now (sheet .entry)) dimension (now (coordinates .entry)) r (now (coordinates .exit)) number (now (chains .entry)) ⌝ }
+    ensures { λ r. ⌜ HostListsUsed (now (sheet .entry)) dimension (now (coordinates .entry)) r (now (coordinates .exit)) many (now (chains .entry)) ⌝ }
 {
-    fildwuk_coordinate_lists(sheet, dimension, number, chains, coordinates)
+    fildwuk_coordinate_lists(sheet, dimension, many, chains, coordinates)
 }
 
 // The program's text.

@@ -7,7 +7,7 @@ use lib.ListN.{length, drop}
 use lib.Seq.{getD-take, getD-drop}
 use lib.IntN.{ℤ, pos}
 use Rattle.limits.specs.Limits.{coefficientLimit}
-use Rattle.trials.specs.Trial.{first, done}
+use Rattle.trials.specs.Trial.{firstRefusal, done}
 use Rattle.sheet_format.specs.Sheet.{Bytes}
 use Rattle.homology_groups.specs.Chain.{Chain}
 use Rattle.reports.specs.Report.{Counts, coordinateList}
@@ -70,12 +70,12 @@ pub record CoordinatesBehind (q : Question) (z : Chain) (c : ℕ → ℤ) : Type
   pub reads : ReadsCoordinates (cells q) (q .dimension) (two .rows) (two .rank) (two .state) chain c
 
 -- chain i of many passes the checks of a single chain
-list-passes : (q : Question) (number : ℕ) (chains : List ℤ) → first (requestChecks q (lists number chains)) ≡ 0 → (i : ℕ) → i < number
+list-passes : (q : Question) (many : ℕ) (chains : List ℤ) → firstRefusal (requestChecks q (lists many chains)) ≡ 0 → (i : ℕ) → i < many
     → ChainPasses coefficientLimit (cells q) (q .dimension) (chainAt (cellCount q) chains i)
-list-passes q number chains passed i l =
-    let (size, faults) = chains-zero coefficientLimit (cells q) (q .dimension) chains number .0 passed in
+list-passes q many chains passed i l =
+    let (size, faults) = chains-zero coefficientLimit (cells q) (q .dimension) chains many .0 passed in
     chain-passes coefficientLimit (cells q) (q .dimension) (chainAt (cellCount q) chains i)
-    (chain-told coefficientLimit (cells q) (q .dimension) chains i (length-chainAt (cellCount q) number chains size i l) ∙ faults i l)
+    (chain-told coefficientLimit (cells q) (q .dimension) chains i (length-chainAt (cellCount q) many chains size i l) ∙ faults i l)
 
 pub coordinates-behind : (q : Question) → Bytes (q .sheet) → {z : Chain} {c : ℕ → ℤ} → CoordinatesOf q z c → CoordinatesBehind q z c
 coordinates-behind q bytes (claims.CoordinatesOf.by-library limit z output work counts e) =
@@ -91,14 +91,14 @@ coordinates-behind q bytes (claims.CoordinatesOf.by-library limit z output work 
             ∙ list-reads limit q (coordinates z) output work bytes (done-number e) 0 (omega arith) j l;
       };
     }
-coordinates-behind q bytes (claims.CoordinatesOf.by-library-list limit number chains output work counts e i l) =
-    let A = answered limit q (lists number chains) output work bytes (done-number e) in
+coordinates-behind q bytes (claims.CoordinatesOf.by-library-list limit many chains output work counts e i l) =
+    let A = answered limit q (lists many chains) output work bytes (done-number e) in
     record {
       two = A .reductions-behind;
       chain = chainAt (cellCount q) chains i;
       agrees = λ j m. getD-take (cellCount q) (drop (i * cellCount q) chains) j (pos 0) m ∙ getD-drop (i * cellCount q) chains j (pos 0);
-      cycle = list-passes q number chains (A .request-passed) i l .cycle;
-      reads = record { places = λ j m. list-reads limit q (lists number chains) output work bytes (done-number e) i l j m };
+      cycle = list-passes q many chains (A .request-passed) i l .cycle;
+      reads = record { places = λ j m. list-reads limit q (lists many chains) output work bytes (done-number e) i l j m };
     }
 coordinates-behind q bytes (claims.CoordinatesOf.by-host chain output e) =
     let z = chainFrom (cellCount q) chain in
@@ -114,14 +114,14 @@ coordinates-behind q bytes (claims.CoordinatesOf.by-host chain output e) =
             ap (numberAt (hostCall q (coordinates z) output .output)) (sym (start (cellCount q) j)) ∙ host-reads q (coordinates z) output bytes e 0 (omega arith) j l;
       };
     }
-coordinates-behind q bytes (claims.CoordinatesOf.by-host-list number chains output e i l) =
-    let whole = chainFrom (number * cellCount q) chains in
-    let A = host-answered q (lists number whole) output bytes e in
-    let size = chains-zero coefficientLimit (cells q) (q .dimension) whole number .0 (A .request-passed) .0 in
+coordinates-behind q bytes (claims.CoordinatesOf.by-host-list many chains output e i l) =
+    let whole = chainFrom (many * cellCount q) chains in
+    let A = host-answered q (lists many whole) output bytes e in
+    let size = chains-zero coefficientLimit (cells q) (q .dimension) whole many .0 (A .request-passed) .0 in
     record {
       two = A .reductions-behind;
       chain = chainAt (cellCount q) whole i;
-      agrees = chainAt-coefficient (cellCount q) number chains (chainFrom-size (number * cellCount q) chains size) i l;
-      cycle = list-passes q number whole (A .request-passed) i l .cycle;
-      reads = record { places = λ j m. host-reads q (lists number whole) output bytes e i l j m };
+      agrees = chainAt-coefficient (cellCount q) many chains (chainFrom-size (many * cellCount q) chains size) i l;
+      cycle = list-passes q many whole (A .request-passed) i l .cycle;
+      reads = record { places = λ j m. host-reads q (lists many whole) output bytes e i l j m };
     }

@@ -8,7 +8,7 @@ use native.Mathlib.Omega.{arith}
 use lib.ListN.{length}
 use lib.IntN.{ℤ}
 use Rattle.limits.specs.Limits.{coefficientLimit}
-use Rattle.trials.specs.Trial.{first, done, numberTold, Called}
+use Rattle.trials.specs.Trial.{firstRefusal, done, numberTold, Called}
 use Rattle.sheet_format.specs.Sheet.{Bytes}
 use Rattle.reduction_steps.specs.State.{State}
 use Rattle.reports.specs.Report.{Counts, coordinateList}
@@ -32,8 +32,8 @@ pub notACycle : NotACycle
 notACycle = not-a-cycle-iff
 
 -- the first faulty chain is the same by other numbers that are equal
-fault-same : {f g : ℕ → ℕ} (number k : ℕ) → ((i : ℕ) → i < number → f i ≡ g i) → FirstFault f number k → FirstFault g number k
-fault-same number k same x = record {
+fault-same : {f g : ℕ → ℕ} (many k : ℕ) → ((i : ℕ) → i < many → f i ≡ g i) → FirstFault f many k → FirstFault g many k
+fault-same many k same x = record {
   place = x .place;
   within = x .within;
   told = sym (same (x .place) (x .within)) ∙ x .told;
@@ -42,35 +42,35 @@ fault-same number k same x = record {
 
 pub firstFaultyChain : FirstFaultyChain
 unfolding earlyChecks
-firstFaultyChain limit q number chains output work bytes passed size k nonzero narrow = (
-  λ e. fault-same number k (λ i l. sym (same i l)) (iff .0 (sym before ∙ answers .0 e)),
-  λ f. answers .1 (before ∙ iff .1 (fault-same number k same f)),
+firstFaultyChain limit q many chains output work bytes passed size k nonzero narrow = (
+  λ e. fault-same many k (λ i l. sym (same i l)) (iff .0 (sym before ∙ answers .0 e)),
+  λ f. answers .1 (before ∙ iff .1 (fault-same many k same f)),
 )
   where
     p : ℕ
     p = q .dimension
 
-    answers : (numberTold (call limit q (lists number chains) output work .answer) ≡ k) ↔ (first (earlyChecks limit q (lists number chains) (length output) (length work)) ≡ k)
-    answers = call-earlier limit q (lists number chains) output work k nonzero narrow
+    answers : (numberTold (call limit q (lists many chains) output work .answer) ≡ k) ↔ (firstRefusal (earlyChecks limit q (lists many chains) (length output) (length work)) ≡ k)
+    answers = call-earlier limit q (lists many chains) output work k nonzero narrow
 
-    before : first (earlyChecks limit q (lists number chains) (length output) (length work)) ≡ first (cyclesChecks coefficientLimit (cells q) (q .dimension) number chains)
+    before : firstRefusal (earlyChecks limit q (lists many chains) (length output) (length work)) ≡ firstRefusal (cyclesChecks coefficientLimit (cells q) (q .dimension) many chains)
     before =
-        call-passed limit q (number * cellCount q) (workSlots (cells q) (q .dimension)) (length output) (length work)
-        (chainsChecks coefficientLimit (cells q) (q .dimension) number chains) passed
-        ∙ chains-sized coefficientLimit (cells q) (q .dimension) chains number size
+        call-passed limit q (many * cellCount q) (workSlots (cells q) (q .dimension)) (length output) (length work)
+        (chainsChecks coefficientLimit (cells q) (q .dimension) many chains) passed
+        ∙ chains-sized coefficientLimit (cells q) (q .dimension) chains many size
 
-    iff : (first (cyclesChecks coefficientLimit (cells q) (q .dimension) number chains) ≡ k) ↔ FirstFault (fault coefficientLimit (cells q) (q .dimension) chains) number k
-    iff = cycles-told coefficientLimit (cells q) (q .dimension) chains number k nonzero
+    iff : (firstRefusal (cyclesChecks coefficientLimit (cells q) (q .dimension) many chains) ≡ k) ↔ FirstFault (fault coefficientLimit (cells q) (q .dimension) chains) many k
+    iff = cycles-told coefficientLimit (cells q) (q .dimension) chains many k nonzero
 
-    same : (i : ℕ) → i < number
-        → first (chainChecks coefficientLimit (cells q) (q .dimension) (chainAt (cellCount q) chains i)) ≡ fault coefficientLimit (cells q) (q .dimension) chains i
-    same i l = chain-told coefficientLimit (cells q) (q .dimension) chains i (length-chainAt (cellCount q) number chains size i l)
+    same : (i : ℕ) → i < many
+        → firstRefusal (chainChecks coefficientLimit (cells q) (q .dimension) (chainAt (cellCount q) chains i)) ≡ fault coefficientLimit (cells q) (q .dimension) chains i
+    same i l = chain-told coefficientLimit (cells q) (q .dimension) chains i (length-chainAt (cellCount q) many chains size i l)
 
-module _ (limit : ℕ) (q : Question) (number : ℕ) (chains output work : List ℤ) (bytes : Bytes (q .sheet)) (counts : Counts)
-    (e : call limit q (lists number chains) output work .answer ≡ done counts) (i : ℕ) (next : i < number)
+module _ (limit : ℕ) (q : Question) (many : ℕ) (chains output work : List ℤ) (bytes : Bytes (q .sheet)) (counts : Counts)
+    (e : call limit q (lists many chains) output work .answer ≡ done counts) (i : ℕ) (next : i < many)
     (output′ work′ : List ℤ) (room : cellCount q ≤ length output′) (space : workSlots (cells q) (q .dimension) ≤ length work′) where
-  abbrev A : Answered limit q (lists number chains) (length output) (length work)
-  A = answered limit q (lists number chains) output work bytes (done-number e)
+  abbrev A : Answered limit q (lists many chains) (length output) (length work)
+  A = answered limit q (lists many chains) output work bytes (done-number e)
 
   abbrev L : Behind q
   L = A .reductions-behind
@@ -79,9 +79,9 @@ module _ (limit : ℕ) (q : Question) (number : ℕ) (chains output work : List 
   z = chainAt (cellCount q) chains i
 
   -- what the single call passes
-  single-passed : first (earlyChecks limit q (coordinates z) (length output′) (length work′)) ≡ 0
+  single-passed : firstRefusal (earlyChecks limit q (coordinates z) (length output′) (length work′)) ≡ 0
   single-passed =
-      let chains-passed = chains-zero coefficientLimit (cells q) (q .dimension) chains number .0 (A .request-passed) in
+      let chains-passed = chains-zero coefficientLimit (cells q) (q .dimension) chains many .0 (A .request-passed) in
       early-iff limit q (coordinates z) (length output′) (length work′) .1 (
         record {
           accepted = A .passed .accepted;
@@ -89,28 +89,28 @@ module _ (limit : ℕ) (q : Question) (number : ℕ) (chains output work : List 
           output-slots = omega (arith, room);
           work-slots = space;
         },
-        chain-told coefficientLimit (cells q) (q .dimension) chains i (length-chainAt (cellCount q) number chains (chains-passed .0) i next) ∙ chains-passed .1 i next,
+        chain-told coefficientLimit (cells q) (q .dimension) chains i (length-chainAt (cellCount q) many chains (chains-passed .0) i next) ∙ chains-passed .1 i next,
       )
 
   abbrev single : Called Counts ℤ
   single = call limit q (coordinates z) output′ work′
 
   answer : single .answer ≡ done counts
-  answer = passed-done limit q (coordinates z) output′ work′ single-passed L ∙ ap done (sym (counts-behind limit q (lists number chains) output work bytes e))
+  answer = passed-done limit q (coordinates z) output′ work′ single-passed L ∙ ap done (sym (counts-behind limit q (lists many chains) output work bytes e))
 
   abbrev S : Behind q
   S = answered limit q (coordinates z) output′ work′ bytes (done-number answer) .reductions-behind
 
   width-lists : counts .torsion + counts .free ≡ coordinates-width L
-  width-lists = ap (λ (c : Counts). c .torsion + c .free) (counts-behind limit q (lists number chains) output work bytes e)
+  width-lists = ap (λ (c : Counts). c .torsion + c .free) (counts-behind limit q (lists many chains) output work bytes e)
 
   width-single : counts .torsion + counts .free ≡ coordinates-width S
   width-single = ap (λ (c : Counts). c .torsion + c .free) (counts-behind limit q (coordinates z) output′ work′ bytes answer)
 
   same : (j : ℕ) → j < counts .torsion + counts .free
-      → slot (call limit q (lists number chains) output work .output) (i * cellCount q + j) ≡ slot (single .output) j
+      → slot (call limit q (lists many chains) output work .output) (i * cellCount q + j) ≡ slot (single .output) j
   same j l =
-      list-reads limit q (lists number chains) output work bytes (done-number e) i next j (omega (arith, width-lists))
+      list-reads limit q (lists many chains) output work bytes (done-number e) i next j (omega (arith, width-lists))
       ∙ same-behind (λ s r x. slot (coordinateList (cellCount q) s x z) j ≡ slot (single .output) j) S L
       (sym (list-reads limit q (coordinates z) output′ work′ bytes (done-number answer) 0 (omega arith) j (omega (arith, width-single)))
       ∙ ap (slot (single .output)) place)
@@ -119,7 +119,7 @@ module _ (limit : ℕ) (q : Question) (number : ℕ) (chains output work : List 
       place = omega arith
 
 pub listsSingle : ListsSingle
-listsSingle limit q number chains output work bytes counts e i l output′ work′ room space = record {
-  answer = answer limit q number chains output work bytes counts e i l output′ work′ room space;
-  same = same limit q number chains output work bytes counts e i l output′ work′ room space;
+listsSingle limit q many chains output work bytes counts e i l output′ work′ room space = record {
+  answer = answer limit q many chains output work bytes counts e i l output′ work′ room space;
+  same = same limit q many chains output work bytes counts e i l output′ work′ room space;
 }

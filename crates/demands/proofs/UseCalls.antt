@@ -12,7 +12,7 @@ use Rattle.lists.specs.Tabulate.{tabulate}
 use Rattle.lists.specs.Splice.{splice, splices}
 use Rattle.matrices.specs.Sum.{sum}
 use Rattle.matrices.specs.Vector.{apply}
-use Rattle.trials.specs.Trial.{first, Answer, done, refused, numberTold, Called, cleared}
+use Rattle.trials.specs.Trial.{firstRefusal, Answer, done, refused, numberTold, Called, cleared}
 use Rattle.trials.proofs.TrialLaws.{refused≢done}
 use Rattle.complexes.specs.Cell.{without, same, rises, precedes, listed}
 use Rattle.complexes.specs.Boundary.{sign, coefficient, countBelow, boundary}
@@ -46,7 +46,7 @@ loops = record { free = 1; torsion = 0; peak = 1; bits = 1 }
 module _ (calls : Calls) where
   -- ---- done
 
-  when-done : (limit : ℕ) (request : Request) (output work : List ℤ) → first (earlyChecks limit hollow request (length output) (length work)) ≡ 0 →
+  when-done : (limit : ℕ) (request : Request) (output work : List ℤ) → firstRefusal (earlyChecks limit hollow request (length output) (length work)) ≡ 0 →
       call limit hollow request output work ≡ left request output work (reduced 1 0 hollow-left)
   when-done limit request output work passed = of (calls limit hollow request output work hollow-bytes)
     where
@@ -103,7 +103,7 @@ module _ (calls : Calls) where
   -- ---- refused before the reductions, every slice left alone
 
   when-refused : (limit : ℕ) (q : Question) (request : Request) (output work : List ℤ) (n : ℕ) → Bytes (q .sheet) →
-      first (earlyChecks limit q request (length output) (length work)) ≡ n → (n ≡ 0 → ⊥) →
+      firstRefusal (earlyChecks limit q request (length output) (length work)) ≡ n → (n ≡ 0 → ⊥) →
       call limit q request output work ≡ record { answer = refused n; output = output; work = work }
   when-refused limit q request output work n bytes told nonzero = of (calls limit q request output work bytes)
     where
@@ -132,7 +132,7 @@ module _ (calls : Calls) where
   -- ---- too wide: refused 13, the output kept and the work slice cleared
 
   when-wide : (limit : ℕ) (q : Question) (request : Request) (output work : List ℤ) → Bytes (q .sheet) →
-      first (earlyChecks limit q request (length output) (length work)) ≡ 0 → TooWide q →
+      firstRefusal (earlyChecks limit q request (length output) (length work)) ≡ 0 → TooWide q →
       call limit q request output work ≡ record { answer = refused 13; output = output; work = cleared work }
   when-wide limit q request output work bytes passed goes = of (calls limit q request output work bytes)
     where
@@ -144,7 +144,7 @@ module _ (calls : Calls) where
 
   -- demand 2: 13 is told exactly where no early refusal applies and the reductions go too wide
   told-13 : (limit : ℕ) (q : Question) (request : Request) (output work : List ℤ) → Bytes (q .sheet) →
-      (numberTold (call limit q request output work .answer) ≡ 13) ↔ ((first (earlyChecks limit q request (length output) (length work)) ≡ 0) × TooWide q)
+      (numberTold (call limit q request output work .answer) ≡ 13) ↔ ((firstRefusal (earlyChecks limit q request (length output) (length work)) ≡ 0) × TooWide q)
   told-13 limit q request output work bytes = (
     λ e. from (calls limit q request output work bytes) e,
     λ h. ap (λ (c : Called Counts ℤ). numberTold (c .answer)) (when-wide limit q request output work bytes (h .0) (h .1)),
@@ -154,7 +154,7 @@ module _ (calls : Calls) where
       number-of called = numberTold (called .answer)
 
       from : Outcome limit q request output work (call limit q request output work) → numberTold (call limit q request output work .answer) ≡ 13 →
-          (first (earlyChecks limit q request (length output) (length work)) ≡ 0) × TooWide q
+          (firstRefusal (earlyChecks limit q request (length output) (length work)) ≡ 0) × TooWide q
       from (outcome.Outcome.refused-early k nonzero narrow told is) e = absurd (narrow (sym (ap number-of is) ∙ e))
       from (outcome.Outcome.too-wide none wide is) e = (none, wide)
       from (outcome.Outcome.is-done none narrow s r x ends is) e = absurd (omega (arith, sym (ap number-of is) ∙ e))

@@ -9,7 +9,7 @@ use Rattle.lists.specs.Tabulate.{tabulate}
 use Rattle.matrices.specs.Sum.{sum}
 use Rattle.matrices.specs.Vector.{apply}
 use Rattle.limits.specs.Limits.{coefficientLimit}
-use Rattle.trials.specs.Trial.{first, done, numberTold, Called}
+use Rattle.trials.specs.Trial.{firstRefusal, done, numberTold, Called}
 use Rattle.complexes.specs.Cell.{without, same, rises, precedes, listed}
 use Rattle.complexes.specs.Boundary.{sign, coefficient, countBelow, boundary}
 use Rattle.complexes.specs.Complex.{count}
@@ -60,7 +60,7 @@ abbrev faulty : List ℤ
 faulty = loop ++ (edge ++ (pos 32768 ∷ pos 0 ∷ pos 0 ∷ []))
 
 abbrev fault : ℕ → ℕ
-fault i = first (chainChecks coefficientLimit (cells hollow) 1 (chainAt 3 faulty i))
+fault i = firstRefusal (chainChecks coefficientLimit (cells hollow) 1 (chainAt 3 faulty i))
 
 module _ (firstFaultyChain : FirstFaultyChain) where
   -- 12 is answered, as chain 1 has it

@@ -31,16 +31,16 @@ pub data CoordinatesOf (q : Question) : Chain → (ℕ → ℤ) → Type 0 where
       (limit : ℕ) (z output work : List ℤ) (counts : Counts) → call limit q (coordinates z) output work .answer ≡ done counts →
       CoordinatesOf q (slot z) (slot (call limit q (coordinates z) output work .output))
   by-library-list :
-      (limit number : ℕ) (chains output work : List ℤ) (counts : Counts) → call limit q (lists number chains) output work .answer ≡ done counts →
-      (i : ℕ) → i < number →
-      CoordinatesOf q (λ j. slot chains (i * cellCount q + j)) (λ j. slot (call limit q (lists number chains) output work .output) (i * cellCount q + j))
+      (limit many : ℕ) (chains output work : List ℤ) (counts : Counts) → call limit q (lists many chains) output work .answer ≡ done counts →
+      (i : ℕ) → i < many →
+      CoordinatesOf q (λ j. slot chains (i * cellCount q + j)) (λ j. slot (call limit q (lists many chains) output work .output) (i * cellCount q + j))
   by-host :
       (chain output : List ℕ) → hostCall q (coordinatesIn q chain) output .number ≡ 0 →
       CoordinatesOf q (coefficientIn chain) (numberAt (hostCall q (coordinatesIn q chain) output .output))
   by-host-list :
-      (number : ℕ) (chains output : List ℕ) → hostCall q (listsIn q number chains) output .number ≡ 0 → (i : ℕ) → i < number →
+      (many : ℕ) (chains output : List ℕ) → hostCall q (listsIn q many chains) output .number ≡ 0 → (i : ℕ) → i < many →
       CoordinatesOf q (λ j. coefficientIn chains (i * cellCount q + j))
-      (λ j. numberAt (hostCall q (listsIn q number chains) output .output) (i * cellCount q + j))
+      (λ j. numberAt (hostCall q (listsIn q many chains) output .output) (i * cellCount q + j))
 
 -- the counts that a call of the library answered
 pub data CountsAnswered (q : Question) : Counts → Type 0 where

@@ -9,7 +9,7 @@ use Prim.Native.Nat.{ℕ, _+_, _*_, _≤_, _<_}
 use lib.ListN.{length}
 use lib.IntN.{ℤ}
 use Rattle.limits.specs.Limits.{coefficientLimit}
-use Rattle.trials.specs.Trial.{first, done, numberTold}
+use Rattle.trials.specs.Trial.{firstRefusal, done, numberTold}
 use Rattle.complexes.specs.Complex.{Sections}
 use Rattle.sheet_format.specs.Sheet.{Bytes}
 use Rattle.reports.specs.Report.{Counts}
@@ -31,17 +31,17 @@ Calls =
 -- 01, "12. The chain has a nonzero boundary": among 10 to 12 it is told exactly when 10 and 11 do not apply and the chain is no cycle,
 -- whatever the coefficient limit
 abbrev pub NotACycle : Type 0
-NotACycle = (limit : ℕ) (K : Sections) (p : ℕ) (z : List ℤ) → (first (chainChecks limit K p z) ≡ 12) ↔ NoCycle limit K p z
+NotACycle = (limit : ℕ) (K : Sections) (p : ℕ) (z : List ℤ) → (firstRefusal (chainChecks limit K p z) ≡ 12) ↔ NoCycle limit K p z
 
 -- 02, Note 1, "The first faulty chain decides between 11 and 12": where none of 1 to 10 applies, a number other than 13 is answered exactly when it is
 -- the first that the checks of a single call tell of a chain
 abbrev pub FirstFaultyChain : Type 0
 FirstFaultyChain =
-    (limit : ℕ) (q : Question) (number : ℕ) (chains output work : List ℤ) → Bytes (q .sheet) →
-    first (callChecks limit q (number * cellCount q) (workSlots (cells q) (q .dimension)) (length output) (length work)) ≡ 0 →
-    length chains ≡ number * cellCount q → (k : ℕ) → k ≢ 0 → k ≢ 13 →
-    (numberTold (call limit q (lists number chains) output work .answer) ≡ k)
-    ↔ FirstFault (λ i. first (chainChecks coefficientLimit (cells q) (q .dimension) (chainAt (cellCount q) chains i))) number k
+    (limit : ℕ) (q : Question) (many : ℕ) (chains output work : List ℤ) → Bytes (q .sheet) →
+    firstRefusal (callChecks limit q (many * cellCount q) (workSlots (cells q) (q .dimension)) (length output) (length work)) ≡ 0 →
+    length chains ≡ many * cellCount q → (k : ℕ) → k ≢ 0 → k ≢ 13 →
+    (numberTold (call limit q (lists many chains) output work .answer) ≡ k)
+    ↔ FirstFault (λ i. firstRefusal (chainChecks coefficientLimit (cells q) (q .dimension) (chainAt (cellCount q) chains i))) many k
 
 -- 02, Note 1, "The lists equal those of single calls in the same order": list i of a call that is done is that of the single call on chain i, which is
 -- done with the same counts, whatever its slices held
@@ -51,7 +51,7 @@ pub record ListSingle (limit : ℕ) (q : Question) (i : ℕ) (z after : List ℤ
 
 abbrev pub ListsSingle : Type 0
 ListsSingle =
-    (limit : ℕ) (q : Question) (number : ℕ) (chains output work : List ℤ) → Bytes (q .sheet) → (counts : Counts) →
-    call limit q (lists number chains) output work .answer ≡ done counts → (i : ℕ) → i < number →
+    (limit : ℕ) (q : Question) (many : ℕ) (chains output work : List ℤ) → Bytes (q .sheet) → (counts : Counts) →
+    call limit q (lists many chains) output work .answer ≡ done counts → (i : ℕ) → i < many →
     (output′ work′ : List ℤ) → cellCount q ≤ length output′ → workSlots (cells q) (q .dimension) ≤ length work′ →
-    ListSingle limit q i (chainAt (cellCount q) chains i) (call limit q (lists number chains) output work .output) counts output′ work′
+    ListSingle limit q i (chainAt (cellCount q) chains i) (call limit q (lists many chains) output work .output) counts output′ work′

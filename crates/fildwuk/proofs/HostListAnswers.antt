@@ -1,4 +1,4 @@
--- What the host call on many chains answers: lists-refuse, for the checks 1 to 9; length-refuses, for 10; cycles-refuse, for 11 and 12; lists-wide,
+-- What the host call on each chains answers: lists-refuse, for the checks 1 to 9; length-refuses, for 10; cycles-refuse, for 11 and 12; lists-wide,
 -- lists-done. `can-list`: its lists can be written.
 use mathlib.Core.Path.{_≡_, refl, sym, _∙_, ap}
 use mathlib.Core.Logic.{_≢_}
@@ -9,7 +9,7 @@ use lib.IntN.{ℤ}
 use lib.ListN.{length}
 use Rattle.limits.specs.Limits.{hostLimit, coefficientLimit}
 use Rattle.lists.specs.Splice.{splices}
-use Rattle.trials.specs.Trial.{first}
+use Rattle.trials.specs.Trial.{firstRefusal}
 use Rattle.complexes.specs.Complex.{Sections}
 use Rattle.sheet_format.specs.Check.{sectionsOf}
 use Rattle.reduction_steps.proofs.PivotLaws.{pivotRule-is-rule}
@@ -49,7 +49,7 @@ pub few-cells : (q : Question) {slots space output work : ℕ} → Passed hostLi
 unfolding cells
 few-cells q h = counts-within q (h .accepted) (q .dimension)
 
-module _ (q : Question) (number : ℕ) (chains output : List ℕ) {work : ℕ} (space : work ≡ workRoom) where
+module _ (q : Question) (many : ℕ) (chains output : List ℕ) {work : ℕ} (space : work ≡ workRoom) where
   abbrev K : Sections
   K = sectionsOf (q .sheet)
 
@@ -57,65 +57,65 @@ module _ (q : Question) (number : ℕ) (chains output : List ℕ) {work : ℕ} (
   p = q .dimension
 
   -- n_p
-  abbrev many : ℕ
-  many = cellsOf q
+  abbrev each : ℕ
+  each = cellsOf q
 
   abbrev coefficients : List ℤ
-  coefficients = chainFrom (number * many) chains
+  coefficients = chainFrom (many * each) chains
 
   abbrev l : Lengths
   l = hostLengths q output work
 
   abbrev called : HostCalled
-  called = hostCall q (listsIn q number chains) output
+  called = hostCall q (listsIn q many chains) output
 
   -- the work array has room enough
-  early-is : hostEarly q (listsIn q number chains) output ≡ listsEarly l number coefficients
+  early-is : hostEarly q (listsIn q many chains) output ≡ listsEarly l many coefficients
   unfolding cells
-  early-is = sym (early-room q (lists number coefficients) output (slotsIn output) work refl space)
+  early-is = sym (early-room q (lists many coefficients) output (slotsIn output) work refl space)
 
-  told : (x : Refusal) → listsEarly l number coefficients ≡ numberOf x → HostAnswers called (numberOf x) output
-  told x e = refuses q (listsIn q number chains) output x (early-is ∙ e)
+  told : (x : Refusal) → listsEarly l many coefficients ≡ numberOf x → HostAnswers called (numberOf x) output
+  told x e = refuses q (listsIn q many chains) output x (early-is ∙ e)
 
-  pub lists-refuse : (x : Refusal) → admission hostLimit q (Coordinates number) (slotsIn output) work ≡ numberOf x → HostAnswers called (numberOf x) output
-  lists-refuse x e = told x (admission-told l number coefficients x e)
+  pub lists-refuse : (x : Refusal) → admission hostLimit q (Coordinates many) (slotsIn output) work ≡ numberOf x → HostAnswers called (numberOf x) output
+  lists-refuse x e = told x (admission-told l many coefficients x e)
 
-  module _ {n : CellCounts} (g : Granted l (Coordinates number) n) where
-    pub length-refuses : length chains ≢ 4 * (number * many) → HostAnswers called 10 output
-    length-refuses d = told refusal.ChainLengthDiffers (length-told l number coefficients g (chainFrom-other (number * many) chains d))
+  module _ {n : CellCounts} (g : Granted l (Coordinates many) n) where
+    pub length-refuses : length chains ≢ 4 * (many * each) → HostAnswers called 10 output
+    length-refuses d = told refusal.ChainLengthDiffers (length-told l many coefficients g (chainFrom-other (many * each) chains d))
 
-    module _ (size : length chains ≡ 4 * (number * many)) where
-      sized : length coefficients ≡ number * many
-      sized = length-chainFrom (number * many) chains size
+    module _ (size : length chains ≡ 4 * (many * each)) where
+      sized : length coefficients ≡ many * each
+      sized = length-chainFrom (many * each) chains size
 
-      pub cycles-refuse : (x : Refusal) → first (cyclesChecks coefficientLimit K p number coefficients) ≡ numberOf x → HostAnswers called (numberOf x) output
-      cycles-refuse x e = told x (cycles-next l number coefficients g sized ∙ e)
+      pub cycles-refuse : (x : Refusal) → firstRefusal (cyclesChecks coefficientLimit K p many coefficients) ≡ numberOf x → HostAnswers called (numberOf x) output
+      cycles-refuse x e = told x (cycles-next l many coefficients g sized ∙ e)
 
-      module _ (passed : first (cyclesChecks coefficientLimit K p number coefficients) ≡ 0) where
-        passes : hostEarly q (listsIn q number chains) output ≡ 0
-        passes = early-is ∙ cycles-next l number coefficients g sized ∙ passed
+      module _ (passed : firstRefusal (cyclesChecks coefficientLimit K p many coefficients) ≡ 0) where
+        passes : hostEarly q (listsIn q many chains) output ≡ 0
+        passes = early-is ∙ cycles-next l many coefficients g sized ∙ passed
 
         pub lists-wide : twice l ≡ tooWide → HostAnswers called 13 output
         unfolding two rule cells
-        lists-wide e = goes-wide q (listsIn q number chains) output passes e
+        lists-wide e = goes-wide q (listsIn q many chains) output passes e
 
         module _ {x : Reduced} {w : List ℤ} (h : Reduces l x w) where
           -- the lists can be written
-          pub can-list : CanListBytes x w many number chains (length output)
+          pub can-list : CanListBytes x w each many chains (length output)
           can-list = record {
             few = few-cells q (g .passed);
             size = size;
             room = omega (arith, g .passed .output-slots);
             short = rows-within pivotRule-is-rule (g .chains) (g .passed .work-slots) h;
             each = λ i m.
-                can-coordinate pivotRule-is-rule (g .chains) (g .passed .work-slots) h (omega (arith, few-cells q (g .passed))) (length-chainAt many number coefficients sized i m)
-                (small-coefficients l number coefficients passed i m);
+                can-coordinate pivotRule-is-rule (g .chains) (g .passed .work-slots) h (omega (arith, few-cells q (g .passed))) (length-chainAt each many coefficients sized i m)
+                (small-coefficients l many coefficients passed i m);
           }
 
-          pub lists-done : {output′ : List ℕ} → output′ ≡ splices (8 * many) (listBytes x w many number chains) number output → HostAnswers called 0 output′
+          pub lists-done : {output′ : List ℕ} → output′ ≡ splices (8 * each) (listBytes x w each many chains) many output → HostAnswers called 0 output′
           unfolding two rule cells
           lists-done o =
-              is-done q (listsIn q number chains) output passes (h .is)
+              is-done q (listsIn q many chains) output passes (h .is)
               (o
-              ∙ ap (λ (width : ℕ). splices (8 * many) (λ i. numbersBytes (coordinateList width (x .layout .matrix .lines) (stateIn x w) (chainAt many coefficients i))) number output)
+              ∙ ap (λ (width : ℕ). splices (8 * each) (λ i. numbersBytes (coordinateList width (x .layout .matrix .lines) (stateIn x w) (chainAt each coefficients i))) many output)
               (follower-width pivotRule-is-rule (g .chains) (g .passed .work-slots) h))

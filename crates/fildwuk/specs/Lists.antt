@@ -12,15 +12,15 @@ use Rattle.two_reductions.specs.declared.reduced.Reduced.{Reduced}
 
 -- chain i of the bytes
 abbrev pub chainOf : ℕ → ℕ → List ℕ → ℕ → List ℤ
-chainOf cells number chains i = chainAt cells (chainFrom (number * cells) chains) i
+chainOf cells many chains i = chainAt cells (chainFrom (many * cells) chains) i
 
 -- the bytes of its coordinates
 abbrev pub listBytes : Reduced → List ℤ → ℕ → ℕ → List ℕ → ℕ → List ℕ
-listBytes x w cells number chains i = numbersBytes (coordinatesOf x w (chainOf cells number chains i))
+listBytes x w cells many chains i = numbersBytes (coordinatesOf x w (chainOf cells many chains i))
 
-pub record CanListBytes (x : Reduced) (w : List ℤ) (cells number : ℕ) (chains : List ℕ) (m : ℕ) : Type 0 where
+pub record CanListBytes (x : Reduced) (w : List ℤ) (cells many : ℕ) (chains : List ℕ) (m : ℕ) : Type 0 where
   pub few : cells ≤ hostLimit
-  pub size : length chains ≡ 4 * (number * cells)
-  pub room : 8 * (number * cells) ≤ m
+  pub size : length chains ≡ 4 * (many * cells)
+  pub room : 8 * (many * cells) ≤ m
   pub short : x .layout .matrix .lines ≤ cells
-  pub each : (i : ℕ) → i < number → CanCoordinate x w (chainOf cells number chains i) 0 hostLimit
+  pub each : (i : ℕ) → i < many → CanCoordinate x w (chainOf cells many chains i) 0 hostLimit

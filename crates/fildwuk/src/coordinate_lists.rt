@@ -1,4 +1,4 @@
-// The coordinate lists of many chains, from bytes to bytes, with room for one chain and one list: all chains are read and checked one at a time;
+// The coordinate lists of width chains, from bytes to bytes, with room for one chain and one list: all chains are read and checked one at a time;
 // after the reductions each is read again and answered.
 ghost use mathlib.Core.Path.{_≡_};
 ghost use Prim.Native.Nat.{_*_, _≤_};
@@ -7,7 +7,7 @@ ghost use Rattle.limits.specs.Limits.{hostLimit, coefficientLimit};
 ghost use Rattle.lists.specs.Splice.{splices};
 ghost use Rattle.complexes.specs.Complex.{count};
 ghost use Rattle.sheet_format.specs.Layout.{top};
-ghost use Rattle.trials.specs.Trial.{first};
+ghost use Rattle.trials.specs.Trial.{firstRefusal};
 ghost use Rattle.sheet_format.specs.Check.{sectionsOf};
 ghost use Rattle.faces.specs.Face.{Accepted};
 ghost use Rattle.host_calls.specs.Bytes.{chainFrom};
@@ -36,18 +36,18 @@ use writers::coordinates::write_coordinates;
 // The slots of one chain and of one list.
 const CELLS: usize = Sheet::HOST_LIMIT;
 
-// The first of 11 and 12 that applies to the first faulty of the `number` chains.
-fn check_bytes(s: &[u8], p: usize, cells: usize, number: usize, chains: &[u8]) -> Check
+// The first of 11 and 12 that applies to the first faulty of the `many` chains.
+fn check_bytes(s: &[u8], p: usize, cells: usize, many: usize, chains: &[u8]) -> Check
     requires { ⌜ Accepted (now s) ⌝ }
-    requires { ⌜ (p ≤ top) × (cells ≡ count (sectionsOf (now s)) p) × (cells ≤ hostLimit) × (length (now chains) ≡ 4 * (number * cells)) ⌝ }
+    requires { ⌜ (p ≤ top) × (cells ≡ count (sectionsOf (now s)) p) × (cells ≤ hostLimit) × (length (now chains) ≡ 4 * (many * cells)) ⌝ }
     ensures { λ r. ⌜
-        first (cyclesChecks coefficientLimit (sectionsOf (now (s .entry))) p number (chainFrom (number * cells) (now (chains .entry)))) ≡
+        firstRefusal (cyclesChecks coefficientLimit (sectionsOf (now (s .entry))) p many (chainFrom (many * cells) (now (chains .entry)))) ≡
         checkNumber r
         ⌝ }
 {
     let mut coefficients = [0i32; CELLS];
     let mut i: usize = 0;
-    while i < number {
+    while i < many {
         read_chain(chains, i * cells, cells, &mut coefficients);
         if let Check::Refused(refusal) = check_chain(s, p, &coefficients[..cells]) {
             return Check::Refused(refusal);
@@ -57,38 +57,38 @@ fn check_bytes(s: &[u8], p: usize, cells: usize, number: usize, chains: &[u8]) -
     Check::Passed
 }
 
-// Writes the coordinate list of each of the `number` chains, list i from byte 8 × i × cells on.
+// Writes the coordinate list of each of the `many` chains, list i from byte 8 × i × cells on.
 fn write_bytes(
     reduced: Reduced,
     w: &[i32],
     cells: usize,
-    number: usize,
+    many: usize,
     chains: &[u8],
     out: &mut [u8],
 )
-    requires { ⌜ CanListBytes reduced (now w) cells number (now chains) (length (now out)) ⌝ }
+    requires { ⌜ CanListBytes reduced (now w) cells many (now chains) (length (now out)) ⌝ }
     ensures { λ r. ⌜
         now (out .exit) ≡
-        splices (8 * cells) (listBytes reduced (now (w .entry)) cells number (now (chains .entry))) number (now (out .entry))
+        splices (8 * cells) (listBytes reduced (now (w .entry)) cells many (now (chains .entry))) many (now (out .entry))
         ⌝ }
 {
     let mut coefficients = [0i32; CELLS];
     let mut numbers = [0i64; CELLS];
     let mut i: usize = 0;
-    while i < number {
+    while i < many {
         let at = i * cells;
         read_chain(chains, at, cells, &mut coefficients);
-        let many = write_coordinates(reduced, w, &coefficients[..cells], &mut numbers, 0);
-        write_numbers(&numbers, many, out, 8 * at);
+        let width = write_coordinates(reduced, w, &coefficients[..cells], &mut numbers, 0);
+        write_numbers(&numbers, width, out, 8 * at);
         i = i + 1;
     }
 }
 
-// The coordinate lists of `number` chains.
+// The coordinate lists of `many` chains.
 pub fn lists_through(
     sheet: &[u8],
     dimension: u32,
-    number: usize,
+    many: usize,
     chains: &[u8],
     work: &mut [i32],
     coordinates: &mut [u8],
@@ -97,7 +97,7 @@ pub fn lists_through(
     ensures { λ r.
         let left = now (coordinates .exit) in
         let q = asked (now (sheet .entry)) dimension in ⌜
-        HostAnswers (hostCall q (listsIn q number (now (chains .entry))) (now (coordinates .entry))) r left
+        HostAnswers (hostCall q (listsIn q many (now (chains .entry))) (now (coordinates .entry))) r left
         ⌝ }
 {
     let slots = coordinates.len() / 8;
@@ -105,7 +105,7 @@ pub fn lists_through(
         Sheet::host(),
         sheet,
         dimension,
-        Request::Coordinates(number),
+        Request::Coordinates(many),
         slots,
         work.len(),
     ) {
@@ -114,10 +114,10 @@ pub fn lists_through(
     };
     let p = dimension as usize;
     let cells = n.cells;
-    if chains.len() != 4 * (number * cells) {
+    if chains.len() != 4 * (many * cells) {
         return Refusal::ChainLengthDiffers.number();
     }
-    let lists = nonempty(number, cells);
+    let lists = nonempty(many, cells);
     if let Check::Refused(refusal) = check_bytes(sheet, p, cells, lists, chains) {
         return refusal.number();
     }

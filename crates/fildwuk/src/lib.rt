@@ -63,26 +63,26 @@ pub extern "C" fn fildwuk_report(sheet: &[u8], dimension: u32, report: &mut [u8]
     report_through(sheet, dimension, &mut numbers, &mut work, report)
 }
 
-// The coordinate lists of `number` chains.
+// The coordinate lists of `many` chains.
 #[no_mangle]
 pub extern "C" fn fildwuk_coordinate_lists(
     sheet: &[u8],
     dimension: u32,
-    number: u32,
+    many: u32,
     chains: &[u8],
     coordinates: &mut [u8],
 ) -> u32
     ensures { λ r.
         let left = now (coordinates .exit) in
         let q = asked (now (sheet .entry)) dimension in ⌜
-        HostAnswers (hostCall q (listsIn q number (now (chains .entry))) (now (coordinates .entry))) r left
+        HostAnswers (hostCall q (listsIn q many (now (chains .entry))) (now (coordinates .entry))) r left
         ⌝ }
 {
     let mut work = [0i32; WORK_SLOTS];
     lists_through(
         sheet,
         dimension,
-        number as usize,
+        many as usize,
         chains,
         &mut work,
         coordinates,

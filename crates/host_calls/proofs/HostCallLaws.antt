@@ -19,7 +19,7 @@ use Rattle.limits.specs.Limits.{hostLimit}
 use Rattle.lists.specs.Splice.{splice, splices}
 use Rattle.lists.specs.SpliceLaws.{splice-zero}
 use Rattle.lists.proofs.SplicesLaws.{splices-single}
-use Rattle.trials.specs.Trial.{first, Called, done, refused, numberTold}
+use Rattle.trials.specs.Trial.{firstRefusal, Called, done, refused, numberTold}
 use Rattle.trials.proofs.TrialLaws.{refused≢done}
 use Rattle.trials.proofs.FirstLaws.{orElse, first-append}
 use Rattle.complexes.specs.Complex.{count}
@@ -88,10 +88,10 @@ module _ (q : Question) (accepted : refusal hostLimit (q .sheet) ≡ 0) where
 
 module _ (q : Question) (slots space o o′ w w′ : ℕ) where
   same-checks : (refusal hostLimit (q .sheet) ≡ 0 → (ltb o slots ≡ ltb o′ slots) × (ltb w space ≡ ltb w′ space))
-      → first (callChecks hostLimit q slots space o w) ≡ first (callChecks hostLimit q slots space o′ w′)
+      → firstRefusal (callChecks hostLimit q slots space o w) ≡ firstRefusal (callChecks hostLimit q slots space o′ w′)
   same-checks h = go (refusal hostLimit (q .sheet)) refl
     where
-      go : (k : ℕ) → refusal hostLimit (q .sheet) ≡ k → first (callChecks hostLimit q slots space o w) ≡ first (callChecks hostLimit q slots space o′ w′)
+      go : (k : ℕ) → refusal hostLimit (q .sheet) ≡ k → firstRefusal (callChecks hostLimit q slots space o w) ≡ firstRefusal (callChecks hostLimit q slots space o′ w′)
       go (suc k) e =
           sheet-told hostLimit q slots space o w (λ z. absurd (omega arith)) ∙ sym (sheet-told hostLimit q slots space o′ w′ (λ z. absurd (omega arith)))
       go zero e =
@@ -101,11 +101,11 @@ module _ (q : Question) (slots space o o′ w w′ : ℕ) where
 module _ (q : Question) (request : Request) (output : List ℕ) (o w : ℕ) where
   pub early-same : (refusal hostLimit (q .sheet) ≡ 0 → ltb o (listCount request * listSlots q request) ≡ ltb (slotsIn output) (listCount request * listSlots q request))
       → (refusal hostLimit (q .sheet) ≡ 0 → workSlots (cells q) (q .dimension) ≤ w)
-      → first (earlyChecks hostLimit q request o w) ≡ hostEarly q request output
+      → firstRefusal (earlyChecks hostLimit q request o w) ≡ hostEarly q request output
   unfolding earlyChecks callChecks
   early-same fits room =
       first-append (callChecks hostLimit q slots space o w) (requestChecks q request) refl
-      ∙ ap (λ (k : ℕ). orElse k (first (requestChecks q request)))
+      ∙ ap (λ (k : ℕ). orElse k (firstRefusal (requestChecks q request)))
       (same-checks q slots space o (slotsIn output) w space (λ e. (fits e, le-ltb w space (room e) ∙ sym (le-ltb space space (omega arith)))))
       ∙ sym (first-append (callChecks hostLimit q slots space (slotsIn output) space) (requestChecks q request) refl)
     where
@@ -116,7 +116,7 @@ module _ (q : Question) (request : Request) (output : List ℕ) (o w : ℕ) wher
       space = workSlots (cells q) (q .dimension)
 
   -- the work array of a host call has the slots that check 9 asks for
-  pub early-room : o ≡ slotsIn output → w ≡ workRoom → first (earlyChecks hostLimit q request o w) ≡ hostEarly q request output
+  pub early-room : o ≡ slotsIn output → w ≡ workRoom → firstRefusal (earlyChecks hostLimit q request o w) ≡ hostEarly q request output
   early-room e f = early-same (λ a. rw e) (λ a. omega (arith, work-room q a))
 
 -- ---- the report
@@ -130,7 +130,7 @@ ltb-min o room need h = go (decLt o need)
 
 module _ (q : Question) (output : List ℕ) (slots work : List ℤ) (size : length slots ≡ min (slotsIn output) reportRoom) (space : length work ≡ workRoom) where
   abbrev early : ℕ
-  early = first (earlyChecks hostLimit q report (length slots) (length work))
+  early = firstRefusal (earlyChecks hostLimit q report (length slots) (length work))
 
   pub report-early : early ≡ hostEarly q report output
   report-early =

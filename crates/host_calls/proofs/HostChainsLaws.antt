@@ -44,27 +44,27 @@ module _ (m : ℕ) (chains : List ℕ) where
       go (yes h) = h
       go (no d) = absurd (chainFrom-other d e)
 
-module _ (n number : ℕ) (chains : List ℕ) (size : length chains ≡ 4 * (number * n)) where
+module _ (n many : ℕ) (chains : List ℕ) (size : length chains ≡ 4 * (many * n)) where
   -- the coefficients of all chains
   abbrev whole : List ℤ
-  whole = chainFrom (number * n) chains
+  whole = chainFrom (many * n) chains
 
-  pub chainAt-bytes : (i : ℕ) → i < number → chainAt n whole i ≡ tabulate n (λ j. coefficientIn chains (i * n + j))
+  pub chainAt-bytes : (i : ℕ) → i < many → chainAt n whole i ≡ tabulate n (λ j. coefficientIn chains (i * n + j))
   chainAt-bytes i l =
       ext-getD (pos 0) (chainAt n whole i) (tabulate n (λ j. coefficientIn chains (i * n + j)))
       (long ∙ sym (length-tabulate n (λ j. coefficientIn chains (i * n + j))))
       (λ j b.
       getD-take n (drop (i * n) whole) j (pos 0) (omega (arith, long))
       ∙ getD-drop (i * n) whole j (pos 0)
-      ∙ ap (λ (z : List ℤ). getD z (i * n + j) (pos 0)) (chainFrom-whole (number * n) chains size)
-      ∙ getD-tabulate (number * n) (λ k. coefficientIn chains k) (i * n + j) (pos 0) (omega (arith, long, chain-inside n number whole (length-chainFrom (number * n) chains size) i l, length-chainFrom (number * n) chains size))
+      ∙ ap (λ (z : List ℤ). getD z (i * n + j) (pos 0)) (chainFrom-whole (many * n) chains size)
+      ∙ getD-tabulate (many * n) (λ k. coefficientIn chains k) (i * n + j) (pos 0) (omega (arith, long, chain-inside n many whole (length-chainFrom (many * n) chains size) i l, length-chainFrom (many * n) chains size))
       ∙ sym (getD-tabulate n (λ k. coefficientIn chains (i * n + k)) j (pos 0) (omega (arith, long))))
     where
       long : length (chainAt n whole i) ≡ n
-      long = length-chainAt n number whole (length-chainFrom (number * n) chains size) i l
+      long = length-chainAt n many whole (length-chainFrom (many * n) chains size) i l
 
   -- coefficient j of chain i
-  pub chainAt-coefficient : (i : ℕ) → i < number → (j : ℕ) → j < n → getD (chainAt n whole i) j (pos 0) ≡ coefficientIn chains (i * n + j)
+  pub chainAt-coefficient : (i : ℕ) → i < many → (j : ℕ) → j < n → getD (chainAt n whole i) j (pos 0) ≡ coefficientIn chains (i * n + j)
   chainAt-coefficient i l j m =
       ap (λ (z : List ℤ). getD z j (pos 0)) (chainAt-bytes i l) ∙ getD-tabulate n (λ k. coefficientIn chains (i * n + k)) j (pos 0) m
 

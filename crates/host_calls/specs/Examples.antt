@@ -39,7 +39,7 @@ use Rattle.host_calls.specs.HostCases.{HostRequest, reportOf, coordinate
 unfoldable pub called : ℕ → HostRequest → List ℕ → HostCalled
 called p reportOf output = hostCall (asked hollowTriangle p) report output
 called p (coordinatesOf chain) output = hostCall (asked hollowTriangle p) (coordinatesIn (asked hollowTriangle p) chain) output
-called p (listsOf number chains) output = hostCall (asked hollowTriangle p) (listsIn (asked hollowTriangle p) number chains) output
+called p (listsOf many chains) output = hostCall (asked hollowTriangle p) (listsIn (asked hollowTriangle p) many chains) output
 
 unfoldable pub sameCalled : HostCalled → HostCalled → Bool
 sameCalled x y = eqb (x .number) (y .number) && sameList eqb (x .output) (y .output)

@@ -4,7 +4,7 @@ use Prim.Native.Nat.{ℕ, _+_, _*_, _/_}
 use lib.ListN.{length}
 use Rattle.limits.specs.Limits.{hostLimit}
 use Rattle.lists.specs.Splice.{splices}
-use Rattle.trials.specs.Trial.{first, Called, numberTold}
+use Rattle.trials.specs.Trial.{firstRefusal, Called, numberTold}
 use Rattle.reduction_steps.specs.State.{State}
 use Rattle.reports.specs.Report.{Counts}
 use Rattle.requests.specs.Question.{Question, cells, cellCount, two}
@@ -29,7 +29,7 @@ workRoom = hostLimit * (3 * hostLimit)
 
 -- the first of the early checks: a host call has work slots enough
 abbrev pub hostEarly : Question → Request → List ℕ → ℕ
-hostEarly q request output = first (earlyChecks hostLimit q request (slotsIn output) (workSlots (cells q) (q .dimension)))
+hostEarly q request output = firstRefusal (earlyChecks hostLimit q request (slotsIn output) (workSlots (cells q) (q .dimension)))
 
 -- the output where the lists are written as bytes
 abbrev pub bytesLeft : Question → Request → List ℕ → ℕ → ℕ → State → List ℕ
@@ -50,4 +50,4 @@ coordinatesIn q chain = coordinates (chainFrom (cellCount q) chain)
 
 -- those of a number of chains of 4 × n_p bytes each
 abbrev pub listsIn : Question → ℕ → List ℕ → Request
-listsIn q number chains = lists number (chainFrom (number * cellCount q) chains)
+listsIn q many chains = lists many (chainFrom (many * cellCount q) chains)

@@ -34,26 +34,26 @@ host-one-chain q chain output = ap (λ (m : ℕ). hostCall q (lists 1 (chainFrom
         ∙ ap (λ (early : ℕ). hostAnswer (callWith early (two q) (bytesLeft q (coordinates z) output) output []))
         (one-early hostLimit q z (slotsIn output) (workSlots (cells q) (q .dimension)))
 
-pub host-no-cells : (q : Question) → cellCount q ≡ 0 → (number : ℕ) (chains output : List ℕ) → hostCall q (listsIn q number chains) output ≡ hostCall q (listsIn q 0 chains) output
+pub host-no-cells : (q : Question) → cellCount q ≡ 0 → (many : ℕ) (chains output : List ℕ) → hostCall q (listsIn q many chains) output ≡ hostCall q (listsIn q 0 chains) output
 unfolding hostCall splices numbersBytes
-host-no-cells q empty number chains output =
-    ap (λ (m : ℕ). hostCall q (lists number (chainFrom m chains)) output) none
-    ∙ ap hostAnswer (same-with (hostEarly q (lists number z) output) (two q) (bytesLeft q (lists number z) output) (λ s r x. output) output []
-    (λ e s r x d. splices-nothing (8 * cellCount q) (λ i. numbersBytes (numbersOf q (lists number z) s r x i)) number output
-    (λ i l. ap numbersBytes (none-numbers q empty s r x d number z i))))
+host-no-cells q empty many chains output =
+    ap (λ (m : ℕ). hostCall q (lists many (chainFrom m chains)) output) none
+    ∙ ap hostAnswer (same-with (hostEarly q (lists many z) output) (two q) (bytesLeft q (lists many z) output) (λ s r x. output) output []
+    (λ e s r x d. splices-nothing (8 * cellCount q) (λ i. numbersBytes (numbersOf q (lists many z) s r x i)) many output
+    (λ i l. ap numbersBytes (none-numbers q empty s r x d many z i))))
     ∙ ap (λ (early : ℕ). hostAnswer (callWith early (two q) (λ s r x. output) output []))
-    (none-early q empty hostLimit number (slotsIn output) (workSlots (cells q) (q .dimension)) z)
+    (none-early q empty hostLimit many (slotsIn output) (workSlots (cells q) (q .dimension)) z)
   where
-    none : number * cellCount q ≡ 0 * cellCount q
-    none = rw empty (mul-zero number)
+    none : many * cellCount q ≡ 0 * cellCount q
+    none = rw empty (mul-zero many)
 
     z : List ℤ
     z = chainFrom (0 * cellCount q) chains
 
-pub nonempty-host-lists : (q : Question) (number : ℕ) (chains output : List ℕ)
-    → hostCall q (listsIn q number chains) output ≡ hostCall q (listsIn q (nonempty number (cellCount q)) chains) output
-nonempty-host-lists q number chains output = go (cellCount q) refl
+pub nonempty-host-lists : (q : Question) (many : ℕ) (chains output : List ℕ)
+    → hostCall q (listsIn q many chains) output ≡ hostCall q (listsIn q (nonempty many (cellCount q)) chains) output
+nonempty-host-lists q many chains output = go (cellCount q) refl
   where
-    go : (n : ℕ) → cellCount q ≡ n → hostCall q (listsIn q number chains) output ≡ hostCall q (listsIn q (nonempty number n) chains) output
-    go zero e = host-no-cells q e number chains output
+    go : (n : ℕ) → cellCount q ≡ n → hostCall q (listsIn q many chains) output ≡ hostCall q (listsIn q (nonempty many n) chains) output
+    go zero e = host-no-cells q e many chains output
     go (suc n) e = refl

@@ -12,7 +12,7 @@ use native.Mathlib.Omega.{arith}
 use lib.ListN.{length, drop}
 use Rattle.complexes.specs.Complex.{Sections}
 use Rattle.sheet_format.specs.Layout.{layout}
-use Rattle.trials.specs.Trial.{first}
+use Rattle.trials.specs.Trial.{firstRefusal}
 use Rattle.closures.specs.Closure.{elementTop, member}
 use Rattle.closures.specs.Form.{IsClosure}
 use Rattle.mesh_format.specs.Mesh.{Mesh}
@@ -60,7 +60,7 @@ mesh-cells m r = closure-is elementTop (nodeLists (m .elements)) (right-few (λ 
 
 module _ (limit : ℕ) (text sheet : List ℕ) where
   abbrev number : ℕ
-  number = first (meshChecks limit (length sheet) (meshOf text))
+  number = firstRefusal (meshChecks limit (length sheet) (meshOf text))
 
   number-is : numberTold (importCall limit text sheet .answer) ≡ number
   unfolding importCall

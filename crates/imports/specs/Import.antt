@@ -7,7 +7,7 @@ use lib.ListN.{length, drop}
 use Rattle.lists.specs.Same.{every}
 use Rattle.complexes.specs.Complex.{Sections, count}
 use Rattle.sheet_format.specs.Layout.{layout}
-use Rattle.trials.specs.Trial.{first, Answer, done, refused}
+use Rattle.trials.specs.Trial.{firstRefusal, Answer, done, refused}
 use Rattle.sheet_format.specs.Check.{some}
 use Rattle.closures.specs.Closure.{elementTop, cellWith, closure, member, repeats}
 use Rattle.mesh_format.specs.Mesh.{Element, Mesh}
@@ -79,4 +79,4 @@ answerWith (suc n) bytes sheet = record { answer = refused (suc n); output = she
 -- the import call at a count limit, on a text and a slice for the sheet
 unfoldable pub importCall : ℕ → List ℕ → List ℕ → ImportCalled
 importCall limit text sheet =
-    answerWith (first (meshChecks limit (length sheet) (meshOf text))) (layout (complexOf (meshIn (meshOf text) .elements))) sheet
+    answerWith (firstRefusal (meshChecks limit (length sheet) (meshOf text))) (layout (complexOf (meshIn (meshOf text) .elements))) sheet

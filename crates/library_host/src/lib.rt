@@ -88,12 +88,12 @@ pub extern "C" fn fildwuk_library_coordinates(
     number_told(calls::coordinates::coordinates(sheet, dimension, chain, coordinates, work))
 }
 
-// The coordinate lists of `number` chains.
+// The coordinate lists of `many` chains.
 #[no_mangle]
 pub extern "C" fn fildwuk_library_coordinate_lists(
     sheet: &[u8],
     dimension: u32,
-    number: usize,
+    many: usize,
     chains: &[i32],
     coordinates: &mut [i64],
     work: &mut [i32],
@@ -102,14 +102,14 @@ pub extern "C" fn fildwuk_library_coordinate_lists(
         let left = now (coordinates .exit) in
         let work-left = now (work .exit) in ⌜
         LibraryAnswers
-        (call libraryLimit (asked (now (sheet .entry)) dimension) (requests.lists number (now (chains .entry))) (now (coordinates .entry)) (now (work .entry)))
+        (call libraryLimit (asked (now (sheet .entry)) dimension) (requests.lists many (now (chains .entry))) (now (coordinates .entry)) (now (work .entry)))
         r left work-left
         ⌝ }
 {
     number_told(calls::coordinates::coordinate_lists(
         sheet,
         dimension,
-        number,
+        many,
         chains,
         coordinates,
         work,

@@ -18,13 +18,13 @@ use Rattle.lists.specs.Splice.{splice, splices}
 use Rattle.lists.specs.SpliceLaws.{splice-nil, splice-zero, length-splice, getD-splice, getD-splice-before, getD-splice-past}
 
 module _ {ℓ} {A : Type ℓ} where
-  pub splices-same : (apart : ℕ) (xs ys : ℕ → List A) (number : ℕ) (l : List A) → ((i : ℕ) → i < number → xs i ≡ ys i) → splices apart xs number l ≡ splices apart ys number l
+  pub splices-same : (apart : ℕ) (xs ys : ℕ → List A) (many : ℕ) (l : List A) → ((i : ℕ) → i < many → xs i ≡ ys i) → splices apart xs many l ≡ splices apart ys many l
   unfolding splices
   splices-same apart xs ys zero l same = refl
   splices-same apart xs ys (suc m) l same =
       ap₂ (splice (m * apart)) (same m (omega arith)) (splices-same apart xs ys m l (λ i h. same i (omega arith)))
 
-  pub splices-nothing : (apart : ℕ) (xs : ℕ → List A) (number : ℕ) (l : List A) → ((i : ℕ) → i < number → xs i ≡ []) → splices apart xs number l ≡ l
+  pub splices-nothing : (apart : ℕ) (xs : ℕ → List A) (many : ℕ) (l : List A) → ((i : ℕ) → i < many → xs i ≡ []) → splices apart xs many l ≡ l
   unfolding splices
   splices-nothing apart xs zero l none = refl
   splices-nothing apart xs (suc m) l none =
@@ -32,9 +32,9 @@ module _ {ℓ} {A : Type ℓ} where
 
   module _ (apart : ℕ) (xs : ℕ → List A) (l : List A) where
     -- the first lists fit
-    pub record Fit (number : ℕ) : Type ℓ where
-      pub short : (i : ℕ) → i < number → length (xs i) ≤ apart
-      pub room : number * apart ≤ length l
+    pub record Fit (many : ℕ) : Type ℓ where
+      pub short : (i : ℕ) → i < many → length (xs i) ≤ apart
+      pub room : many * apart ≤ length l
 
     fewer : {m : ℕ} → Fit (suc m) → Fit m
     fewer {m} f = record { short = λ i h. f .short i (omega arith); room = omega (arith, f .room, suc-mul m apart) }
@@ -43,7 +43,7 @@ module _ {ℓ} {A : Type ℓ} where
     last-fits : {m : ℕ} → Fit (suc m) → m * apart + length (xs m) ≤ length l
     last-fits {m} f = omega (arith, f .room, f .short m (omega arith), suc-mul m apart)
 
-    pub length-splices : (number : ℕ) → Fit number → length (splices apart xs number l) ≡ length l
+    pub length-splices : (many : ℕ) → Fit many → length (splices apart xs many l) ≡ length l
     unfolding splices
     length-splices zero f = refl
     length-splices (suc m) f =
@@ -53,7 +53,7 @@ module _ {ℓ} {A : Type ℓ} where
     inside : {m : ℕ} → Fit (suc m) → m * apart ≤ length (splices apart xs m l)
     inside {m} f = omega (arith, length-splices m (fewer f), last-fits f)
 
-    pub splices-past : (number : ℕ) → Fit number → (k : ℕ) (d : A) → number * apart ≤ k → getD (splices apart xs number l) k d ≡ getD l k d
+    pub splices-past : (many : ℕ) → Fit many → (k : ℕ) (d : A) → many * apart ≤ k → getD (splices apart xs many l) k d ≡ getD l k d
     unfolding splices
     splices-past zero f k d h = refl
     splices-past (suc m) f k d h =
@@ -64,7 +64,7 @@ module _ {ℓ} {A : Type ℓ} where
     before : (m i j : ℕ) → i < m → j < apart → i * apart + j < m * apart
     before m i j h l = omega (arith, suc-mul i apart, mul-le-mul-right apart h)
 
-    pub splices-in : (number : ℕ) → Fit number → (i j : ℕ) (d : A) → i < number → j < length (xs i) → getD (splices apart xs number l) (i * apart + j) d ≡ getD (xs i) j d
+    pub splices-in : (many : ℕ) → Fit many → (i j : ℕ) (d : A) → i < many → j < length (xs i) → getD (splices apart xs many l) (i * apart + j) d ≡ getD (xs i) j d
     unfolding splices
     splices-in zero f i j d h k = absurd (omega arith)
     splices-in (suc m) f i j d h k = go (decLt i m) (λ e. splices-in m (fewer f) i j d e k)
@@ -79,8 +79,8 @@ module _ {ℓ} {A : Type ℓ} where
             ∙ earlier e
         go (no e) earlier = last (omega arith)
 
-    pub splices-between : (number : ℕ) → Fit number → (i j : ℕ) (d : A) → i < number → length (xs i) ≤ j → j < apart
-        → getD (splices apart xs number l) (i * apart + j) d ≡ getD l (i * apart + j) d
+    pub splices-between : (many : ℕ) → Fit many → (i j : ℕ) (d : A) → i < many → length (xs i) ≤ j → j < apart
+        → getD (splices apart xs many l) (i * apart + j) d ≡ getD l (i * apart + j) d
     unfolding splices
     splices-between zero f i j d h k a = absurd (omega arith)
     splices-between (suc m) f i j d h k a = go (decLt i m) (λ e. splices-between m (fewer f) i j d e k a)
@@ -126,7 +126,7 @@ module _ {A : Type 0} (P : A → Type 0) (blank : A) (past : P blank) where
   each-splice at xs l h g =
       each-append (take at l) (xs ++ drop (at + length xs) l) (each-take at l g) (each-append xs (drop (at + length xs) l) h (each-drop (at + length xs) l g))
 
-  pub splices-each : (apart : ℕ) (xs : ℕ → List A) (number : ℕ) (l : List A) → ((i : ℕ) → Each (xs i)) → Each l → Each (splices apart xs number l)
+  pub splices-each : (apart : ℕ) (xs : ℕ → List A) (many : ℕ) (l : List A) → ((i : ℕ) → Each (xs i)) → Each l → Each (splices apart xs many l)
   unfolding splices
   splices-each apart xs zero l h g = g
   splices-each apart xs (suc i) l h g = each-splice (i * apart) (xs i) (splices apart xs i l) (h i) (splices-each apart xs i l h g)

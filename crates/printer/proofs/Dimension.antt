@@ -14,7 +14,7 @@ use Rattle.refusal.specs.declared.Refusal.{Refusal}
 use Rattle.refusal.specs.Number.{numberOf}
 use Rattle.lists.specs.Splice.{splices}
 use Rattle.lists.proofs.SplicesLaws.{splices-single}
-use Rattle.trials.specs.Trial.{first, Called}
+use Rattle.trials.specs.Trial.{firstRefusal, Called}
 use Rattle.reduction_steps.specs.State.{State}
 use Rattle.reports.specs.Report as reports
 use Rattle.reports.specs.Report.{kind, reported, torsionCount, reportList}
@@ -94,7 +94,7 @@ module _ (limit : ℕ) (host : limit ≡ hostLimit) (b : List ℕ) (accepted : r
     left =
         ap (λ (c : Called reports.Counts ℤ). c .output)
         (sym (at-host a)
-        ∙ with-done (first (earlyChecks hostLimit q requests.report (length report) (length work))) (two q)
+        ∙ with-done (firstRefusal (earlyChecks hostLimit q requests.report (length report) (length work))) (two q)
         (λ s r y. splices (listSlots q requests.report) (numbersOf q requests.report s r y) 1 report) report work
         (accepted-passes q accepted dimension report work size space) (k .rows) (k .rank) (k .state) (k .reductions-are))
         ∙ splices-single (listSlots q requests.report) (numbersOf q requests.report (k .rows) (k .rank) (k .state)) report

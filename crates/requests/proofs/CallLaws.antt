@@ -11,7 +11,7 @@ use native.Mathlib.Nat.{suc-ne-zero}
 use native.Mathlib.Omega.{arith}
 use lib.IntN.{ℤ}
 use Rattle.limits.specs.Limits.{coefficientLimit}
-use Rattle.trials.specs.Trial.{first, Called, done, refused, numberTold, cleared, concluded}
+use Rattle.trials.specs.Trial.{firstRefusal, Called, done, refused, numberTold, cleared, concluded}
 use Rattle.trials.proofs.FirstLaws.{absent, absent-append, first-absent}
 use Rattle.reduction_steps.specs.State.{State}
 use Rattle.reports.specs.Reductions.{Reductions, tooWide, reduced}
@@ -58,8 +58,8 @@ module _ {B : Type 0} (early : ℕ) (R : Reductions) (left : ℕ → ℕ → Sta
 
 -- the first of the early checks of a request
 module _ (limit : ℕ) (q : Question) (request : Request) (output work : ℕ) where
-  pub early-iff : (first (earlyChecks limit q request output work) ≡ 0)
-      ↔ (Passed limit q (listCount request * listSlots q request) (workSlots (cells q) (q .dimension)) output work × (first (requestChecks q request) ≡ 0))
+  pub early-iff : (firstRefusal (earlyChecks limit q request output work) ≡ 0)
+      ↔ (Passed limit q (listCount request * listSlots q request) (workSlots (cells q) (q .dimension)) output work × (firstRefusal (requestChecks q request) ≡ 0))
   unfolding earlyChecks
   early-iff = (
     λ e. let both = call-later-zero limit q slots space output work (requestChecks q request) .0 e in
@@ -78,9 +78,9 @@ request-narrow : (q : Question) (request : Request) → absent 13 (requestChecks
 unfolding chainChecks
 request-narrow q report = refl
 request-narrow q (coordinates z) = refl
-request-narrow q (lists number chains) = chains-narrow coefficientLimit (cells q) (q .dimension) chains number
+request-narrow q (lists many chains) = chains-narrow coefficientLimit (cells q) (q .dimension) chains many
 
-pub early-narrow : (limit : ℕ) (q : Question) (request : Request) (output work : ℕ) → first (earlyChecks limit q request output work) ≢ 13
+pub early-narrow : (limit : ℕ) (q : Question) (request : Request) (output work : ℕ) → firstRefusal (earlyChecks limit q request output work) ≢ 13
 unfolding earlyChecks callChecks
 early-narrow limit q request output work =
     first-absent 13 (checks ++ requestChecks q request) (λ e. absurd (omega arith)) (absent-append 13 checks (requestChecks q request) refl (request-narrow q request))

@@ -22,7 +22,7 @@ use Rattle.matrices.specs.Sum.{sum}
 use Rattle.matrices.specs.Vector.{apply}
 use Rattle.complexes.specs.Complex.{Sections, count}
 use Rattle.complexes.specs.Boundary.{countBelow}
-use Rattle.trials.specs.Trial.{first}
+use Rattle.trials.specs.Trial.{firstRefusal}
 use Rattle.sheet_format.specs.Check.{some}
 use Rattle.sheet_format.specs.CheckLaws.{some-false}
 use Rattle.trials.proofs.FirstLaws.{absent, absent-append, orElse, first-zero, first-append}
@@ -47,12 +47,12 @@ coefficients-iff limit z = (forward, backward)
 
 -- ---- many chains
 
-module _ (n number : ℕ) (chains : List ℤ) (size : length chains ≡ number * n) where
+module _ (n many : ℕ) (chains : List ℤ) (size : length chains ≡ many * n) where
   -- chain i stands in the slice
-  pub chain-inside : (i : ℕ) → i < number → i * n + n ≤ length chains
+  pub chain-inside : (i : ℕ) → i < many → i * n + n ≤ length chains
   chain-inside i l = omega (arith, size, suc-mul i n, mul-le-mul-right n l)
 
-  pub length-chainAt : (i : ℕ) → i < number → length (chainAt n chains i) ≡ n
+  pub length-chainAt : (i : ℕ) → i < many → length (chainAt n chains i) ≡ n
   length-chainAt i l = length-take-le n (drop (i * n) chains) (omega (arith, length-drop (i * n) chains, chain-inside i l))
 
 -- the part of the slice that a loop lends for it
@@ -73,26 +73,26 @@ passed-next {fault} i before now k l = go (decLt k i)
 module _ (limit : ℕ) (K : Sections) (p : ℕ) (chains : List ℤ) where
   -- the first of 11 and 12 that chain i is at fault with
   abbrev pub fault : ℕ → ℕ
-  fault i = first (cycleChecks limit K p (chainAt (count K p) chains i))
+  fault i = firstRefusal (cycleChecks limit K p (chainAt (count K p) chains i))
 
-  cycles-absent : (k : ℕ) → absent k ((11, false) ∷ (12, false) ∷ []) ≡ true → (number : ℕ) → absent k (cyclesChecks limit K p number chains) ≡ true
+  cycles-absent : (k : ℕ) → absent k ((11, false) ∷ (12, false) ∷ []) ≡ true → (many : ℕ) → absent k (cyclesChecks limit K p many chains) ≡ true
   unfolding cyclesChecks
   cycles-absent k none zero = refl
   cycles-absent k none (suc i) =
       absent-append k (cyclesChecks limit K p i chains) (cycleChecks limit K p (chainAt (count K p) chains i)) (cycles-absent k none i) none
 
   -- one chain more
-  cycles-next : (i : ℕ) → first (cyclesChecks limit K p (suc i) chains) ≡ orElse (first (cyclesChecks limit K p i chains)) (fault i)
+  cycles-next : (i : ℕ) → firstRefusal (cyclesChecks limit K p (suc i) chains) ≡ orElse (firstRefusal (cyclesChecks limit K p i chains)) (fault i)
   unfolding cyclesChecks
   cycles-next i = first-append (cyclesChecks limit K p i chains) (cycleChecks limit K p (chainAt (count K p) chains i)) (cycles-absent 0 refl i)
 
-  pub cycles-passed : (number : ℕ) → ((i : ℕ) → i < number → fault i ≡ 0) → first (cyclesChecks limit K p number chains) ≡ 0
+  pub cycles-passed : (many : ℕ) → ((i : ℕ) → i < many → fault i ≡ 0) → firstRefusal (cyclesChecks limit K p many chains) ≡ 0
   unfolding cyclesChecks
   cycles-passed zero h = refl
   cycles-passed (suc m) h = cycles-next m ∙ rw (cycles-passed m (λ i l. h i (omega arith)), h m (omega arith))
 
   -- the number of the first faulty chain is told
-  pub cycles-decided : (number k : ℕ) → k ≢ 0 → FirstFault fault number k → first (cyclesChecks limit K p number chains) ≡ k
+  pub cycles-decided : (many k : ℕ) → k ≢ 0 → FirstFault fault many k → firstRefusal (cyclesChecks limit K p many chains) ≡ k
   cycles-decided zero k d f = absurd (omega (arith, f .within))
   cycles-decided (suc m) k d f = cycles-next m ∙ go (decLt (f .place) m) (cycles-decided m k d)
     where
@@ -100,18 +100,18 @@ module _ (limit : ℕ) (K : Sections) (p : ℕ) (chains : List ℤ) where
       now zero e = absurd (d (sym e))
       now (suc n) e = e
 
-      go : Dec (f .place < m) → (FirstFault fault m k → first (cyclesChecks limit K p m chains) ≡ k) → orElse (first (cyclesChecks limit K p m chains)) (fault m) ≡ k
-      go (yes l) before = now (first (cyclesChecks limit K p m chains)) (before (record { place = f .place; within = l; told = f .told; earlier = f .earlier }))
+      go : Dec (f .place < m) → (FirstFault fault m k → firstRefusal (cyclesChecks limit K p m chains) ≡ k) → orElse (firstRefusal (cyclesChecks limit K p m chains)) (fault m) ≡ k
+      go (yes l) before = now (firstRefusal (cyclesChecks limit K p m chains)) (before (record { place = f .place; within = l; told = f .told; earlier = f .earlier }))
       go (no l) before =
           let last : f .place ≡ m = omega (arith, f .within) in
           rw (cycles-passed m (λ i h. f .earlier i (omega arith))) (ap fault (sym last) ∙ f .told)
 
   -- the first faulty chain, or none
-  data Found (number : ℕ) : Type 0 where
-    none : ((i : ℕ) → i < number → fault i ≡ 0) → Found number
-    found : (k : ℕ) → k ≢ 0 → FirstFault fault number k → Found number
+  data Found (many : ℕ) : Type 0 where
+    none : ((i : ℕ) → i < many → fault i ≡ 0) → Found many
+    found : (k : ℕ) → k ≢ 0 → FirstFault fault many k → Found many
 
-  find : (number : ℕ) → Found number
+  find : (many : ℕ) → Found many
   find zero = none (λ i l. absurd (omega arith))
   find (suc m) = go (find m) (fault m) refl
     where
@@ -124,19 +124,19 @@ module _ (limit : ℕ) (K : Sections) (p : ℕ) (chains : List ℤ) where
           at i (no l) q = let last : i ≡ m = omega arith in ap fault last ∙ e
       go (none h) (suc k) e = found (suc k) (λ z. absurd (omega arith)) (record { place = m; within = omega arith; told = e; earlier = h })
 
-  pub cycles-zero : (number : ℕ) → (first (cyclesChecks limit K p number chains) ≡ 0) ↔ ((i : ℕ) → i < number → fault i ≡ 0)
-  cycles-zero number = (go (find number), cycles-passed number)
+  pub cycles-zero : (many : ℕ) → (firstRefusal (cyclesChecks limit K p many chains) ≡ 0) ↔ ((i : ℕ) → i < many → fault i ≡ 0)
+  cycles-zero many = (go (find many), cycles-passed many)
     where
-      go : Found number → first (cyclesChecks limit K p number chains) ≡ 0 → (i : ℕ) → i < number → fault i ≡ 0
+      go : Found many → firstRefusal (cyclesChecks limit K p many chains) ≡ 0 → (i : ℕ) → i < many → fault i ≡ 0
       go (none h) e = h
-      go (found k d f) e = absurd (d (sym (cycles-decided number k d f) ∙ e))
+      go (found k d f) e = absurd (d (sym (cycles-decided many k d f) ∙ e))
 
-  pub cycles-told : (number k : ℕ) → k ≢ 0 → (first (cyclesChecks limit K p number chains) ≡ k) ↔ FirstFault fault number k
-  cycles-told number k d = (go (find number), cycles-decided number k d)
+  pub cycles-told : (many k : ℕ) → k ≢ 0 → (firstRefusal (cyclesChecks limit K p many chains) ≡ k) ↔ FirstFault fault many k
+  cycles-told many k d = (go (find many), cycles-decided many k d)
     where
-      go : Found number → first (cyclesChecks limit K p number chains) ≡ k → FirstFault fault number k
-      go (none h) e = absurd (d (sym e ∙ cycles-passed number h))
-      go (found j q f) e = rw (sym (cycles-decided number j q f) ∙ e) at f
+      go : Found many → firstRefusal (cyclesChecks limit K p many chains) ≡ k → FirstFault fault many k
+      go (none h) e = absurd (d (sym e ∙ cycles-passed many h))
+      go (found j q f) e = rw (sym (cycles-decided many j q f) ∙ e) at f
 
   -- the coefficients of a chain that is not at fault
   pub fault-small : (i : ℕ) → fault i ≡ 0 → (j : ℕ) → natAbs (getD (chainAt (count K p) chains i) j (pos 0)) ≤ limit
@@ -146,28 +146,28 @@ module _ (limit : ℕ) (K : Sections) (p : ℕ) (chains : List ℤ) where
 
   -- ---- with 10 before them
 
-  pub chains-narrow : (number : ℕ) → absent 13 (chainsChecks limit K p number chains) ≡ true
+  pub chains-narrow : (many : ℕ) → absent 13 (chainsChecks limit K p many chains) ≡ true
   unfolding chainsChecks
-  chains-narrow number = cycles-absent 13 refl number
+  chains-narrow many = cycles-absent 13 refl many
 
-  pub chains-sized : (number : ℕ) → length chains ≡ number * count K p → first (chainsChecks limit K p number chains) ≡ first (cyclesChecks limit K p number chains)
+  pub chains-sized : (many : ℕ) → length chains ≡ many * count K p → firstRefusal (chainsChecks limit K p many chains) ≡ firstRefusal (cyclesChecks limit K p many chains)
   unfolding chainsChecks
-  chains-sized number e = rw (eq-eqb (length chains) (number * count K p) e)
+  chains-sized many e = rw (eq-eqb (length chains) (many * count K p) e)
 
-  pub chains-zero : (number : ℕ)
-      → (first (chainsChecks limit K p number chains) ≡ 0) ↔ ((length chains ≡ number * count K p) × ((i : ℕ) → i < number → fault i ≡ 0))
+  pub chains-zero : (many : ℕ)
+      → (firstRefusal (chainsChecks limit K p many chains) ≡ 0) ↔ ((length chains ≡ many * count K p) × ((i : ℕ) → i < many → fault i ≡ 0))
   unfolding chainsChecks
-  chains-zero number = (forward, λ h. chains-sized number (h .0) ∙ cycles-passed number (h .1))
+  chains-zero many = (forward, λ h. chains-sized many (h .0) ∙ cycles-passed many (h .1))
     where
       size : Bool
-      size = eqb (length chains) (number * count K p)
+      size = eqb (length chains) (many * count K p)
 
-      go : (t : Bool) → size ≡ t → first ((10, not t) ∷ cyclesChecks limit K p number chains) ≡ 0
-          → (length chains ≡ number * count K p) × ((i : ℕ) → i < number → fault i ≡ 0)
-      go true e h = (eqb-true (length chains) (number * count K p) e, cycles-zero number .0 h)
+      go : (t : Bool) → size ≡ t → firstRefusal ((10, not t) ∷ cyclesChecks limit K p many chains) ≡ 0
+          → (length chains ≡ many * count K p) × ((i : ℕ) → i < many → fault i ≡ 0)
+      go true e h = (eqb-true (length chains) (many * count K p) e, cycles-zero many .0 h)
       go false e h = absurd (omega (arith, h))
 
-      forward : first (chainsChecks limit K p number chains) ≡ 0 → (length chains ≡ number * count K p) × ((i : ℕ) → i < number → fault i ≡ 0)
+      forward : firstRefusal (chainsChecks limit K p many chains) ≡ 0 → (length chains ≡ many * count K p) × ((i : ℕ) → i < many → fault i ≡ 0)
       forward h = go size refl h
 
   -- ---- no cells
@@ -177,5 +177,5 @@ module _ (limit : ℕ) (K : Sections) (p : ℕ) (chains : List ℤ) where
     unfolding coefficientExceeds boundaryNotZero apply sum some
     fault-no-cells i = rw (empty, some-false (countBelow K p) _ .1 (λ j l. refl))
 
-    pub cycles-no-cells : (number : ℕ) → first (cyclesChecks limit K p number chains) ≡ 0
-    cycles-no-cells number = cycles-passed number (λ i l. fault-no-cells i)
+    pub cycles-no-cells : (many : ℕ) → firstRefusal (cyclesChecks limit K p many chains) ≡ 0
+    cycles-no-cells many = cycles-passed many (λ i l. fault-no-cells i)

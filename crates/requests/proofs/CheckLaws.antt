@@ -10,7 +10,7 @@ use mathlib.Core.List.{List, [], _∷_, _++_}
 use Prim.Native.Nat.{ℕ, _≤_}
 use borrow.Author.Tests.{ltb-false, le-ltb}
 use lib.Dec.{ltb}
-use Rattle.trials.specs.Trial.{first}
+use Rattle.trials.specs.Trial.{firstRefusal}
 use Rattle.trials.proofs.FirstLaws.{first-zero, first-append-told, first-append-passed, first-append-zero}
 use Rattle.sheet_format.specs.Layout.{top}
 use Rattle.sheet_format.specs.Check.{sheetChecks, refusal}
@@ -36,22 +36,22 @@ module _ (limit : ℕ) (q : Question) (slots space output work : ℕ) where
   abbrev checks : List (ℕ × Bool)
   checks = callChecks limit q slots space output work
 
-  pub sheet-told : refusal limit (q .sheet) ≢ 0 → first checks ≡ refusal limit (q .sheet)
+  pub sheet-told : refusal limit (q .sheet) ≢ 0 → firstRefusal checks ≡ refusal limit (q .sheet)
   unfolding callChecks refusal
   sheet-told d = first-append-told (sheetChecks limit (q .sheet)) laterChecks refl d
 
-  sheet-zero : (first checks ≡ 0) ↔ ((refusal limit (q .sheet) ≡ 0) × (first laterChecks ≡ 0))
+  sheet-zero : (firstRefusal checks ≡ 0) ↔ ((refusal limit (q .sheet) ≡ 0) × (firstRefusal laterChecks ≡ 0))
   unfolding callChecks refusal
   sheet-zero = first-append-zero (sheetChecks limit (q .sheet)) laterChecks refl
 
-  pub sheet-passed : refusal limit (q .sheet) ≡ 0 → first checks ≡ first laterChecks
+  pub sheet-passed : refusal limit (q .sheet) ≡ 0 → firstRefusal checks ≡ firstRefusal laterChecks
   unfolding callChecks refusal
   sheet-passed e = first-append-passed (sheetChecks limit (q .sheet)) laterChecks refl e
 
-  pub callChecks-zero : (first checks ≡ 0) ↔ Passed limit q slots space output work
+  pub callChecks-zero : (firstRefusal checks ≡ 0) ↔ Passed limit q slots space output work
   callChecks-zero = (forward, backward)
     where
-      forward : first checks ≡ 0 → Passed limit q slots space output work
+      forward : firstRefusal checks ≡ 0 → Passed limit q slots space output work
       forward e =
           let k = sheet-zero .0 e in
           let (dimension, (long, _)) = first-zero laterChecks refl .0 (k .1) in
@@ -63,21 +63,21 @@ module _ (limit : ℕ) (q : Question) (slots space output work : ℕ) where
             work-slots = ltb-false work space (l .1);
           }
 
-      backward : Passed limit q slots space output work → first checks ≡ 0
+      backward : Passed limit q slots space output work → firstRefusal checks ≡ 0
       backward h =
           sheet-passed (h .accepted)
           ∙ rw (le-ltb top (q .dimension) (h .dimension), le-ltb output slots (h .output-slots), le-ltb work space (h .work-slots))
 
   -- and the checks of a request after them
   module _ (later : List (ℕ × Bool)) where
-    pub call-told : first checks ≢ 0 → first (checks ++ later) ≡ first checks
+    pub call-told : firstRefusal checks ≢ 0 → firstRefusal (checks ++ later) ≡ firstRefusal checks
     unfolding callChecks
     call-told d = first-append-told checks later refl d
 
-    pub call-passed : first checks ≡ 0 → first (checks ++ later) ≡ first later
+    pub call-passed : firstRefusal checks ≡ 0 → firstRefusal (checks ++ later) ≡ firstRefusal later
     unfolding callChecks
     call-passed e = first-append-passed checks later refl e
 
-    pub call-later-zero : (first (checks ++ later) ≡ 0) ↔ ((first checks ≡ 0) × (first later ≡ 0))
+    pub call-later-zero : (firstRefusal (checks ++ later) ≡ 0) ↔ ((firstRefusal checks ≡ 0) × (firstRefusal later ≡ 0))
     unfolding callChecks
     call-later-zero = first-append-zero checks later refl

@@ -17,7 +17,7 @@ use lib.IntN.{ℤ}
 use Rattle.limits.specs.Limits.{entryLimit, coefficientLimit}
 use Rattle.lists.specs.Splice.{splices}
 use Rattle.lists.proofs.SplicesLaws.{splices-same, splices-nothing}
-use Rattle.trials.specs.Trial.{first, done, cleared}
+use Rattle.trials.specs.Trial.{firstRefusal, done, cleared}
 use Rattle.reduction_steps.specs.State.{State}
 use Rattle.reports.specs.Reductions.{Reductions, tooWide, reduced, noTransforms}
 use Rattle.reports.specs.ReductionsLaws.{reductions-done}
@@ -42,15 +42,15 @@ first-chain n z e = rw (zero-mul n) (take-all n z (omega (arith, e)))
 -- ---- one chain
 
 module _ (limit : ℕ) (q : Question) (z : List ℤ) (output work : ℕ) where
-  pub one-early : first (earlyChecks limit q (lists 1 z) output work) ≡ first (earlyChecks limit q (coordinates z) output work)
+  pub one-early : firstRefusal (earlyChecks limit q (lists 1 z) output work) ≡ firstRefusal (earlyChecks limit q (coordinates z) output work)
   unfolding earlyChecks callChecks chainsChecks cyclesChecks chainChecks
   one-early = go (eqb (length z) (cellCount q)) refl
     where
-      go : (t : Bool) → eqb (length z) (cellCount q) ≡ t → first (earlyChecks limit q (lists 1 z) output work) ≡ first (earlyChecks limit q (coordinates z) output work)
+      go : (t : Bool) → eqb (length z) (cellCount q) ≡ t → firstRefusal (earlyChecks limit q (lists 1 z) output work) ≡ firstRefusal (earlyChecks limit q (coordinates z) output work)
       go true e = rw (one-mul (cellCount q), first-chain (cellCount q) z (eqb-true (length z) (cellCount q) e))
       go false e = rw (one-mul (cellCount q), e)
 
-  pub one-numbers : first (earlyChecks limit q (lists 1 z) output work) ≡ 0 → (s r : ℕ) (x : State) (i : ℕ) → i < 1
+  pub one-numbers : firstRefusal (earlyChecks limit q (lists 1 z) output work) ≡ 0 → (s r : ℕ) (x : State) (i : ℕ) → i < 1
       → numbersOf q (lists 1 z) s r x i ≡ numbersOf q (coordinates z) s r x i
   one-numbers e s r x (suc i) l = absurd (omega arith)
   one-numbers e s r x zero l =
@@ -60,7 +60,7 @@ module _ (limit : ℕ) (q : Question) (z : List ℤ) (output work : ℕ) where
 pub one-chain : (limit : ℕ) (q : Question) (z output work : List ℤ) → call limit q (lists 1 z) output work ≡ call limit q (coordinates z) output work
 unfolding call
 one-chain limit q z output work =
-    same-with (first (earlyChecks limit q (lists 1 z) (length output) (length work))) (two q)
+    same-with (firstRefusal (earlyChecks limit q (lists 1 z) (length output) (length work))) (two q)
     (λ s r x. splices (cellCount q) (numbersOf q (lists 1 z) s r x) 1 output) (λ s r x. splices (cellCount q) (numbersOf q (coordinates z) s r x) 1 output) output work
     (λ e s r x d. splices-same (cellCount q) (numbersOf q (lists 1 z) s r x) (numbersOf q (coordinates z) s r x) 1 output (one-numbers limit q z (length output) (length work) e s r x))
     ∙ ap (λ (early : ℕ). callWith early (two q) (λ s r x. splices (cellCount q) (numbersOf q (coordinates z) s r x) 1 output) output work)
@@ -70,39 +70,39 @@ one-chain limit q z output work =
 
 module _ (q : Question) (empty : cellCount q ≡ 0) where
   -- no row of Q, and so no coordinate
-  pub none-numbers : (s r : ℕ) (x : State) → two q ≡ reduced s r x → (number : ℕ) (chains : List ℤ) (i : ℕ) → numbersOf q (lists number chains) s r x i ≡ []
+  pub none-numbers : (s r : ℕ) (x : State) → two q ≡ reduced s r x → (many : ℕ) (chains : List ℤ) (i : ℕ) → numbersOf q (lists many chains) s r x i ≡ []
   unfolding two coordinateList reported
-  none-numbers s r x e number chains i = rw rows
+  none-numbers s r x e many chains i = rw rows
     where
       rows : s ≡ 0
       rows = omega (arith, reductions-done noTransforms (rule q) entryLimit (cells q) (q .dimension) s r x e .rows, empty)
 
-  none : (number : ℕ) → number * cellCount q ≡ 0 * cellCount q
-  none number = rw empty (mul-zero number)
+  none : (many : ℕ) → many * cellCount q ≡ 0 * cellCount q
+  none many = rw empty (mul-zero many)
 
-  pub none-early : (limit number output work : ℕ) (chains : List ℤ)
-      → first (earlyChecks limit q (lists number chains) output work) ≡ first (earlyChecks limit q (lists 0 chains) output work)
+  pub none-early : (limit many output work : ℕ) (chains : List ℤ)
+      → firstRefusal (earlyChecks limit q (lists many chains) output work) ≡ firstRefusal (earlyChecks limit q (lists 0 chains) output work)
   unfolding earlyChecks callChecks chainsChecks cyclesChecks
-  none-early limit number output work chains = rw (cycles-no-cells coefficientLimit (cells q) (q .dimension) chains empty number, none number)
+  none-early limit many output work chains = rw (cycles-no-cells coefficientLimit (cells q) (q .dimension) chains empty many, none many)
 
-  pub no-cells : (limit number : ℕ) (chains output work : List ℤ) → call limit q (lists number chains) output work ≡ call limit q (lists 0 chains) output work
+  pub no-cells : (limit many : ℕ) (chains output work : List ℤ) → call limit q (lists many chains) output work ≡ call limit q (lists 0 chains) output work
   unfolding call splices
-  no-cells limit number chains output work =
-      same-with (first (earlyChecks limit q (lists number chains) (length output) (length work))) (two q)
-      (λ s r x. splices (cellCount q) (numbersOf q (lists number chains) s r x) number output) (λ s r x. output) output work
-      (λ e s r x d. splices-nothing (cellCount q) (numbersOf q (lists number chains) s r x) number output (λ i l. none-numbers s r x d number chains i))
-      ∙ ap (λ (early : ℕ). callWith early (two q) (λ s r x. output) output work) (none-early limit number (length output) (length work) chains)
+  no-cells limit many chains output work =
+      same-with (firstRefusal (earlyChecks limit q (lists many chains) (length output) (length work))) (two q)
+      (λ s r x. splices (cellCount q) (numbersOf q (lists many chains) s r x) many output) (λ s r x. output) output work
+      (λ e s r x d. splices-nothing (cellCount q) (numbersOf q (lists many chains) s r x) many output (λ i l. none-numbers s r x d many chains i))
+      ∙ ap (λ (early : ℕ). callWith early (two q) (λ s r x. output) output work) (none-early limit many (length output) (length work) chains)
 
 -- ---- any number of chains
 
-pub nonempty-size : (number n : ℕ) → nonempty number n * n ≡ number * n
-nonempty-size number zero = simp mul-zero refl
-nonempty-size number (suc n) = refl
+pub nonempty-size : (many n : ℕ) → nonempty many n * n ≡ many * n
+nonempty-size many zero = simp mul-zero refl
+nonempty-size many (suc n) = refl
 
-pub nonempty-lists : (limit : ℕ) (q : Question) (number : ℕ) (chains output work : List ℤ)
-    → call limit q (lists number chains) output work ≡ call limit q (lists (nonempty number (cellCount q)) chains) output work
-nonempty-lists limit q number chains output work = go (cellCount q) refl
+pub nonempty-lists : (limit : ℕ) (q : Question) (many : ℕ) (chains output work : List ℤ)
+    → call limit q (lists many chains) output work ≡ call limit q (lists (nonempty many (cellCount q)) chains) output work
+nonempty-lists limit q many chains output work = go (cellCount q) refl
   where
-    go : (n : ℕ) → cellCount q ≡ n → call limit q (lists number chains) output work ≡ call limit q (lists (nonempty number n) chains) output work
-    go zero e = no-cells q e limit number chains output work
+    go : (n : ℕ) → cellCount q ≡ n → call limit q (lists many chains) output work ≡ call limit q (lists (nonempty many n) chains) output work
+    go zero e = no-cells q e limit many chains output work
     go (suc n) e = refl

@@ -8,7 +8,7 @@ use lib.ListN.{length}
 use lib.IntN.{ℤ}
 use Rattle.limits.specs.Limits.{coefficientLimit}
 use Rattle.lists.specs.Splice.{splices}
-use Rattle.trials.specs.Trial.{first, Called, concluded}
+use Rattle.trials.specs.Trial.{firstRefusal, Called, concluded}
 use Rattle.complexes.specs.Complex.{Sections, count}
 use Rattle.complexes.specs.Boundary.{countBelow}
 use Rattle.sheet_format.specs.Layout.{top}
@@ -31,26 +31,26 @@ pub data Request : Type 0 where
 abbrev pub listCount : Request → ℕ
 listCount report = 1
 listCount (coordinates z) = 1
-listCount (lists number chains) = number
+listCount (lists many chains) = many
 
 module _ (q : Question) where
   -- the slots of each list; the next list starts behind them
   abbrev pub listSlots : Request → ℕ
   listSlots report = 2 + cellCount q + cellCount q * cellCount q
   listSlots (coordinates z) = cellCount q
-  listSlots (lists number chains) = cellCount q
+  listSlots (lists many chains) = cellCount q
 
   -- the checks 10 to 12
   abbrev pub requestChecks : Request → List (ℕ × Bool)
   requestChecks report = []
   requestChecks (coordinates z) = chainChecks coefficientLimit (cells q) (q .dimension) z
-  requestChecks (lists number chains) = chainsChecks coefficientLimit (cells q) (q .dimension) number chains
+  requestChecks (lists many chains) = chainsChecks coefficientLimit (cells q) (q .dimension) many chains
 
   -- list i: s is the number of rows of Q, r the rank of the second reduction and x the state that it leaves
   abbrev pub numbersOf : Request → ℕ → ℕ → State → ℕ → List ℤ
   numbersOf report s r x i = reportList (cellCount q) s r x
   numbersOf (coordinates z) s r x i = coordinateList (cellCount q) s x z
-  numbersOf (lists number chains) s r x i = coordinateList (cellCount q) s x (chainAt (cellCount q) chains i)
+  numbersOf (lists many chains) s r x i = coordinateList (cellCount q) s x (chainAt (cellCount q) chains i)
 
 -- ---- the checks, in the order of trial
 
@@ -89,10 +89,10 @@ noCounts = record { free = 0; torsion = 0; peak = 0; bits = 0 }
 
 -- a call whose first early check that applies has the number `early`, and whose reductions come to R and leave `left` in the output
 abbrev pub callWith : {B : Type 0} → ℕ → Reductions → (ℕ → ℕ → State → List B) → List B → List ℤ → Called Counts B
-callWith early R left output work = concluded early (first (lateChecks R)) (ofReduced noCounts countsOf R) (ofReduced output left R) output work
+callWith early R left output work = concluded early (firstRefusal (lateChecks R)) (ofReduced noCounts countsOf R) (ofReduced output left R) output work
 
 -- the call at a count limit, on a question, a request, an output slice and a work slice
 unfoldable pub call : ℕ → Question → Request → List ℤ → List ℤ → Called Counts ℤ
 call limit q request output work =
-    callWith (first (earlyChecks limit q request (length output) (length work))) (two q)
+    callWith (firstRefusal (earlyChecks limit q request (length output) (length work))) (two q)
     (λ s r x. splices (listSlots q request) (numbersOf q request s r x) (listCount request) output) output work

@@ -38,9 +38,9 @@ chainChecks limit K p z = (10, chainLengthDiffers K p z) ∷ cycleChecks limit K
 abbrev pub chainAt : ℕ → List ℤ → ℕ → List ℤ
 chainAt n chains i = take n (drop (i * n) chains)
 
--- 10: there are not number × n_p coefficients
+-- 10: there are not `many` × n_p coefficients
 abbrev pub chainsLengthDiffers : Sections → ℕ → ℕ → List ℤ → Bool
-chainsLengthDiffers K p number chains = not (eqb (length chains) (number * count K p))
+chainsLengthDiffers K p many chains = not (eqb (length chains) (many * count K p))
 
 -- 11 and 12, at a coefficient limit, of a number of chains from the first on, chain by chain: the first faulty chain decides, and in it 11 comes first
 unfoldable pub cyclesChecks : ℕ → Sections → ℕ → ℕ → List ℤ → List (ℕ × Bool)
@@ -49,16 +49,16 @@ cyclesChecks limit K p (suc i) chains = cyclesChecks limit K p i chains ++ cycle
 
 -- 10 to 12
 unfoldable pub chainsChecks : ℕ → Sections → ℕ → ℕ → List ℤ → List (ℕ × Bool)
-chainsChecks limit K p number chains = (10, chainsLengthDiffers K p number chains) ∷ cyclesChecks limit K p number chains
+chainsChecks limit K p many chains = (10, chainsLengthDiffers K p many chains) ∷ cyclesChecks limit K p many chains
 
 -- how many of so many chains have coefficients, of n each
 abbrev pub nonempty : ℕ → ℕ → ℕ
-nonempty number zero = 0
-nonempty number (suc n) = number
+nonempty many zero = 0
+nonempty many (suc n) = many
 
 -- `fault i` is the number told of chain i, 0 for none: k is the first of them that is not 0
-pub record FirstFault (fault : ℕ → ℕ) (number k : ℕ) : Type 0 where
+pub record FirstFault (fault : ℕ → ℕ) (many k : ℕ) : Type 0 where
   pub place : ℕ
-  pub within : place < number
+  pub within : place < many
   pub told : fault place ≡ k
   pub earlier : (i : ℕ) → i < place → fault i ≡ 0

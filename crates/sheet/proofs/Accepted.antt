@@ -8,7 +8,7 @@ use mathlib.Core.List.{List, [], _∷_}
 use Prim.Native.Nat.{ℕ, _≤_}
 use native.Mathlib.Omega.{arith}
 use Rattle.limits.specs.Limits.{libraryLimit}
-use Rattle.trials.specs.Trial.{first}
+use Rattle.trials.specs.Trial.{firstRefusal}
 use Rattle.sheet_format.specs.Check.{sheetChecks, refusal}
 use Rattle.sheet_format.specs.Sheet.{Bytes, IsSheet}
 use Rattle.sheet_format.proofs.Accept.{accepted-iff}
@@ -35,7 +35,7 @@ reads-sheet {limit} {b} {r} bytes e = record { number = e; accepted = accepted; 
 -- b is a slice of bytes, and no check before the list `left` tells a fault
 pub record Untold (limit : ℕ) (b : List ℕ) (left : List (ℕ × Bool)) : Type 0 where
   pub bytes : Bytes b
-  pub is : refusal limit b ≡ first left
+  pub is : refusal limit b ≡ firstRefusal left
 
 pub begun : {limit : ℕ} {b : List ℕ} → Bytes b → Untold limit b (sheetChecks limit b)
 unfolding refusal

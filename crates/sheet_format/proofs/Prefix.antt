@@ -14,7 +14,7 @@ use lib.ListN.{length, take, drop}
 use lib.Seq.{length-take-le, take-all, getD-take}
 use borrow.Author.Tests.{le-ltb, ne-eqb}
 use Rattle.sheet_format.specs.Layout.{top, headerLength, longest}
-use Rattle.trials.specs.Trial.{first}
+use Rattle.trials.specs.Trial.{firstRefusal}
 use Rattle.sheet_format.specs.Check.{fieldAt, countField, offsetField, startAt, countExceeds, offsetDiffers, lengthDiffers, sheetChecks, refusal}
 use Rattle.sheet_format.specs.CheckLaws.{some-ext, countExceeds-false, lengthDiffers-false, refusal-zero}
 use Rattle.sheet_format.specs.SheetLaws.{countField-in, countField-out, start-ext, start-le}
@@ -25,9 +25,9 @@ use Rattle.sheet_format.specs.SheetLaws.{countField-in, countField-out, 
 abbrev upTo4 : Bool → Bool → List (ℕ × Bool)
 upTo4 counts offsets = (2, counts) ∷ (3, offsets) ∷ (4, true) ∷ []
 
-fourth : (x y z : Bool) (later : List (ℕ × Bool)) → (x ≡ false → z ≡ true) → first ((2, x) ∷ (3, y) ∷ (4, z) ∷ later) ≡ first (upTo4 x y)
+fourth : (x y z : Bool) (later : List (ℕ × Bool)) → (x ≡ false → z ≡ true) → firstRefusal ((2, x) ∷ (3, y) ∷ (4, z) ∷ later) ≡ firstRefusal (upTo4 x y)
 fourth true y z later h = refl
-fourth false y z later h = ap (λ (t : Bool). first ((3, y) ∷ (4, t) ∷ later)) (h refl)
+fourth false y z later h = ap (λ (t : Bool). firstRefusal ((3, y) ∷ (4, t) ∷ later)) (h refl)
 
 start-longest : (limit : ℕ) (b : List ℕ) → countExceeds limit b ≡ false → startAt b (suc top) ≤ longest limit
 start-longest limit b e = start-le (countField b) limit (suc top) (λ p l. countExceeds-false limit b .0 e p (le-of-suc-le-suc l))
@@ -42,7 +42,7 @@ length-long limit b h e =
     ap not (ne-eqb (length b) (startAt b (suc top)) (λ q. omega (arith, start-longest limit b e)))
 
 pub refusal-long : (limit : ℕ) (b : List ℕ) → longest limit < length b
-    → refusal limit b ≡ first (upTo4 (countExceeds limit b) (offsetDiffers b))
+    → refusal limit b ≡ firstRefusal (upTo4 (countExceeds limit b) (offsetDiffers b))
 unfolding refusal
 refusal-long limit b h =
     rw (le-ltb (length b) headerLength (omega arith))
@@ -84,5 +84,5 @@ refusal-take limit b n h = pick (decLe (length b) n)
     pick (yes l) = ap (refusal limit) (take-all n b l)
     pick (no l) =
         refusal-long limit (take n b) (omega (arith, length-take-le n b (omega arith)))
-        ∙ ap₂ (λ x y. first (upTo4 x y)) (countExceeds-take n b (omega arith) limit) (offsetDiffers-take n b (omega arith))
+        ∙ ap₂ (λ x y. firstRefusal (upTo4 x y)) (countExceeds-take n b (omega arith) limit) (offsetDiffers-take n b (omega arith))
         ∙ sym (refusal-long limit b (omega arith))

@@ -7,7 +7,7 @@ use lib.ListN.{length, getD}
 use Rattle.lists.specs.Tabulate.{tabulate}
 use Rattle.complexes.specs.Cell.{Cell, without, rises, precedes, listed}
 use Rattle.complexes.specs.Complex.{Sections, section, count, cell}
-use Rattle.trials.specs.Trial.{first}
+use Rattle.trials.specs.Trial.{firstRefusal}
 use Rattle.sheet_format.specs.Layout.{top, headerLength, start}
 
 -- ---- what the bytes b hold
@@ -91,4 +91,4 @@ sheetChecks limit b =
 
 -- the number of the first refusal that applies to the sheet b at the count limit, 0 if it is accepted
 unfoldable pub refusal : ℕ → List ℕ → ℕ
-refusal limit b = first (sheetChecks limit b)
+refusal limit b = firstRefusal (sheetChecks limit b)

@@ -8,9 +8,9 @@ use lib.IntN.{ℤ, pos}
 use lib.ListN.{length, replicate}
 
 -- the number of the first check that tells a fault, 0 for none; a check is a number and whether it tells one
-abbrev pub first : List (ℕ × Bool) → ℕ
-first [] = 0
-first (check ∷ later) = cond (check .1) (check .0) (first later)
+abbrev pub firstRefusal : List (ℕ × Bool) → ℕ
+firstRefusal [] = 0
+firstRefusal (check ∷ later) = cond (check .1) (check .0) (firstRefusal later)
 
 -- done with what the call carries, or refused with one number
 pub data Answer (A : Type 0) : Type 0 where

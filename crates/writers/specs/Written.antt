@@ -80,7 +80,7 @@ abbrev pub coordinatesOf : Reduced → List ℤ → List ℤ → List ℤ
 coordinatesOf x w z = coordinateList (x .layout .«row_follower» .width) (x .layout .matrix .lines) (stateIn x w) z
 
 -- what the coordinates of many chains are written from
-pub record CanList (x : Reduced) (w : List ℤ) (cells number : ℕ) (chains : List ℤ) (m : ℕ) : Type 0 where
-  pub size : length chains ≡ number * cells
-  pub room : number * cells ≤ m
-  pub each : (i : ℕ) → i < number → CanCoordinate x w (chainAt cells chains i) (i * cells) m
+pub record CanList (x : Reduced) (w : List ℤ) (cells many : ℕ) (chains : List ℤ) (m : ℕ) : Type 0 where
+  pub size : length chains ≡ many * cells
+  pub room : many * cells ≤ m
+  pub each : (i : ℕ) → i < many → CanCoordinate x w (chainAt cells chains i) (i * cells) m

@@ -66,23 +66,23 @@ pub fn write_coordinates(
     next
 }
 
-// Writes the coordinate list of each of the `number` chains of `cells` coefficients, list i from slot i × cells on.
+// Writes the coordinate list of each of the `many` chains of `cells` coefficients, list i from slot i × cells on.
 pub fn write_lists(
     reduced: Reduced,
     w: &[i32],
     cells: usize,
-    number: usize,
+    many: usize,
     chains: &[i32],
     coordinates: &mut [i64],
 )
-    requires { ⌜ CanList reduced (now w) cells number (now chains) (length (now coordinates)) ⌝ }
+    requires { ⌜ CanList reduced (now w) cells many (now chains) (length (now coordinates)) ⌝ }
     ensures { λ r. ⌜
         now (coordinates .exit) ≡
-        splices cells (λ i. coordinatesOf reduced (now (w .entry)) (chainAt cells (now (chains .entry)) i)) number (now (coordinates .entry))
+        splices cells (λ i. coordinatesOf reduced (now (w .entry)) (chainAt cells (now (chains .entry)) i)) many (now (coordinates .entry))
         ⌝ }
 {
     let mut i: usize = 0;
-    while i < number {
+    while i < many {
         let at = i * cells;
         write_coordinates(reduced, w, &chains[at..at + cells], coordinates, at);
         i = i + 1;

@@ -11,7 +11,7 @@ use lib.IntN.{ℤ}
 use lib.ListN.{length}
 use Rattle.lists.specs.Splice.{splices}
 use Rattle.complexes.specs.Complex.{count}
-use Rattle.trials.specs.Trial.{first, Called}
+use Rattle.trials.specs.Trial.{firstRefusal, Called}
 use Rattle.reports.specs.Report as reports
 use Rattle.sheet_format.specs.Check.{sectionsOf}
 use Rattle.reduction_steps.proofs.PivotLaws.{pivotRule-is-rule}
@@ -44,7 +44,7 @@ lent s =
 
 -- the library's sheet has the library's limit
 admits : (c : tie.After-admit) → let a = c .before .before .before .args in
-    Admits libraryLimit (asked (now (a .s)) (a .dimension)) (Coordinates (a .number)) (length (now (a .coordinates))) (length (now (a .work))) (c .admit .result)
+    Admits libraryLimit (asked (now (a .s)) (a .dimension)) (Coordinates (a .many)) (length (now (a .coordinates))) (length (now (a .work))) (c .admit .result)
 admits c = rw (c .before .library .ensures) at (c .admit .ensures)
 
 enum-known-refusal : tie.Need-enum-known-refusal
@@ -55,8 +55,8 @@ returns c =
     let called = c .before .before .before in
     let start = called .before .before .before in
     let l = lent start in
-    lists-refuse l (start .args .number) (now (start .args .chains)) (c .before .refusal .given .0 .0)
-    (admit-refused (lengths l) (Coordinates (start .args .number)) (called .admit .result) (admits called) (c .before .refusal .given .1))
+    lists-refuse l (start .args .many) (now (start .args .chains)) (c .before .refusal .given .0 .0)
+    (admit-refused (lengths l) (Coordinates (start .args .many)) (called .admit .result) (admits called) (c .before .refusal .given .1))
 
 enum-known-n : tie.Need-enum-known-n
 enum-known-n c = c .match .keys2
@@ -68,8 +68,8 @@ module _ (c : tie.After-known-told2) where
   abbrev entered : tie.Start
   entered = called .before .before .before
 
-  abbrev number : ℕ
-  number = entered .args .number
+  abbrev many : ℕ
+  many = entered .args .many
 
   abbrev chains-of : List ℤ
   chains-of = now (entered .args .chains)
@@ -81,9 +81,9 @@ module _ (c : tie.After-known-told2) where
   abbrev cells : ℕ
   cells = count (sectionsOf (now (entered .args .s))) (entered .args .dimension)
 
-  granted : Granted (lengths (lent entered)) (Coordinates number) cell-counts
+  granted : Granted (lengths (lent entered)) (Coordinates many) cell-counts
   granted =
-      admit-granted (lengths (lent entered)) (Coordinates number) (called .admit .result) (admits called) (le-refl libraryLimit)
+      admit-granted (lengths (lent entered)) (Coordinates many) (called .admit .result) (admits called) (le-refl libraryLimit)
       (record { small = λ i. called .before .before .shared-slice-known .given i .fits }) (c .before .n .given .1)
 
   cells-are : cell-counts .cells ≡ cells
@@ -92,12 +92,12 @@ module _ (c : tie.After-known-told2) where
 -- ---- the chains
 
 mul-if1 : tie.Need-mul-if1
-mul-if1 c = omega (arith, granted c .passed .output-slots, ap (λ (n : ℕ). number c * n) (cells-are c), entered c .good)
+mul-if1 c = omega (arith, granted c .passed .output-slots, ap (λ (n : ℕ). many c * n) (cells-are c), entered c .good)
 
 returns-2 : tie.Need-returns-2
 returns-2 c =
     let k = c .before in
-    length-refuses (lent (entered k)) (number k) (chains-of k) (granted k) (λ e. c .if1 .taken (e ∙ ap (λ (n : ℕ). number k * n) (sym (cells-are k))))
+    length-refuses (lent (entered k)) (many k) (chains-of k) (granted k) (λ e. c .if1 .taken (e ∙ ap (λ (n : ℕ). many k * n) (sym (cells-are k))))
 
 module _ (c : tie.After-nonempty) where
   abbrev known : tie.After-known-told2
@@ -107,29 +107,29 @@ module _ (c : tie.After-nonempty) where
   abbrev lists : ℕ
   lists = c .nonempty .result
 
-  lists-are : lists ≡ nonempty (number known) (cells known)
-  lists-are = c .nonempty .ensures ∙ ap (nonempty (number known)) (cells-are known)
+  lists-are : lists ≡ nonempty (many known) (cells known)
+  lists-are = c .nonempty .ensures ∙ ap (nonempty (many known)) (cells-are known)
 
-  same-slots : lists * cells known ≡ number known * cells known
-  same-slots = ap (λ (n : ℕ). n * cells known) lists-are ∙ nonempty-size (number known) (cells known)
+  same-slots : lists * cells known ≡ many known * cells known
+  same-slots = ap (λ (n : ℕ). n * cells known) lists-are ∙ nonempty-size (many known) (cells known)
 
   size : length (chains-of known) ≡ lists * cells known
-  size = c .before .if1 .left ∙ ap (λ (n : ℕ). number known * n) (cells-are known) ∙ sym same-slots
+  size = c .before .if1 .left ∙ ap (λ (n : ℕ). many known * n) (cells-are known) ∙ sym same-slots
 
   regranted : Granted (lengths (lent (entered known))) (Coordinates lists) (cell-counts known)
   regranted = regrant (lengths (lent (entered known))) same-slots (granted known)
 
   -- the call on them is the call on all
   on-lists : {r : Answer} {left work-left : List ℤ} → CallAnswers (listsCalled (lent (entered known)) lists (chains-of known)) r left work-left
-      → CallAnswers (listsCalled (lent (entered known)) (number known) (chains-of known)) r left work-left
+      → CallAnswers (listsCalled (lent (entered known)) (many known) (chains-of known)) r left work-left
   unfolding question.cells
   on-lists {r} {left} {work-left} h = subst (λ (x : Called reports.Counts ℤ). CallAnswers x r left work-left) (sym same) h
     where
       l : Lent
       l = lent (entered known)
 
-      same : listsCalled l (number known) (chains-of known) ≡ listsCalled l lists (chains-of known)
-      same = nonempty-lists libraryLimit (l .question) (number known) (chains-of known) (l .output) (l .work) ∙ ap (λ (n : ℕ). listsCalled l n (chains-of known)) (sym lists-are)
+      same : listsCalled l (many known) (chains-of known) ≡ listsCalled l lists (chains-of known)
+      same = nonempty-lists libraryLimit (l .question) (many known) (chains-of known) (l .output) (l .work) ∙ ap (λ (n : ℕ). listsCalled l n (chains-of known)) (sym lists-are)
 
 check-chains-requires : tie.Need-check-chains-requires
 check-chains-requires c κs =
@@ -158,7 +158,7 @@ module _ (c : tie.After-enum-told) where
   abbrev given : Lent
   given = lent (entered (known counted))
 
-  passed : first (cyclesChecks coefficientLimit (sectionsOf (given .question .sheet)) (given .question .dimension) (lists counted) (chains-of (known counted))) ≡ 0
+  passed : firstRefusal (cyclesChecks coefficientLimit (sectionsOf (given .question .sheet)) (given .question .dimension) (lists counted) (chains-of (known counted))) ≡ 0
   passed = c .before .before .check-chains .ensures ∙ ap checkNumber (c .enum-told .given .1)
 
 reduce-twice-requires : tie.Need-reduce-twice-requires

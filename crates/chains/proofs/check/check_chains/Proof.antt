@@ -6,7 +6,7 @@ use native.Mathlib.Omega.{arith}
 use denote.Ref.{now}
 use lib.ListN.{length}
 use lib.IntN.{ℤ}
-use Rattle.trials.specs.Trial.{first}
+use Rattle.trials.specs.Trial.{firstRefusal}
 use Rattle.refusal.specs.Number.{numberOf}
 use Rattle.refusal.specs.NumberLaws.{number-positive}
 use Rattle.sheet_format.specs.Check.{sectionsOf}
@@ -18,10 +18,10 @@ use Rattle.chains.proofs.check.check_chains.Statement.{statement}
 use Rattle.chains.proofs.check.check_chains.Tie as tie
 
 abbrev Inv-loop : tie.InvT-loop
-Inv-loop s p cells number chains i₀ i = (i ≤ number) × ((k : ℕ) → k < i → fault coefficientLimit (sectionsOf s) p chains k ≡ 0)
+Inv-loop s p cells many chains i₀ i = (i ≤ many) × ((k : ℕ) → k < i → fault coefficientLimit (sectionsOf s) p chains k ≡ 0)
 
 abbrev μ-loop : tie.MeasureT-loop
-μ-loop s p cells number chains i₀ i = number - i
+μ-loop s p cells many chains i₀ i = many - i
 
 loop-holds : tie.Need-loop-holds Inv-loop μ-loop
 loop-holds c = (omega arith, λ k l. absurd (omega arith))
@@ -30,7 +30,7 @@ loop-holds c = (omega arith, λ k l. absurd (omega arith))
 inside : (c : tie.In-loop Inv-loop μ-loop) → let a = c .before .before .before .args in c .before .loop .i * a .cells + a .cells ≤ length (now (a .chains))
 inside c =
     let a = c .before .before .before .args in
-    chain-inside (a .cells) (a .number) (now (a .chains)) (c .before .before .before .pre .1 .2) (c .before .loop .i) (c .loop-test .taken)
+    chain-inside (a .cells) (a .many) (now (a .chains)) (c .before .before .before .pre .1 .2) (c .before .loop .i) (c .loop-test .taken)
 
 mul-at : tie.Need-mul-at Inv-loop μ-loop
 mul-at c = omega (arith, inside c, c .before .before .before .good)
@@ -58,7 +58,7 @@ check-chain-requires c κs =
       start .pre .0,
       (
         start .pre .1 .0,
-        ap length (chain-part (a .cells) i (now (a .chains))) ∙ length-chainAt (a .cells) (a .number) (now (a .chains)) (start .pre .1 .2) i (c .before .loop-test .taken) ∙ start .pre .1 .1,
+        ap length (chain-part (a .cells) i (now (a .chains))) ∙ length-chainAt (a .cells) (a .many) (now (a .chains)) (start .pre .1 .2) i (c .before .loop-test .taken) ∙ start .pre .1 .1,
       ),
     )
 
@@ -69,7 +69,7 @@ told c =
     let start = c .before .before .before .before .before in
     let a = start .args in
     let i = c .before .before .before .loop .i in
-    ap (λ (z : List ℤ). first (cycleChecks coefficientLimit (sectionsOf (now (a .s))) (a .p) z))
+    ap (λ (z : List ℤ). firstRefusal (cycleChecks coefficientLimit (sectionsOf (now (a .s))) (a .p) z))
     (ap (λ (n : ℕ). chainAt n (now (a .chains)) i) (sym (start .pre .1 .1)) ∙ sym (chain-part (a .cells) i (now (a .chains))))
     ∙ c .check-chain .ensures
 
@@ -81,7 +81,7 @@ returns c =
     let called = c .before .before .before in
     let a = called .before .before .before .before .before .args in
     let x = c .before .refusal .given in
-    cycles-told coefficientLimit (sectionsOf (now (a .s))) (a .p) (now (a .chains)) (a .number) (numberOf (x .0 .0)) (λ e. absurd (omega (arith, number-positive (x .0 .0)))) .1
+    cycles-told coefficientLimit (sectionsOf (now (a .s))) (a .p) (now (a .chains)) (a .many) (numberOf (x .0 .0)) (λ e. absurd (omega (arith, number-positive (x .0 .0)))) .1
     (record {
       place = called .before .before .before .loop .i;
       within = called .before .before .loop-test .taken;
@@ -103,7 +103,7 @@ loop-again c =
 returns-2 : tie.Need-returns-2 Inv-loop μ-loop
 returns-2 c =
     let a = c .before .before .before .args in
-    cycles-zero coefficientLimit (sectionsOf (now (a .s))) (a .p) (now (a .chains)) (a .number) .1 (λ k l. c .before .loop .inv .1 k (omega (arith, c .loop-test .left)))
+    cycles-zero coefficientLimit (sectionsOf (now (a .s))) (a .p) (now (a .chains)) (a .many) .1 (λ k l. c .before .loop .inv .1 k (omega (arith, c .loop-test .left)))
 
 pub check-chains-spec : {M : Type 1} → statement M
 check-chains-spec =

@@ -7,9 +7,9 @@ use Rattle.requests.specs.Chains.{nonempty}
 use Rattle.chains.proofs.check.nonempty.Statement.{statement}
 use Rattle.chains.proofs.check.nonempty.Tie as tie
 
-some-cells : (number cells : ℕ) → cells ≢ 0 → number ≡ nonempty number cells
-some-cells number zero d = absurd (d refl)
-some-cells number (suc n) d = refl
+some-cells : (many cells : ℕ) → cells ≢ 0 → many ≡ nonempty many cells
+some-cells many zero d = absurd (d refl)
+some-cells many (suc n) d = refl
 
 pub nonempty-spec : {M : Type 1} → statement M
-nonempty-spec = tie.close (tie.spec (λ c. search needs) (λ c. some-cells (c .before .args .number) (c .before .args .cells) (c .if1 .left)))
+nonempty-spec = tie.close (tie.spec (λ c. search needs) (λ c. some-cells (c .before .args .many) (c .before .args .cells) (c .if1 .left)))

@@ -6,7 +6,7 @@ use native.Mathlib.Omega.{arith}
 use denote.Ref.{now}
 use lib.ListN.{length, take}
 use lib.IntN.{ℤ}
-use Rattle.trials.specs.Trial.{first}
+use Rattle.trials.specs.Trial.{firstRefusal}
 use Rattle.refusal.specs.Number.{numberOf}
 use Rattle.refusal.specs.NumberLaws.{number-positive}
 use Rattle.sheet_format.specs.Check.{sectionsOf}
@@ -21,11 +21,11 @@ use Rattle.fildwuk.proofs.coordinate_lists.check_bytes.Statement.{state
 use Rattle.fildwuk.proofs.coordinate_lists.check_bytes.Tie as tie
 
 abbrev Inv-loop : tie.InvT-loop
-Inv-loop s p cells number chains coefficients₀ i₀ coefficients i =
-    (i ≤ number) × ((k : ℕ) → k < i → fault coefficientLimit (sectionsOf s) p (chainFrom (number * cells) chains) k ≡ 0) × (length coefficients ≡ hostLimit)
+Inv-loop s p cells many chains coefficients₀ i₀ coefficients i =
+    (i ≤ many) × ((k : ℕ) → k < i → fault coefficientLimit (sectionsOf s) p (chainFrom (many * cells) chains) k ≡ 0) × (length coefficients ≡ hostLimit)
 
 abbrev μ-loop : tie.MeasureT-loop
-μ-loop s p cells number chains coefficients₀ i₀ coefficients i = number - i
+μ-loop s p cells many chains coefficients₀ i₀ coefficients i = many - i
 
 loop-holds : tie.Need-loop-holds Inv-loop μ-loop
 loop-holds c = (omega arith, (λ k l. absurd (omega arith)), refl)
@@ -35,7 +35,7 @@ loop-holds c = (omega arith, (λ k l. absurd (omega arith)), refl)
 stands : (c : tie.In-loop Inv-loop μ-loop) → let a = c .before .before .before .before .args in 4 * (c .before .loop .i * a .cells + a .cells) ≤ length (now (a .chains))
 stands c =
     let start = c .before .before .before .before in
-    chain-stands (start .args .cells) (start .args .number) (now (start .args .chains)) (start .pre .1 .3) (c .before .loop .i) (c .loop-test .taken)
+    chain-stands (start .args .cells) (start .args .many) (now (start .args .chains)) (start .pre .1 .3) (c .before .loop .i) (c .loop-test .taken)
 
 mul-read-chain : tie.Need-mul-read-chain Inv-loop μ-loop
 mul-read-chain c = omega (arith, stands c, c .before .before .before .before .good)
@@ -53,8 +53,8 @@ module _ (c : tie.After-read-chain Inv-loop μ-loop) where
   abbrev cells : ℕ
   cells = start .args .cells
 
-  abbrev number : ℕ
-  number = start .args .number
+  abbrev many : ℕ
+  many = start .args .many
 
   abbrev bytes : List ℕ
   bytes = now (start .args .chains)
@@ -62,11 +62,11 @@ module _ (c : tie.After-read-chain Inv-loop μ-loop) where
   abbrev i : ℕ
   i = c .before .before .before .loop .i
 
-  read-is : take cells (c .read-chain .last .1 .1 .1 .0) ≡ chainOf cells number bytes i
-  read-is = chain-read cells number bytes (start .pre .1 .3) i (c .before .before .loop-test .taken) (c .read-chain .last .1 .1 .1 .0) (c .read-chain .ensures)
+  read-is : take cells (c .read-chain .last .1 .1 .1 .0) ≡ chainOf cells many bytes i
+  read-is = chain-read cells many bytes (start .pre .1 .3) i (c .before .before .loop-test .taken) (c .read-chain .last .1 .1 .1 .0) (c .read-chain .ensures)
 
   read-length : length (take cells (c .read-chain .last .1 .1 .1 .0)) ≡ cells
-  read-length = ap length read-is ∙ chain-length cells number bytes (start .pre .1 .3) i (c .before .before .loop-test .taken)
+  read-length = ap length read-is ∙ chain-length cells many bytes (start .pre .1 .3) i (c .before .before .loop-test .taken)
 
   kept-length : length (c .read-chain .last .1 .1 .1 .0) ≡ hostLimit
   kept-length = c .read-chain .kept .1 .1 .1 .0 ∙ c .before .before .before .loop .inv .2
@@ -89,12 +89,12 @@ module _ (c : tie.After-check-chain Inv-loop μ-loop) where
   reads = c .before .before .before
 
   -- the number that is told of it
-  told : fault coefficientLimit (sectionsOf (now (start reads .args .s))) (start reads .args .p) (chainFrom (number reads * cells reads) (bytes reads)) (i reads)
+  told : fault coefficientLimit (sectionsOf (now (start reads .args .s))) (start reads .args .p) (chainFrom (many reads * cells reads) (bytes reads)) (i reads)
       ≡ checkNumber (c .check-chain .result)
   told =
       let a = start reads .args in
-      ap (λ (z : List ℤ). first (cycleChecks coefficientLimit (sectionsOf (now (a .s))) (a .p) z))
-      (ap (λ (n : ℕ). chainAt n (chainFrom (number reads * cells reads) (bytes reads)) (i reads)) (sym (start reads .pre .1 .1)) ∙ sym (read-is reads))
+      ap (λ (z : List ℤ). firstRefusal (cycleChecks coefficientLimit (sectionsOf (now (a .s))) (a .p) z))
+      (ap (λ (n : ℕ). chainAt n (chainFrom (many reads * cells reads) (bytes reads)) (i reads)) (sym (start reads .pre .1 .1)) ∙ sym (read-is reads))
       ∙ c .check-chain .ensures
 
 enum-known-refusal : tie.Need-enum-known-refusal Inv-loop μ-loop
@@ -106,7 +106,7 @@ returns c =
     let r = reads called in
     let a = start r .args in
     let x = c .before .refusal .given in
-    cycles-told coefficientLimit (sectionsOf (now (a .s))) (a .p) (chainFrom (number r * cells r) (bytes r)) (a .number) (numberOf (x .0 .0))
+    cycles-told coefficientLimit (sectionsOf (now (a .s))) (a .p) (chainFrom (many r * cells r) (bytes r)) (a .many) (numberOf (x .0 .0))
     (λ e. absurd (omega (arith, number-positive (x .0 .0)))) .1
     (record {
       place = i r;
@@ -130,7 +130,7 @@ loop-again c =
 returns-2 : tie.Need-returns-2 Inv-loop μ-loop
 returns-2 c =
     let a = c .before .before .before .before .args in
-    cycles-zero coefficientLimit (sectionsOf (now (a .s))) (a .p) (chainFrom (a .number * a .cells) (now (a .chains))) (a .number) .1
+    cycles-zero coefficientLimit (sectionsOf (now (a .s))) (a .p) (chainFrom (a .many * a .cells) (now (a .chains))) (a .many) .1
     (λ k l. c .before .loop .inv .1 k (omega (arith, c .loop-test .left)))
 
 pub check-bytes-spec : {M : Type 1} → statement M

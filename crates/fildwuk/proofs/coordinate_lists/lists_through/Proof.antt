@@ -8,7 +8,7 @@ use borrow.Author.Needs.{needs}
 use denote.Ref.{now}
 use lib.ListN.{length}
 use Rattle.lists.specs.Splice.{splices}
-use Rattle.trials.specs.Trial.{first}
+use Rattle.trials.specs.Trial.{firstRefusal}
 use Rattle.sheet_format.specs.Check.{sectionsOf}
 use Rattle.host_calls.specs.Host.{HostCalled, slotsIn, hostCall, listsIn}
 use Rattle.host_calls.specs.Bytes.{chainFrom}
@@ -41,7 +41,7 @@ given s = hostLengths (questionOf s) (now (s .args .coordinates)) (length (now (
 
 -- the host's sheet has the host's limit
 admits : (c : tie.After-admit) → let a = c .before .before .before .before .before .args in
-    Admits hostLimit (asked (now (a .sheet)) (a .dimension)) (Coordinates (a .number)) (slotsIn (now (a .coordinates))) (length (now (a .work))) (c .admit .result)
+    Admits hostLimit (asked (now (a .sheet)) (a .dimension)) (Coordinates (a .many)) (slotsIn (now (a .coordinates))) (length (now (a .work))) (c .admit .result)
 admits c = rw (c .before .host .ensures) at (c .admit .ensures)
 
 returns : tie.Need-returns
@@ -51,8 +51,8 @@ returns c =
     let a = start .args in
     let x = c .before .before .refusal .given in
     rw (c .number .ensures)
-    (lists-refuse (questionOf start) (a .number) (now (a .chains)) (now (a .coordinates)) (start .pre) (x .0 .0)
-    (admit-refused (given start) (Coordinates (a .number)) (called .admit .result) (admits called) (x .1)))
+    (lists-refuse (questionOf start) (a .many) (now (a .chains)) (now (a .coordinates)) (start .pre) (x .0 .0)
+    (admit-refused (given start) (Coordinates (a .many)) (called .admit .result) (admits called) (x .1)))
 
 module _ (c : tie.After-known-told2) where
   abbrev called : tie.After-admit
@@ -64,8 +64,8 @@ module _ (c : tie.After-known-told2) where
   abbrev q : Question
   q = questionOf entered
 
-  abbrev number : ℕ
-  number = entered .args .number
+  abbrev many : ℕ
+  many = entered .args .many
 
   abbrev bytes : List ℕ
   bytes = now (entered .args .chains)
@@ -80,9 +80,9 @@ module _ (c : tie.After-known-told2) where
   abbrev cells : ℕ
   cells = cellsOf q
 
-  granted : Granted (given entered) (Coordinates number) cell-counts
+  granted : Granted (given entered) (Coordinates many) cell-counts
   granted =
-      admit-granted (given entered) (Coordinates number) (called .admit .result) (admits called) (omega arith)
+      admit-granted (given entered) (Coordinates many) (called .admit .result) (admits called) (omega arith)
       (record { small = λ i. called .before .before .before .before .shared-slice-known .given i .fits }) (c .before .n .given .1)
 
   cells-are : cell-counts .cells ≡ cells
@@ -91,17 +91,17 @@ module _ (c : tie.After-known-told2) where
 -- ---- the chains
 
 mul-if1 : tie.Need-mul-if1
-mul-if1 c = omega (arith, granted c .passed .output-slots, ap (λ (n : ℕ). number c * n) (cells-are c), entered c .good)
+mul-if1 c = omega (arith, granted c .passed .output-slots, ap (λ (n : ℕ). many c * n) (cells-are c), entered c .good)
 
 mul-if1-2 : tie.Need-mul-if1-2
-mul-if1-2 c = omega (arith, granted c .passed .output-slots, ap (λ (n : ℕ). number c * n) (cells-are c), entered c .good)
+mul-if1-2 c = omega (arith, granted c .passed .output-slots, ap (λ (n : ℕ). many c * n) (cells-are c), entered c .good)
 
 returns-2 : tie.Need-returns-2
 returns-2 c =
     let k = c .before .before in
     rw (c .number2 .ensures)
-    (length-refuses (q k) (number k) (bytes k) (output k) (entered k .pre) (granted k)
-    (λ e. c .before .if1 .taken (e ∙ ap (λ (n : ℕ). 4 * (number k * n)) (sym (cells-are k)))))
+    (length-refuses (q k) (many k) (bytes k) (output k) (entered k .pre) (granted k)
+    (λ e. c .before .if1 .taken (e ∙ ap (λ (n : ℕ). 4 * (many k * n)) (sym (cells-are k)))))
 
 module _ (c : tie.After-nonempty) where
   abbrev known : tie.After-known-told2
@@ -111,29 +111,29 @@ module _ (c : tie.After-nonempty) where
   abbrev lists : ℕ
   lists = c .nonempty .result
 
-  lists-are : lists ≡ nonempty (number known) (cells known)
-  lists-are = c .nonempty .ensures ∙ ap (nonempty (number known)) (cells-are known)
+  lists-are : lists ≡ nonempty (many known) (cells known)
+  lists-are = c .nonempty .ensures ∙ ap (nonempty (many known)) (cells-are known)
 
-  same-slots : lists * cells known ≡ number known * cells known
-  same-slots = ap (λ (n : ℕ). n * cells known) lists-are ∙ nonempty-size (number known) (cells known)
+  same-slots : lists * cells known ≡ many known * cells known
+  same-slots = ap (λ (n : ℕ). n * cells known) lists-are ∙ nonempty-size (many known) (cells known)
 
   size : length (bytes known) ≡ 4 * (lists * cells known)
-  size = c .before .if1 .left ∙ ap (λ (n : ℕ). 4 * (number known * n)) (cells-are known) ∙ ap (λ (n : ℕ). 4 * n) (sym same-slots)
+  size = c .before .if1 .left ∙ ap (λ (n : ℕ). 4 * (many known * n)) (cells-are known) ∙ ap (λ (n : ℕ). 4 * n) (sym same-slots)
 
   regranted : Granted (given (entered known)) (Coordinates lists) (cell-counts known)
   regranted = regrant (given (entered known)) same-slots (granted known)
 
   -- the call on them is the call on all
   on-lists : {r : ℕ} {left : List ℕ} → HostAnswers (hostCall (q known) (listsIn (q known) lists (bytes known)) (output known)) r left
-      → HostAnswers (hostCall (q known) (listsIn (q known) (number known) (bytes known)) (output known)) r left
+      → HostAnswers (hostCall (q known) (listsIn (q known) (many known) (bytes known)) (output known)) r left
   unfolding question.cells
   on-lists {r} {left} h = subst (λ (x : HostCalled). HostAnswers x r left) (sym same) h
     where
       on : ℕ → HostCalled
       on n = hostCall (q known) (listsIn (q known) n (bytes known)) (output known)
 
-      same : on (number known) ≡ on lists
-      same = nonempty-host-lists (q known) (number known) (bytes known) (output known) ∙ ap on (sym lists-are)
+      same : on (many known) ≡ on lists
+      same = nonempty-host-lists (q known) (many known) (bytes known) (output known) ∙ ap on (sym lists-are)
 
 check-bytes-requires : tie.Need-check-bytes-requires
 check-bytes-requires c κs =
@@ -150,11 +150,11 @@ check-bytes-requires c κs =
 module _ (c : tie.After-check-bytes) where
   -- the number that is told of the chains
   told : let m = c .before in
-      first (cyclesChecks coefficientLimit (sectionsOf (q (known m) .sheet)) (q (known m) .dimension) (lists m) (chainFrom (lists m * cells (known m)) (bytes (known m))))
+      firstRefusal (cyclesChecks coefficientLimit (sectionsOf (q (known m) .sheet)) (q (known m) .dimension) (lists m) (chainFrom (lists m * cells (known m)) (bytes (known m))))
       ≡ checkNumber (c .check-bytes .result)
   told =
       let m = c .before in let k = known m in
-      ap (λ (n : ℕ). first (cyclesChecks coefficientLimit (sectionsOf (q k .sheet)) (q k .dimension) (lists m) (chainFrom (lists m * n) (bytes k)))) (sym (cells-are k))
+      ap (λ (n : ℕ). firstRefusal (cyclesChecks coefficientLimit (sectionsOf (q k .sheet)) (q k .dimension) (lists m) (chainFrom (lists m * n) (bytes k)))) (sym (cells-are k))
       ∙ c .check-bytes .ensures
 
 returns-3 : tie.Need-returns-3
@@ -173,7 +173,7 @@ module _ (c : tie.After-enum-told) where
   counted = c .before .before .before
 
   passed : let k = known counted in
-      first (cyclesChecks coefficientLimit (sectionsOf (q k .sheet)) (q k .dimension) (lists counted) (chainFrom (lists counted * cells k) (bytes k))) ≡ 0
+      firstRefusal (cyclesChecks coefficientLimit (sectionsOf (q k .sheet)) (q k .dimension) (lists counted) (chainFrom (lists counted * cells k) (bytes k))) ≡ 0
   passed = told (c .before .before) ∙ ap checkNumber (c .enum-told .given .1)
 
 reduce-twice-requires : tie.Need-reduce-twice-requires

@@ -1,4 +1,4 @@
--- `coordinate_lists::write_bytes` meets its contract. The invariant: the lists of the chains passed are written. The measure is how many are left.
+-- `coordinate_lists::write_bytes` meets its contract. The invariant: the lists of the chains passed are written. The measure is how width are left.
 use mathlib.Core.Path.{_≡_, refl, sym, ap, ap₂, _∙_}
 use mathlib.Core.List.{List}
 use Prim.Native.Nat.{ℕ, _+_, _-_, _*_, _≤_}
@@ -22,11 +22,11 @@ use Rattle.fildwuk.proofs.coordinate_lists.write_bytes.Statement.{state
 use Rattle.fildwuk.proofs.coordinate_lists.write_bytes.Tie as tie
 
 abbrev Inv-loop : tie.InvT-loop
-Inv-loop reduced w cells number chains out₀ coefficients₀ numbers₀ i₀ out coefficients numbers i =
-    (i ≤ number) × (out ≡ splices (8 * cells) (listBytes reduced w cells number chains) i out₀) × (length out ≡ length out₀) × (length coefficients ≡ hostLimit) × (length numbers ≡ hostLimit)
+Inv-loop reduced w cells many chains out₀ coefficients₀ numbers₀ i₀ out coefficients numbers i =
+    (i ≤ many) × (out ≡ splices (8 * cells) (listBytes reduced w cells many chains) i out₀) × (length out ≡ length out₀) × (length coefficients ≡ hostLimit) × (length numbers ≡ hostLimit)
 
 abbrev μ-loop : tie.MeasureT-loop
-μ-loop reduced w cells number chains out₀ coefficients₀ numbers₀ i₀ out coefficients numbers i = number - i
+μ-loop reduced w cells many chains out₀ coefficients₀ numbers₀ i₀ out coefficients numbers i = many - i
 
 loop-holds : tie.Need-loop-holds Inv-loop μ-loop
 unfolding splices
@@ -37,7 +37,7 @@ loop-holds c = (omega arith, refl, refl, refl, refl)
 stands : (c : tie.In-loop Inv-loop μ-loop) → let a = c .before .before .before .before .args in 4 * (c .before .loop .i * a .cells + a .cells) ≤ length (now (a .chains))
 stands c =
     let start = c .before .before .before .before in
-    chain-stands (start .args .cells) (start .args .number) (now (start .args .chains)) (start .pre .size) (c .before .loop .i) (c .loop-test .taken)
+    chain-stands (start .args .cells) (start .args .many) (now (start .args .chains)) (start .pre .size) (c .before .loop .i) (c .loop-test .taken)
 
 mul-at : tie.Need-mul-at Inv-loop μ-loop
 mul-at c = omega (arith, stands c, c .before .before .before .before .good)
@@ -55,8 +55,8 @@ module _ (c : tie.After-read-chain Inv-loop μ-loop) where
   abbrev cells : ℕ
   cells = start .args .cells
 
-  abbrev number : ℕ
-  number = start .args .number
+  abbrev many : ℕ
+  many = start .args .many
 
   abbrev bytes : List ℕ
   bytes = now (start .args .chains)
@@ -66,13 +66,13 @@ module _ (c : tie.After-read-chain Inv-loop μ-loop) where
 
   -- its coordinates
   abbrev list : List ℤ
-  list = coordinatesOf (start .args .reduced) (now (start .args .w)) (chainOf cells number bytes i)
+  list = coordinatesOf (start .args .reduced) (now (start .args .w)) (chainOf cells many bytes i)
 
-  read-is : take cells (c .read-chain .last .1 .1 .1 .0) ≡ chainOf cells number bytes i
-  read-is = chain-read cells number bytes (start .pre .size) i (c .before .before .loop-test .taken) (c .read-chain .last .1 .1 .1 .0) (c .read-chain .ensures)
+  read-is : take cells (c .read-chain .last .1 .1 .1 .0) ≡ chainOf cells many bytes i
+  read-is = chain-read cells many bytes (start .pre .size) i (c .before .before .loop-test .taken) (c .read-chain .last .1 .1 .1 .0) (c .read-chain .ensures)
 
   read-length : length (take cells (c .read-chain .last .1 .1 .1 .0)) ≡ cells
-  read-length = ap length read-is ∙ chain-length cells number bytes (start .pre .size) i (c .before .before .loop-test .taken)
+  read-length = ap length read-is ∙ chain-length cells many bytes (start .pre .size) i (c .before .before .loop-test .taken)
 
   kept-length : length (c .read-chain .last .1 .1 .1 .0) ≡ hostLimit
   kept-length = c .read-chain .kept .1 .1 .1 .0 ∙ c .before .before .before .loop .inv .3
@@ -82,7 +82,7 @@ module _ (c : tie.After-read-chain Inv-loop μ-loop) where
       let x = start .args .reduced in let state = stateIn x (now (start .args .w)) in
       omega (
         arith,
-        length-coordinateList (x .layout .«row_follower» .width) (x .layout .matrix .lines) state (chainOf cells number bytes i),
+        length-coordinateList (x .layout .«row_follower» .width) (x .layout .matrix .lines) state (chainOf cells many bytes i),
         length-reported-le (kind state) (x .layout .matrix .lines),
         start .pre .short,
       )
@@ -110,22 +110,22 @@ module _ (c : tie.After-write-coordinates Inv-loop μ-loop) where
   wrote : WrittenFrom 0 (list reads) (reads .before .before .before .loop .numbers) (c .write-coordinates .result) (c .write-coordinates .last .1 .1 .1 .0)
   wrote = rw (read-is reads) at (c .write-coordinates .ensures)
 
-  many : c .write-coordinates .result ≡ length (list reads)
-  many = omega (arith, wrote .next)
+  width : c .write-coordinates .result ≡ length (list reads)
+  width = omega (arith, wrote .next)
 
   numbers-length : length (c .write-coordinates .last .1 .1 .1 .0) ≡ hostLimit
   numbers-length = c .write-coordinates .kept .1 .1 .1 .0 ∙ reads .before .before .before .loop .inv .4
 
   numbers-are : take (c .write-coordinates .result) (c .write-coordinates .last .1 .1 .1 .0) ≡ list reads
   numbers-are =
-      ap₂ (λ (n : ℕ) (l : List ℤ). take n l) many (wrote .is) ∙ take-splice-zero (list reads) (reads .before .before .before .loop .numbers)
+      ap₂ (λ (n : ℕ) (l : List ℤ). take n l) width (wrote .is) ∙ take-splice-zero (list reads) (reads .before .before .before .loop .numbers)
 
   -- its slots
   slots : 8 * (i reads * cells reads) + 8 * c .write-coordinates .result ≤ length (now (start reads .args .out))
   slots =
       omega (
         arith,
-        many,
+        width,
         list-short reads,
         start reads .pre .room,
         suc-mul (i reads) (cells reads),
@@ -144,7 +144,7 @@ write-numbers-requires : tie.Need-write-numbers-requires Inv-loop μ-loop
 write-numbers-requires c κs =
     let w = c .before .before .before in
     let r = reads w in (
-      omega (arith, many w, list-short r, start r .pre .few, numbers-length w),
+      omega (arith, width w, list-short r, start r .pre .few, numbers-length w),
       omega (arith, slots w, r .before .before .before .loop .inv .2),
     )
 
@@ -171,7 +171,7 @@ returns : tie.Need-returns Inv-loop μ-loop
 returns c =
     let a = c .before .before .before .before .args in
     c .before .loop .inv .1
-    ∙ ap (λ (n : ℕ). splices (8 * a .cells) (listBytes (a .reduced) (now (a .w)) (a .cells) (a .number) (now (a .chains))) n (now (a .out)))
+    ∙ ap (λ (n : ℕ). splices (8 * a .cells) (listBytes (a .reduced) (now (a .w)) (a .cells) (a .many) (now (a .chains))) n (now (a .out)))
     (le-antisymm (c .before .loop .inv .0) (c .loop-test .left))
 
 pub write-bytes-spec : {M : Type 1} → statement M

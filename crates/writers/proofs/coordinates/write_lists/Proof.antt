@@ -14,11 +14,11 @@ use Rattle.writers.proofs.coordinates.write_lists.Statement.{statement}
 use Rattle.writers.proofs.coordinates.write_lists.Tie as tie
 
 abbrev Inv-loop : tie.InvT-loop
-Inv-loop reduced w cells number chains coordinates₀ i₀ coordinates i =
-    (i ≤ number) × (coordinates ≡ splices cells (λ k. coordinatesOf reduced w (chainAt cells chains k)) i coordinates₀) × (length coordinates ≡ length coordinates₀)
+Inv-loop reduced w cells many chains coordinates₀ i₀ coordinates i =
+    (i ≤ many) × (coordinates ≡ splices cells (λ k. coordinatesOf reduced w (chainAt cells chains k)) i coordinates₀) × (length coordinates ≡ length coordinates₀)
 
 abbrev μ-loop : tie.MeasureT-loop
-μ-loop reduced w cells number chains coordinates₀ i₀ coordinates i = number - i
+μ-loop reduced w cells many chains coordinates₀ i₀ coordinates i = many - i
 
 loop-holds : tie.Need-loop-holds Inv-loop μ-loop
 unfolding splices
@@ -28,7 +28,7 @@ loop-holds c = (omega arith, refl, refl)
 inside : (c : tie.In-loop Inv-loop μ-loop) → let a = c .before .before .args in c .before .loop .i * a .cells + a .cells ≤ length (now (a .chains))
 inside c =
     let a = c .before .before .args in
-    chain-inside (a .cells) (a .number) (now (a .chains)) (c .before .before .pre .size) (c .before .loop .i) (c .loop-test .taken)
+    chain-inside (a .cells) (a .many) (now (a .chains)) (c .before .before .pre .size) (c .before .loop .i) (c .loop-test .taken)
 
 mul-at : tie.Need-mul-at Inv-loop μ-loop
 mul-at c = omega (arith, inside c, c .before .before .good)

@@ -24,17 +24,17 @@ mul-result c = omega (arith, square-below (c .before .before))
 add-result-2 : tie.Need-add-result-2
 add-result-2 c = omega (arith, square-below (c .before .before), c .before .before .pre)
 
--- the output has fewer than `number` times the cells
-divided : (output cells number : ℕ) → 0 < cells → ltb (output / cells) number ≡ ltb output (number * cells)
-divided output cells number positive = go (decLt output (number * cells))
+-- the output has fewer than `many` times the cells
+divided : (output cells many : ℕ) → 0 < cells → ltb (output / cells) many ≡ ltb output (many * cells)
+divided output cells many positive = go (decLt output (many * cells))
   where
-    go : Dec (output < number * cells) → ltb (output / cells) number ≡ ltb output (number * cells)
-    go (yes l) = lt-ltb (output / cells) number (div-lt-iff-lt-mul positive .1 l) ∙ sym (lt-ltb output (number * cells) l)
-    go (no l) = le-ltb (output / cells) number (le-div-iff-mul-le positive .1 (omega arith)) ∙ sym (le-ltb output (number * cells) (omega arith))
+    go : Dec (output < many * cells) → ltb (output / cells) many ≡ ltb output (many * cells)
+    go (yes l) = lt-ltb (output / cells) many (div-lt-iff-lt-mul positive .1 l) ∙ sym (lt-ltb output (many * cells) l)
+    go (no l) = le-ltb (output / cells) many (le-div-iff-mul-le positive .1 (omega arith)) ∙ sym (le-ltb output (many * cells) (omega arith))
 
 -- no cells, and so no slots
-empty : (output number cells : ℕ) → cells ≡ 0 → not (eqb cells 0) ≡ ltb output (number * cells)
-empty output number cells e = rw (e, mul-zero number) (sym (le-ltb output 0 (omega arith)))
+empty : (output many cells : ℕ) → cells ≡ 0 → not (eqb cells 0) ≡ ltb output (many * cells)
+empty output many cells e = rw (e, mul-zero many) (sym (le-ltb output 0 (omega arith)))
 
 -- what is asked
 asked : (output : ℕ) (cell-counts : CellCounts) {x y : Request} → x ≡ y → ltb output (slotsFor y cell-counts) ≡ ltb output (slotsFor x cell-counts)
