@@ -104,6 +104,6 @@ module _ (l : Lent) (many : ℕ) (chains : List ℤ) where
           lists-done k o e =
               is-done early (two (l .question)) left (l .output) (l .work) passes (h .is) k
               (o
-              ∙ ap (λ (width : ℕ). splices each (λ i. coordinateList width (x .layout .matrix .lines) (stateIn x w) (chainAt each chains i)) many (l .output))
+              ∙ ap (λ (width : ℕ). splices each (λ i. coordinateList width (x .workspace .matrix .lines) (stateIn x w) (chainAt each chains i)) many (l .output))
               (follower-width pivotRule-is-rule (g .chains) (g .passed .work-slots) h))
               (e ∙ ap (λ (m : ℕ). replicate m (pos 0)) (h .kept .same-length))

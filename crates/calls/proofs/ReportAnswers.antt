@@ -80,7 +80,7 @@ module _ (l : Lent) where
     report-done {x} {w} h k e =
         is-done early (two (l .question)) left (l .output) (l .work) passes (h .is) (k .counts)
         (k .is
-        ∙ ap (λ (width : ℕ). written (reportList width (x .layout .matrix .lines) (x .rank) (stateIn x w)) (l .output))
+        ∙ ap (λ (width : ℕ). written (reportList width (x .workspace .matrix .lines) (x .rank) (stateIn x w)) (l .output))
         (inverse-width pivotRule-is-rule (g .chains) (g .passed .work-slots) h)
-        ∙ sym (splices-single (listSlots (l .question) report) (numbersOf (l .question) report (x .layout .matrix .lines) (x .rank) (stateIn x w)) (l .output)))
+        ∙ sym (splices-single (listSlots (l .question) report) (numbersOf (l .question) report (x .workspace .matrix .lines) (x .rank) (stateIn x w)) (l .output)))
         (e ∙ ap (λ (m : ℕ). replicate m (pos 0)) (h .kept .same-length))

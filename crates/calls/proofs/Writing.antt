@@ -19,31 +19,31 @@ use Rattle.lines.proofs.Peaks.{under-small}
 use Rattle.operations.specs.Laid.{Laid}
 use Rattle.writers.specs.Written.{Kinds, CanReport, CanCount, CanCoordinate}
 use Rattle.two_reductions.specs.declared.reduced.Reduced.{Reduced}
-use Rattle.two_reductions.specs.Layouts.{secondLayout}
+use Rattle.two_reductions.specs.Workspaces.{secondWorkspace}
 use Rattle.two_reductions.specs.Slices.{stateIn, ReducedTwice}
 use Rattle.two_reductions.proofs.Places.{second-laid}
 
 module _ {rule : Rule} (is : IsRule rule) {K : Sections} {p n : ℕ} {x : Reduced} {w : List ℤ} (chains : ChainComplex libraryLimit K) (slots : workSlots K p ≤ n)
     (h : ReducedTwice K p (reductionsOf rule K p) n x w) where
-  laid : Laid (length w) (x .layout)
+  laid : Laid (length w) (x .workspace)
   laid =
-      rw (h .kept .same-length, h .layout-is)
+      rw (h .kept .same-length, h .workspace-is)
       (second-laid (count K p) (countBelow K p) (count K (suc p)) slots (h .first-rank) (h .rank-within))
 
-  right : Right K p (x .layout .matrix .lines) (x .rank) (stateIn x w)
+  right : Right K p (x .workspace .matrix .lines) (x .rank) (stateIn x w)
   right =
-      reductions-right chains noTransforms rule is entryLimit p (omega arith) (x .layout .matrix .lines) (x .rank) (stateIn x w) (h .is)
+      reductions-right chains noTransforms rule is entryLimit p (omega arith) (x .workspace .matrix .lines) (x .rank) (stateIn x w) (h .is)
 
-  kinds : Kinds (x .layout .matrix) w
+  kinds : Kinds (x .workspace .matrix) w
   kinds = record { nonneg = right .reduced .second .nonneg }
 
-  pub inverse-width : x .layout .«row_inverse» .width ≡ count K p
-  unfolding secondLayout
-  inverse-width = rw (h .layout-is) refl
+  pub inverse-width : x .workspace .«row_inverse» .width ≡ count K p
+  unfolding secondWorkspace
+  inverse-width = rw (h .workspace-is) refl
 
-  pub follower-width : x .layout .«row_follower» .width ≡ count K p
-  unfolding secondLayout
-  follower-width = rw (h .layout-is) refl
+  pub follower-width : x .workspace .«row_follower» .width ≡ count K p
+  unfolding secondWorkspace
+  follower-width = rw (h .workspace-is) refl
 
   pub can-report : {m : ℕ} → 2 + count K p + count K p * count K p ≤ m → CanReport x w m
   can-report {m} room = record {
@@ -55,7 +55,7 @@ module _ {rule : Rule} (is : IsRule rule) {K : Sections} {p n : ℕ} {x : Reduce
   }
 
   -- Q has no more rows than there are cells
-  pub rows-within : x .layout .matrix .lines ≤ count K p
+  pub rows-within : x .workspace .matrix .lines ≤ count K p
   rows-within = right .rows-bound
 
   pub can-count : CanCount x w

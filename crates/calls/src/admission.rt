@@ -10,7 +10,7 @@ use sheet::reader::Reading;
 use sheet::reader::Sheet;
 use two_reductions::cell_counts::CellCounts;
 use two_reductions::cell_counts::cell_counts_of;
-use two_reductions::layouts::work_slots;
+use two_reductions::workspaces::work_slots;
 
 // What a call asks of a dimension: its report, or the coordinates of a number of chains.
 pub enum Request {

@@ -117,5 +117,5 @@ module _ (q : Question) (many : ℕ) (chains output : List ℕ) {work : ℕ} (sp
           lists-done o =
               is-done q (listsIn q many chains) output passes (h .is)
               (o
-              ∙ ap (λ (width : ℕ). splices (8 * each) (λ i. numbersBytes (coordinateList width (x .layout .matrix .lines) (stateIn x w) (chainAt each coefficients i))) many output)
+              ∙ ap (λ (width : ℕ). splices (8 * each) (λ i. numbersBytes (coordinateList width (x .workspace .matrix .lines) (stateIn x w) (chainAt each coefficients i))) many output)
               (follower-width pivotRule-is-rule (g .chains) (g .passed .work-slots) h))

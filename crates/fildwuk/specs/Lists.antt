@@ -22,5 +22,5 @@ pub record CanListBytes (x : Reduced) (w : List ℤ) (cells many : ℕ) (chains 
   pub few : cells ≤ hostLimit
   pub size : length chains ≡ 4 * (many * cells)
   pub room : 8 * (many * cells) ≤ m
-  pub short : x .layout .matrix .lines ≤ cells
+  pub short : x .workspace .matrix .lines ≤ cells
   pub each : (i : ℕ) → i < many → CanCoordinate x w (chainOf cells many chains i) 0 hostLimit

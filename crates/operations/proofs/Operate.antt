@@ -27,7 +27,7 @@ use Rattle.lines.specs.declared.matrix.Matrix.{Matrix}
 use Rattle.lines.specs.declared.line.Effect.{Effect}
 use Rattle.lines.specs.declared.line.Effect.the-variants.{Done, TooWide}
 use Rattle.operations.specs.Laid.{Laid, linesOf, stateOf, Operated, Followed}
-use Rattle.operations.specs.declared.layout.Layout.{Layout}
+use Rattle.operations.specs.declared.workspace.Workspace.{Workspace}
 use Rattle.operations.proofs.Regions.{disjoint-sym, Kept, kept-refl, kept-trans, contents-off, lines-off, lines-on, shaped}
 use Rattle.operations.proofs.Side.{Side, rows, columns, across, written, SideEntry, count, follower, undone, onSide, outcomeOn, put, state-put, noted-put, outcome-put, Largest, largest-put, largest-peak, Separate, separate, follower-lines, undone-lines, follower-inside, undone-inside, follower-fits, undone-fits}
 
@@ -46,7 +46,7 @@ unfolding linesOf
 lines-largest M {peak} {w} h = tableLargest-table peak (M .lines) (M .width) (contents M w) .1 (λ i j a b. h .bound (lineAt (M .at) (M .width) i + j))
 
 -- what the slice holds lies within the peak
-pub largest-under : (W : Layout) {peak : ℕ} {w : List ℤ} (p : ℕ) → Under peak w → largest (stateOf W p w) ≤ peak
+pub largest-under : (W : Workspace) {peak : ℕ} {w : List ℤ} (p : ℕ) → Under peak w → largest (stateOf W p w) ≤ peak
 unfolding largest
 largest-under W p h =
     NatL.max-le (lines-largest (W .matrix) h)
@@ -54,7 +54,7 @@ largest-under W p h =
     (NatL.max-le (lines-largest (W .«row_inverse») h)
     (NatL.max-le (lines-largest (W .«column_follower») h) (lines-largest (W .«column_inverse») h))))
 
-pub within-under : (W : Layout) {peak : ℕ} {w : List ℤ} → Under peak w → within entryLimit (stateOf W peak w) ≡ true
+pub within-under : (W : Workspace) {peak : ℕ} {w : List ℤ} → Under peak w → within entryLimit (stateOf W peak w) ≡ true
 unfolding within
 within-under W {peak} {w} h = le-leb (largest (stateOf W peak w)) entryLimit (NatL.le-trans (largest-under W peak h) (h .limit))
 
@@ -68,7 +68,7 @@ exceeds-largest {M} {A = A} h = NatL.lt-of-lt-of-le (h .beyond) (entry-under M A
 -- ---- the tables of the new state
 
 matrix-table :
-    (x : Side) (W : Layout) (op : Operation) → Within (count x W) op → (w : List ℤ)
+    (x : Side) (W : Workspace) (op : Operation) → Within (count x W) op → (w : List ℤ)
     → table (W .matrix .lines) (W .matrix .width) (onSide x op (entry (linesOf (W .matrix) w))) ≡ shaped (W .matrix) (onSide x op (contents (W .matrix) w))
 unfolding linesOf
 matrix-table rows W op f w = table-ext (onRows-ext op f (Eq-table (W .matrix .lines) (W .matrix .width) (contents (W .matrix) w)))
@@ -96,7 +96,7 @@ companion-table M m op e f {w} {w′} h = subst Same e here
 
 -- ---- the three calls
 
-module _ (x : Side) (op : Operation) (W : Layout) where
+module _ (x : Side) (op : Operation) (W : Workspace) where
   -- the call on the matrix, which leaves w₁, the one on the follower, which leaves w₂, and the one on the inverse companion
   abbrev pub OnMatrix : List ℤ → Effect → List ℤ → Type 0
   OnMatrix w r w₁ = Became (W .matrix) w (written x op) (onSide x op (contents (W .matrix) w)) 0 r w₁
@@ -153,7 +153,7 @@ no-larger : {M : Matrix} {among : Entries} {A : theory.Matrix} {before n L : ℕ
 no-larger (inl e) l all = NatL.le-trans (NatL.le-of-eq e) l
 no-larger (inr o) l all = NatL.le-trans (NatL.le-of-eq (o .is)) (all (o .line) (o .place) (o .line-below) (o .place-below))
 
-module _ (x : Side) (op : Operation) (W : Layout) (w : List ℤ) (l : Laid (length w) W) (f : Within (count x W) op) where
+module _ (x : Side) (op : Operation) (W : Workspace) (w : List ℤ) (l : Laid (length w) W) (f : Within (count x W) op) where
   apart : Separate (W .matrix) (follower x W) (undone x W) (follower (across x) W) (undone (across x) W)
   apart = separate l x
 
@@ -304,38 +304,38 @@ module _ (x : Side) (op : Operation) (W : Layout) (w : List ℤ) (l : Laid (leng
 pub record Task : Type 0 where
   pub side : Side
   pub operation : Operation
-  pub layout : Layout
+  pub workspace : Workspace
   pub slice : List ℤ
-  pub laid : Laid (length slice) layout
-  pub fits : Fits (count side layout) operation
+  pub laid : Laid (length slice) workspace
+  pub fits : Fits (count side workspace) operation
 
 -- what the operation answers and leaves
 abbrev pub Comes : Task → Effect → List ℤ → Type 0
 Comes t r w′ =
-    Operated (t .layout) (λ peak. outcomeOn (t .side) (t .layout) (t .operation) (stateOf (t .layout) peak (t .slice)))
-    (SideEntry (t .side) (t .layout) (t .operation)) (t .slice) r w′
+    Operated (t .workspace) (λ peak. outcomeOn (t .side) (t .workspace) (t .operation) (stateOf (t .workspace) peak (t .slice)))
+    (SideEntry (t .side) (t .workspace) (t .operation)) (t .slice) r w′
 
 -- the call on the matrix, as the code finds its answer
 pub record MatrixCalled : Type 0 where
   pub task : Task
   pub left : List ℤ
   pub result : Effect
-  pub became : OnMatrix (task .side) (task .operation) (task .layout) (task .slice) result left
+  pub became : OnMatrix (task .side) (task .operation) (task .workspace) (task .slice) result left
 
 module _ (c : MatrixCalled) where
   abbrev t : Task
   t = c .task
 
-  turned : (r : Effect) → c .result ≡ r → OnMatrix (t .side) (t .operation) (t .layout) (t .slice) r (c .left)
-  turned r e = subst (λ (x : Effect). OnMatrix (t .side) (t .operation) (t .layout) (t .slice) x (c .left)) e (c .became)
+  turned : (r : Effect) → c .result ≡ r → OnMatrix (t .side) (t .operation) (t .workspace) (t .slice) r (c .left)
+  turned r e = subst (λ (x : Effect). OnMatrix (t .side) (t .operation) (t .workspace) (t .slice) x (c .left)) e (c .became)
 
   -- the matrix goes too wide
   pub wide-matrix : c .result ≡ TooWide → Comes t TooWide (c .left)
-  wide-matrix e = wide-first (t .side) (t .operation) (t .layout) (t .slice) (t .laid) (t .fits .within) (turned TooWide e)
+  wide-matrix e = wide-first (t .side) (t .operation) (t .workspace) (t .slice) (t .laid) (t .fits .within) (turned TooWide e)
 
   module _ {a : ℕ} (e : c .result ≡ Done a) where
     -- what the companions' call asks
-    pub companions-ready : Companions (follower (t .side) (t .layout)) (undone (t .side) (t .layout)) (t .operation) a (c .left)
+    pub companions-ready : Companions (follower (t .side) (t .workspace)) (undone (t .side) (t .workspace)) (t .operation) a (c .left)
     companions-ready = record {
       follower-held = record { ends = rw (turned (Done a) e .same-length) (follower-inside (t .laid) (t .side)) };
       inverse-held = record { ends = rw (turned (Done a) e .same-length) (undone-inside (t .laid) (t .side)) };
@@ -346,12 +346,12 @@ module _ (c : MatrixCalled) where
 
     -- a companion goes too wide, or all is done
     comes :
-        {r : Effect} {w₃ : List ℤ} → Followed (follower (t .side) (t .layout)) (undone (t .side) (t .layout)) (t .operation) a (c .left) r w₃
+        {r : Effect} {w₃ : List ℤ} → Followed (follower (t .side) (t .workspace)) (undone (t .side) (t .workspace)) (t .operation) a (c .left) r w₃
         → Comes t r w₃
-    comes (Followed.stopped h) = wide-second (t .side) (t .operation) (t .layout) (t .slice) (t .laid) (t .fits .within) (turned (Done a) e) h
-    comes (Followed.followed h r g) = ends (t .side) (t .operation) (t .layout) (t .slice) (t .laid) (t .fits .within) (turned (Done a) e) h r g
+    comes (Followed.stopped h) = wide-second (t .side) (t .operation) (t .workspace) (t .slice) (t .laid) (t .fits .within) (turned (Done a) e) h
+    comes (Followed.followed h r g) = ends (t .side) (t .operation) (t .workspace) (t .slice) (t .laid) (t .fits .within) (turned (Done a) e) h r g
 
     pub operated :
         {r : Effect} {w₃ : List ℤ} (r′ : Effect) → r ≡ r′
-        → Followed (follower (t .side) (t .layout)) (undone (t .side) (t .layout)) (t .operation) a (c .left) r w₃ → Comes t r′ w₃
+        → Followed (follower (t .side) (t .workspace)) (undone (t .side) (t .workspace)) (t .operation) a (c .left) r w₃ → Comes t r′ w₃
     operated {w₃ = w₃} r′ same h = subst (λ (x : Effect). Comes t x w₃) same (comes h)

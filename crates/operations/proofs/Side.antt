@@ -1,5 +1,5 @@
 -- The operations on rows and those on columns, told alike. An operation on a side changes the matrix, the side's follower and its
--- inverse companion, and keeps the two companions of the other side. `shaped-state`: the tables of a slice have the sizes of its layout.
+-- inverse companion, and keeps the two companions of the other side. `shaped-state`: the tables of a slice have the sizes of its workspace.
 use mathlib.Core.Path.{_≡_, refl, sym, _∙_, ap}
 use mathlib.Core.Logic.{_⊎_}
 use mathlib.Core.List.{List}
@@ -18,7 +18,7 @@ use Rattle.elementary_operations.specs.Operations.{Fits, Writes}
 use Rattle.lines.specs.declared.matrix.Matrix.{Matrix}
 use Rattle.elementary_operations.proofs.Operations.{Fits-inverse}
 use Rattle.operations.specs.Laid.{Laid, sizesOf, linesOf, stateOf}
-use Rattle.operations.specs.declared.layout.Layout.{Layout}
+use Rattle.operations.specs.declared.workspace.Workspace.{Workspace}
 use Rattle.operations.proofs.Regions.{Disjoint}
 
 pub data Side : Type 0 where
@@ -30,15 +30,15 @@ across rows = columns
 across columns = rows
 
 -- how many lines the side's companions have
-abbrev pub count : Side → Layout → ℕ
+abbrev pub count : Side → Workspace → ℕ
 count rows W = W .matrix .lines
 count columns W = W .matrix .width
 
-abbrev pub follower : Side → Layout → Matrix
+abbrev pub follower : Side → Workspace → Matrix
 follower rows W = W .«row_follower»
 follower columns W = W .«column_follower»
 
-abbrev pub undone : Side → Layout → Matrix
+abbrev pub undone : Side → Workspace → Matrix
 undone rows W = W .«row_inverse»
 undone columns W = W .«column_inverse»
 
@@ -53,14 +53,14 @@ written rows op i j = Writes op i
 written columns op i j = Writes op j
 
 -- n is the absolute value of an entry that it writes
-abbrev pub SideEntry : Side → Layout → Operation → List ℤ → ℕ → Type 0
+abbrev pub SideEntry : Side → Workspace → Operation → List ℤ → ℕ → Type 0
 SideEntry x W op w n =
     EntryOf (W .matrix) (written x op) (contents (W .matrix) w) n
     ⊎ (EntryOf (follower x W) (λ i j. Writes op i) (contents (follower x W) w) n
     ⊎ EntryOf (undone x W) (λ i j. Writes (inverse op) i) (contents (undone x W) w) n)
 
 -- its outcome
-abbrev pub outcomeOn : Side → Layout → Operation → State → Outcome
+abbrev pub outcomeOn : Side → Workspace → Operation → State → Outcome
 outcomeOn rows W op s = onRow entryLimit (sizesOf W) op s
 outcomeOn columns W op s = onColumn entryLimit (sizesOf W) op s
 
@@ -70,7 +70,7 @@ put rows a b c d e peak = record { matrix = a; rowFollower = b; rowInverse = c; 
 put columns a b c d e peak = record { matrix = a; rowFollower = d; rowInverse = e; columnFollower = b; columnInverse = c; peak = peak }
 
 pub state-put :
-    (x : Side) (W : Layout) (peak : ℕ) (w : List ℤ)
+    (x : Side) (W : Workspace) (peak : ℕ) (w : List ℤ)
     → stateOf W peak w ≡ put x (linesOf (W .matrix) w) (linesOf (follower x W) w) (linesOf (undone x W) w) (linesOf (follower (across x) W) w) (linesOf (undone (across x) W) w) peak
 state-put rows W peak w = refl
 state-put columns W peak w = refl
@@ -84,7 +84,7 @@ noted-put columns a b c d e peak = refl
 table-lines : {m m′ : ℕ} → m ≡ m′ → (n : ℕ) (A : theory.Matrix) → table m n A ≡ table m′ n (entry (table m n A))
 table-lines {m} e n A = sym (table-entry m n A) ∙ ap (λ (x : ℕ). table x n (entry (table m n A))) e
 
-pub shaped-state : {n : ℕ} {W : Layout} (peak : ℕ) (w : List ℤ) → Laid n W → Shaped (sizesOf W) (stateOf W peak w)
+pub shaped-state : {n : ℕ} {W : Workspace} (peak : ℕ) (w : List ℤ) → Laid n W → Shaped (sizesOf W) (stateOf W peak w)
 unfolding linesOf
 shaped-state {n} {W} peak w h = record {
   matrix = table-lines refl (W .matrix .width) (contents (W .matrix) w);
@@ -95,7 +95,7 @@ shaped-state {n} {W} peak w h = record {
 }
 
 pub outcome-put :
-    (x : Side) {n : ℕ} {W : Layout} → Laid n W → (op : Operation) (peak : ℕ) (w : List ℤ)
+    (x : Side) {n : ℕ} {W : Workspace} → Laid n W → (op : Operation) (peak : ℕ) (w : List ℤ)
     → outcomeOn x W op (stateOf W peak w)
     ≡ checked entryLimit (noted (put x
     (table (W .matrix .lines) (W .matrix .width) (onSide x op (entry (linesOf (W .matrix) w))))
@@ -138,7 +138,7 @@ pub record Separate (a b c d e : Matrix) : Type 0 where
   pub cd : Disjoint c d
   pub ce : Disjoint c e
 
-module _ {n : ℕ} {W : Layout} (l : Laid n W) where
+module _ {n : ℕ} {W : Workspace} (l : Laid n W) where
   pub separate : (x : Side) → Separate (W .matrix) (follower x W) (undone x W) (follower (across x) W) (undone (across x) W)
   separate rows = record {
     ab = record { none = λ p s t. omega arith };

@@ -21,7 +21,7 @@ use Rattle.lines.proofs.Peaks.{under-small, small-bounded, covered-same}
 use Rattle.lines.specs.declared.matrix.Matrix.{Matrix}
 use Rattle.lines.specs.declared.line.Effect.the-variants.{Done}
 use Rattle.operations.specs.Laid.{Laid, sizesOf, stateOf}
-use Rattle.operations.specs.declared.layout.Layout.{Layout}
+use Rattle.operations.specs.declared.workspace.Workspace.{Workspace}
 use Rattle.operations.proofs.Side.{Side, rows, columns, follower, undone, onSide, written}
 use Rattle.operations.proofs.Operate.{ends, Task, Comes}
 
@@ -70,7 +70,7 @@ holds-same M w among A s e = record {
 
 pub unchanged : (t : Task) → Small (t .slice) → Identity (t .operation) → Comes t (Done 0) (t .slice)
 unchanged t small e =
-    let x = t .side in let op = t .operation in let W = t .layout in let w = t .slice in let s = small-bounded small in
+    let x = t .side in let op = t .operation in let W = t .workspace in let w = t .slice in let s = small-bounded small in
     ends x op W w (t .laid) (t .fits .within)
     (holds-same (W .matrix) w (written x op) (onSide x op (contents (W .matrix) w)) s (onSide-identity x op e (contents (W .matrix) w)))
     (holds-same (follower x W) w (λ i j. Writes op i) (onRows op (contents (follower x W) w)) s (onRows-identity op e (contents (follower x W) w)))
@@ -79,15 +79,15 @@ unchanged t small e =
 
 -- ---- what the passes need: no operation is called where it would change nothing
 
-module _ (W : Layout) (peak : ℕ) (w : List ℤ) (laid : Laid (length w) W) (under : Under peak w) (op : Operation) (identity : Identity op) where
+module _ (W : Workspace) (peak : ℕ) (w : List ℤ) (laid : Laid (length w) W) (under : Under peak w) (op : Operation) (identity : Identity op) where
   pub rows-unchanged : Fits (W .matrix .lines) op → onRow entryLimit (sizesOf W) op (stateOf W peak w) ≡ made (stateOf W peak w)
   rows-unchanged fits =
-      sym (unchanged (record { side = rows; operation = op; layout = W; slice = w; laid = laid; fits = fits }) (under-small under) identity .outcome peak under)
+      sym (unchanged (record { side = rows; operation = op; workspace = W; slice = w; laid = laid; fits = fits }) (under-small under) identity .outcome peak under)
       ∙ ap (λ (p : ℕ). made (stateOf W p w)) (NatL.max-zero peak)
 
   pub columns-unchanged : Fits (W .matrix .width) op → onColumn entryLimit (sizesOf W) op (stateOf W peak w) ≡ made (stateOf W peak w)
   columns-unchanged fits =
-      sym (unchanged (record { side = columns; operation = op; layout = W; slice = w; laid = laid; fits = fits }) (under-small under) identity .outcome peak under)
+      sym (unchanged (record { side = columns; operation = op; workspace = W; slice = w; laid = laid; fits = fits }) (under-small under) identity .outcome peak under)
       ∙ ap (λ (p : ℕ). made (stateOf W p w)) (NatL.max-zero peak)
 
 -- an exchange of two of n lines

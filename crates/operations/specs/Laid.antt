@@ -13,11 +13,11 @@ use Rattle.elementary_operations.specs.Operations.{Writes, OnLines}
 use Rattle.lines.specs.declared.matrix.Matrix.{Matrix}
 use Rattle.lines.specs.declared.line.Effect.{Effect}
 use Rattle.lines.specs.declared.line.Effect.the-variants.{Done, TooWide}
-use Rattle.operations.specs.declared.layout.Layout.{Layout}
+use Rattle.operations.specs.declared.workspace.Workspace.{Workspace}
 
 -- The five matrices follow one another in a slice of length n, gaps allowed. The companions of the row operations have a line for each row of
 -- the matrix, those of the column operations one for each column.
-pub record Laid (n : ℕ) (W : Layout) : Type 0 where
+pub record Laid (n : ℕ) (W : Workspace) : Type 0 where
   pub row-inverse-lines : W .«row_inverse» .lines ≡ W .matrix .lines
   pub row-follower-lines : W .«row_follower» .lines ≡ W .matrix .lines
   pub column-follower-lines : W .«column_follower» .lines ≡ W .matrix .width
@@ -29,7 +29,7 @@ pub record Laid (n : ℕ) (W : Layout) : Type 0 where
   pub after-column-inverse : end (W .«column_inverse») ≤ n
 
 -- the sizes of the state
-abbrev pub sizesOf : Layout → Sizes
+abbrev pub sizesOf : Workspace → Sizes
 sizesOf W =
     record {
       rows = W .matrix .lines;
@@ -45,7 +45,7 @@ unfoldable pub linesOf : Matrix → List ℤ → Table
 linesOf M w = table (M .lines) (M .width) (contents M w)
 
 -- the state that the slice w holds, with the peak so far
-abbrev pub stateOf : Layout → ℕ → List ℤ → State
+abbrev pub stateOf : Workspace → ℕ → List ℤ → State
 stateOf W peak w =
     record {
       matrix = linesOf (W .matrix) w;
@@ -59,19 +59,19 @@ stateOf W peak w =
 -- ---- what an operation answers and leaves
 
 -- what it has come to: the state that it made, with the larger one of the peak before and the answer, or too wide
-abbrev pub outcomeOf : Layout → ℕ → Effect → List ℤ → Outcome
+abbrev pub outcomeOf : Workspace → ℕ → Effect → List ℤ → Outcome
 outcomeOf W peak (Done x) w′ = made (stateOf W (max peak x) w′)
 outcomeOf W peak TooWide w′ = tooWide
 
 -- n is the absolute value of an entry of w, which an operation on the rows writes in the matrix, its follower or its inverse companion
-abbrev pub RowEntry : Layout → Operation → List ℤ → ℕ → Type 0
+abbrev pub RowEntry : Workspace → Operation → List ℤ → ℕ → Type 0
 RowEntry W op w n =
     EntryOf (W .matrix) (λ i j. Writes op i) (contents (W .matrix) w) n
     ⊎ (EntryOf (W .«row_follower») (λ i j. Writes op i) (contents (W .«row_follower») w) n
     ⊎ EntryOf (W .«row_inverse») (λ i j. Writes (inverse op) i) (contents (W .«row_inverse») w) n)
 
 -- the same of an operation on the columns
-abbrev pub ColumnEntry : Layout → Operation → List ℤ → ℕ → Type 0
+abbrev pub ColumnEntry : Workspace → Operation → List ℤ → ℕ → Type 0
 ColumnEntry W op w n =
     EntryOf (W .matrix) (λ i j. Writes op j) (contents (W .matrix) w) n
     ⊎ (EntryOf (W .«column_follower») (λ i j. Writes op i) (contents (W .«column_follower») w) n
@@ -89,14 +89,14 @@ Answered entry w (Done x) w′ = Wrote entry w x w′
 Answered entry w TooWide w′ = Unit {0}
 
 -- With a peak that bounds the slice, the operation's outcome is the one answered, and the slice holds the state that it made.
-pub record Operated (W : Layout) (outcomeAt : ℕ → Outcome) (entry : List ℤ → ℕ → Type 0) (w : List ℤ) (r : Effect) (w′ : List ℤ) : Type 0 where
+pub record Operated (W : Workspace) (outcomeAt : ℕ → Outcome) (entry : List ℤ → ℕ → Type 0) (w : List ℤ) (r : Effect) (w′ : List ℤ) : Type 0 where
   pub outcome : (peak : ℕ) → Under peak w → outcomeOf W peak r w′ ≡ outcomeAt peak
   pub answer : Answered entry w r w′
 
-abbrev pub RowsOperated : Layout → Operation → List ℤ → Effect → List ℤ → Type 0
+abbrev pub RowsOperated : Workspace → Operation → List ℤ → Effect → List ℤ → Type 0
 RowsOperated W op w r w′ = Operated W (λ peak. onRow entryLimit (sizesOf W) op (stateOf W peak w)) (RowEntry W op) w r w′
 
-abbrev pub ColumnsOperated : Layout → Operation → List ℤ → Effect → List ℤ → Type 0
+abbrev pub ColumnsOperated : Workspace → Operation → List ℤ → Effect → List ℤ → Type 0
 ColumnsOperated W op w r w′ = Operated W (λ peak. onColumn entryLimit (sizesOf W) op (stateOf W peak w)) (ColumnEntry W op) w r w′
 
 -- a follower F undergoes the operation and an inverse companion U its inverse: F goes too wide, or U comes to r after it

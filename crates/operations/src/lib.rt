@@ -1,2 +1,2 @@
 // A matrix with its companions in a lent slice: the elementary operations on all of them.
-pub mod layout;
+pub mod workspace;

@@ -16,7 +16,7 @@ use Rattle.lines.specs.Slice.{Under}
 use Rattle.lines.specs.Matrices.{contents}
 use Rattle.words.specs.Read.{read}
 use Rattle.operations.specs.Laid.{stateOf}
-use Rattle.operations.specs.declared.layout.Layout.{Layout}
+use Rattle.operations.specs.declared.workspace.Workspace.{Workspace}
 use Rattle.passes.proofs.States.{entry-state}
 use Rattle.passes.proofs.Words.{read-entry}
 
@@ -52,7 +52,7 @@ sign-taken (pos n) e = absurd (omega (arith, ltb-true n 0 e))
 sign-taken (negsuc n) e = refl
 
 -- x holds the pivot of the slice w
-module _ (limit : ℕ) (z : Sizes) (W : Layout) (k : ℕ) {peak : ℕ} (w : List ℤ) (under : Under peak w) (row : k < W .matrix .lines) (column : k < W .matrix .width) {x : ℤ} (x-is : x ≡ contents (W .matrix) w k k) where
+module _ (limit : ℕ) (z : Sizes) (W : Workspace) (k : ℕ) {peak : ℕ} (w : List ℤ) (under : Under peak w) (row : k < W .matrix .lines) (column : k < W .matrix .width) {x : ℤ} (x-is : x ≡ contents (W .matrix) w k k) where
   read-pivot : entry (stateOf W peak w .matrix) k k ≡ read w64 x
   read-pivot = entry-state W w k k row column ∙ sym (read-entry (W .matrix) under k k x x-is)
 

@@ -23,7 +23,7 @@ use Rattle.reduction_laws.specs.Led.{Led, led-row, led-column}
 use Rattle.lines.specs.Slice.{entryLimit, at, lineAt, Under, FirstNonzero}
 use Rattle.lines.specs.Matrices.{contents}
 use Rattle.operations.specs.Laid.{Laid, sizesOf, stateOf}
-use Rattle.operations.specs.declared.layout.Layout.{Layout}
+use Rattle.operations.specs.declared.workspace.Workspace.{Workspace}
 use Rattle.integers.proofs.Floor.{floor-zero}
 use Rattle.operations.proofs.Unchanged.{columns-unchanged}
 use Rattle.operations.proofs.Side.{shaped-state}
@@ -53,7 +53,7 @@ module _ (limit : ℕ) (z : Sizes) (k more i : ℕ) (s : State) where
 
 -- the quotient of the pass, read from the slice
 quotient-state :
-    (W : Layout) (peak : ℕ) (w : List ℤ) (k i j : ℕ) → i < W .matrix .lines → j < W .matrix .width → k < W .matrix .lines → k < W .matrix .width
+    (W : Workspace) (peak : ℕ) (w : List ℤ) (k i j : ℕ) → i < W .matrix .lines → j < W .matrix .width → k < W .matrix .lines → k < W .matrix .width
     → floor (contents (W .matrix) w i j) (contents (W .matrix) w k k) ≡ quotient entryLimit (sizesOf W) k (stateOf W peak w) i j
 unfolding quotient
 quotient-state W peak w k i j a b c d = cc (entry-state W w i j a b, entry-state W w k k c d)
@@ -65,7 +65,7 @@ pass-refused w e z l = record { outcome = e; cleared = record { number = refl; z
 -- ---- step c
 
 -- before row i
-pub record RowPassing (W : Layout) (k peak₀ : ℕ) (w₀ : List ℤ) (i peak : ℕ) (w : List ℤ) : Type 0 where
+pub record RowPassing (W : Workspace) (k peak₀ : ℕ) (w₀ : List ℤ) (i peak : ℕ) (w : List ℤ) : Type 0 where
   pub same-length : length w ≡ length w₀
   pub from : k < i
   pub placed : Placed W k peak w
@@ -73,7 +73,7 @@ pub record RowPassing (W : Layout) (k peak₀ : ℕ) (w₀ : List ℤ) (i peak :
       rowPass entryLimit (sizesOf W) k (W .matrix .lines - i) i (stateOf W peak w)
       ≡ rowPassOf W k peak₀ w₀
 
-pub rows-start : {W : Layout} {k peak : ℕ} {w : List ℤ} → Placed W k peak w → RowPassing W k peak w (k + 1) peak w
+pub rows-start : {W : Workspace} {k peak : ℕ} {w : List ℤ} → Placed W k peak w → RowPassing W k peak w (k + 1) peak w
 rows-start {W} {k} {w = w} h = record {
   same-length = refl;
   from = omega arith;
@@ -81,7 +81,7 @@ rows-start {W} {k} {w = w} h = record {
   rest = rw (add-one k);
 }
 
-module _ {W : Layout} {k peak₀ : ℕ} {w₀ : List ℤ} {i peak : ℕ} {w : List ℤ} (h : RowPassing W k peak₀ w₀ i peak w) (below : i < W .matrix .lines) where
+module _ {W : Workspace} {k peak₀ : ℕ} {w₀ : List ℤ} {i peak : ℕ} {w : List ℤ} (h : RowPassing W k peak₀ w₀ i peak w) (below : i < W .matrix .lines) where
   -- the operation of the pass is the one that the code makes
   row-operation :
       {q : ℤ} → q ≡ floor (contents (W .matrix) w i k) (contents (W .matrix) w k k)
@@ -135,7 +135,7 @@ module _ {W : Layout} {k peak₀ : ℕ} {w₀ : List ℤ} {i peak : ℕ} {w : Li
       (row-operation e ∙ o)
 
 -- after the last row
-pub rows-end : {W : Layout} {k peak₀ : ℕ} {w₀ : List ℤ} {i peak : ℕ} {w : List ℤ} → RowPassing W k peak₀ w₀ i peak w → W .matrix .lines ≤ i → PassMade W (rowPassOf W k peak₀ w₀) (length w₀) peak w
+pub rows-end : {W : Workspace} {k peak₀ : ℕ} {w₀ : List ℤ} {i peak : ℕ} {w : List ℤ} → RowPassing W k peak₀ w₀ i peak w → W .matrix .lines ≤ i → PassMade W (rowPassOf W k peak₀ w₀) (length w₀) peak w
 unfolding rowPass
 rows-end {W} {k} {peak₀} {w₀} {i} {peak} {w} h l = record {
   outcome = sym (h .rest) ∙ ap (λ (n : ℕ). rowPass entryLimit (sizesOf W) k n i (stateOf W peak w)) none-left;
@@ -148,7 +148,7 @@ rows-end {W} {k} {peak₀} {w₀} {i} {peak} {w} h l = record {
 -- ---- step d
 
 -- before column j
-pub record ColumnPassing (W : Layout) (k peak₀ : ℕ) (w₀ : List ℤ) (j peak : ℕ) (w : List ℤ) : Type 0 where
+pub record ColumnPassing (W : Workspace) (k peak₀ : ℕ) (w₀ : List ℤ) (j peak : ℕ) (w : List ℤ) : Type 0 where
   pub same-length : length w ≡ length w₀
   pub from : k < j
   pub clear : ColumnClear W k peak w
@@ -156,7 +156,7 @@ pub record ColumnPassing (W : Layout) (k peak₀ : ℕ) (w₀ : List ℤ) (j pea
       columnPass entryLimit (sizesOf W) k (W .matrix .width - j) j (stateOf W peak w)
       ≡ columnPassOf W k peak₀ w₀
 
-pub columns-start : {W : Layout} {k peak : ℕ} {w : List ℤ} → ColumnClear W k peak w → ColumnPassing W k peak w (k + 1) peak w
+pub columns-start : {W : Workspace} {k peak : ℕ} {w : List ℤ} → ColumnClear W k peak w → ColumnPassing W k peak w (k + 1) peak w
 columns-start {W} {k} {w = w} h = record {
   same-length = refl;
   from = omega arith;
@@ -165,14 +165,14 @@ columns-start {W} {k} {w = w} h = record {
 }
 
 -- column k is zero off the pivot
-pub column-zero : {W : Layout} {k peak : ℕ} {w : List ℤ} → ColumnClear W k peak w → (i : ℕ) → i < W .matrix .lines → i ≢ k → contents (W .matrix) w i k ≡ pos 0
+pub column-zero : {W : Workspace} {k peak : ℕ} {w : List ℤ} → ColumnClear W k peak w → (i : ℕ) → i < W .matrix .lines → i ≢ k → contents (W .matrix) w i k ≡ pos 0
 column-zero {W} {k} {peak} {w} h i below other = sym (entry-state W w i k below (h .ready .ready .column)) ∙ go (decLt i k)
   where
     go : Dec (i < k) → entry (stateOf W peak w .matrix) i k ≡ pos 0
     go (yes l) = h .rows-done .zero i k l (Nat.le-refl k) (h .ready .ready .column)
     go (no l) = h .ready .below i (omega arith) below
 
-module _ {W : Layout} {k peak₀ : ℕ} {w₀ : List ℤ} {j peak : ℕ} {w : List ℤ} (h : ColumnPassing W k peak₀ w₀ j peak w) (below : j < W .matrix .width) where
+module _ {W : Workspace} {k peak₀ : ℕ} {w₀ : List ℤ} {j peak : ℕ} {w : List ℤ} (h : ColumnPassing W k peak₀ w₀ j peak w) (below : j < W .matrix .width) where
   ready : ReadyC (sizesOf W) k (stateOf W peak w)
   ready = h .clear .ready .ready
 
@@ -231,13 +231,13 @@ module _ {W : Layout} {k peak₀ : ℕ} {w₀ : List ℤ} {j peak : ℕ} {w : Li
       (column-operation e ∙ o)
 
 -- row k lies within the slice
-module _ {W : Layout} {k n : ℕ} {s : State} (laid : Laid n W) (ready : ReadyC (sizesOf W) k s) where
+module _ {W : Workspace} {k n : ℕ} {s : State} (laid : Laid n W) (ready : ReadyC (sizesOf W) k s) where
   pub row-inside : {a : ℕ} → a ≡ lineAt (W .matrix .at) (W .matrix .width) k → a + W .matrix .width ≤ n
   row-inside {a} e = span-inside (line-span (W .matrix) a k e (ready .row)) (held-matrix laid)
 
 -- a column whose entry in row k is 0
 pub columns-zero :
-    {W : Layout} {k peak₀ : ℕ} {w₀ : List ℤ} {j peak : ℕ} {w : List ℤ} → ColumnPassing W k peak₀ w₀ j peak w → j < W .matrix .width → contents (W .matrix) w k j ≡ pos 0
+    {W : Workspace} {k peak₀ : ℕ} {w₀ : List ℤ} {j peak : ℕ} {w : List ℤ} → ColumnPassing W k peak₀ w₀ j peak w → j < W .matrix .width → contents (W .matrix) w k j ≡ pos 0
     → ColumnPassing W k peak₀ w₀ (j + 1) peak w
 columns-zero {W} {k} {peak₀} {w₀} {j} {peak} {w} h below e =
     columns-next h below (sym (ap (λ (x : ℤ). floor x (contents (W .matrix) w k k)) e ∙ floor-zero (contents (W .matrix) w k k))) refl (h .clear .under)
@@ -247,7 +247,7 @@ columns-zero {W} {k} {peak₀} {w₀} {j} {peak} {w} h below e =
     }))
 
 pub columns-zeros :
-    {W : Layout} {k peak₀ : ℕ} {w₀ : List ℤ} {j peak : ℕ} {w : List ℤ} → ColumnPassing W k peak₀ w₀ j peak w → (t : ℕ) → j + t ≤ W .matrix .width
+    {W : Workspace} {k peak₀ : ℕ} {w₀ : List ℤ} {j peak : ℕ} {w : List ℤ} → ColumnPassing W k peak₀ w₀ j peak w → (t : ℕ) → j + t ≤ W .matrix .width
     → ((s : ℕ) → s < t → contents (W .matrix) w k (j + s) ≡ pos 0) → ColumnPassing W k peak₀ w₀ (j + t) peak w
 columns-zeros {W} {k} {peak₀} {w₀} {j} {peak} {w} h zero l zeros = subst (λ (x : ℕ). ColumnPassing W k peak₀ w₀ x peak w) (omega arith) h
 columns-zeros {W} {k} {peak₀} {w₀} {j} {peak} {w} h (suc t) l zeros =
@@ -256,7 +256,7 @@ columns-zeros {W} {k} {peak₀} {w₀} {j} {peak} {w} h (suc t) l zeros =
 
 -- the first nonzero entry of row k, which stands at a, from column j on
 pub columns-first :
-    {W : Layout} {k peak₀ : ℕ} {w₀ : List ℤ} {j peak : ℕ} {w : List ℤ} → ColumnPassing W k peak₀ w₀ j peak w → {a r : ℕ} → a ≡ lineAt (W .matrix .at) (W .matrix .width) k
+    {W : Workspace} {k peak₀ : ℕ} {w₀ : List ℤ} {j peak : ℕ} {w : List ℤ} → ColumnPassing W k peak₀ w₀ j peak w → {a r : ℕ} → a ≡ lineAt (W .matrix .at) (W .matrix .width) k
     → FirstNonzero w a j (W .matrix .width) r → ColumnPassing W k peak₀ w₀ r peak w
 columns-first {W} {k} {peak₀} {w₀} {j} {peak} {w} h {a} {r} e first =
     subst (λ (x : ℕ). ColumnPassing W k peak₀ w₀ x peak w) (omega (arith, first .passed .begins))
@@ -264,7 +264,7 @@ columns-first {W} {k} {peak₀} {w₀} {j} {peak} {w} h {a} {r} e first =
     (λ s l. ap (λ (x : ℕ). at w (x + (j + s))) (sym e) ∙ first .passed .zeros (j + s) (omega arith) (omega arith)))
 
 -- after the last column
-pub columns-end : {W : Layout} {k peak₀ : ℕ} {w₀ : List ℤ} {j peak : ℕ} {w : List ℤ} → ColumnPassing W k peak₀ w₀ j peak w → W .matrix .width ≤ j → PassMade W (columnPassOf W k peak₀ w₀) (length w₀) peak w
+pub columns-end : {W : Workspace} {k peak₀ : ℕ} {w₀ : List ℤ} {j peak : ℕ} {w : List ℤ} → ColumnPassing W k peak₀ w₀ j peak w → W .matrix .width ≤ j → PassMade W (columnPassOf W k peak₀ w₀) (length w₀) peak w
 unfolding columnPass
 columns-end {W} {k} {peak₀} {w₀} {j} {peak} {w} h l = record {
   outcome = sym (h .rest) ∙ ap (λ (n : ℕ). columnPass entryLimit (sizesOf W) k n j (stateOf W peak w)) none-left;

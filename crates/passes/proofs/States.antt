@@ -19,24 +19,24 @@ use Rattle.lines.specs.declared.line.Effect.{Effect}
 use Rattle.lines.specs.declared.line.Effect.the-variants.{Done, TooWide}
 use Rattle.operations.specs.Laid.{Laid, sizesOf, linesOf, stateOf, outcomeOf, Wrote, Answered, Operated}
 use Rattle.lines.proofs.Peaks.{under-covered}
-use Rattle.operations.specs.declared.layout.Layout.{Layout}
+use Rattle.operations.specs.declared.workspace.Workspace.{Workspace}
 
 -- ---- the state of a slice
 
-pub entry-state : (W : Layout) (w : List ℤ) (i j : ℕ) → i < W .matrix .lines → j < W .matrix .width → entry (linesOf (W .matrix) w) i j ≡ contents (W .matrix) w i j
+pub entry-state : (W : Workspace) (w : List ℤ) (i j : ℕ) → i < W .matrix .lines → j < W .matrix .width → entry (linesOf (W .matrix) w) i j ≡ contents (W .matrix) w i j
 unfolding linesOf
 entry-state W w i j a b = entry-table (W .matrix .lines) (W .matrix .width) (contents (W .matrix) w) i j a b
 
--- the layout after an operation or a pass
-pub laid-kept : {W : Layout} {n : ℕ} (w′ : List ℤ) → Laid n W → length w′ ≡ n → Laid (length w′) W
+-- the workspace after an operation or a pass
+pub laid-kept : {W : Workspace} {n : ℕ} (w′ : List ℤ) → Laid n W → length w′ ≡ n → Laid (length w′) W
 laid-kept {W} w′ h l = subst (λ (n : ℕ). Laid n W) (sym l) h
 
-pub held-matrix : {n : ℕ} {W : Layout} → Laid n W → Held n (W .matrix)
+pub held-matrix : {n : ℕ} {W : Workspace} → Laid n W → Held n (W .matrix)
 held-matrix h = record { ends = omega (arith, h .after-matrix, h .after-row-inverse, h .after-row-follower, h .after-column-follower, h .after-column-inverse) }
 
 -- ---- what an operation came to
 
-module _ {W : Layout} {o : ℕ → Outcome} {written : List ℤ → ℕ → Type 0} {r : Effect} {w w′ : List ℤ} (h : Operated W o written w r w′) where
+module _ {W : Workspace} {o : ℕ → Outcome} {written : List ℤ → ℕ → Type 0} {r : Effect} {w w′ : List ℤ} (h : Operated W o written w r w′) where
   -- the peak after it is the larger one of the peak before and the answer
   pub operated-done : {a : ℕ} → r ≡ Done a → {peak n : ℕ} → Under peak w → n ≡ max peak a → o peak ≡ made (stateOf W n w′)
   operated-done e {peak} u is =

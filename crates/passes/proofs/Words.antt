@@ -13,7 +13,7 @@ use Rattle.lines.specs.Matrices.{contents}
 use Rattle.lines.specs.declared.matrix.Matrix.{Matrix}
 use Rattle.words.specs.Read.{read, read-wide}
 use Rattle.operations.specs.Laid.{sizesOf, stateOf}
-use Rattle.operations.specs.declared.layout.Layout.{Layout}
+use Rattle.operations.specs.declared.workspace.Workspace.{Workspace}
 use Rattle.passes.proofs.States.{entry-state}
 
 pub small-entry : (M : Matrix) {peak : ℕ} {w : List ℤ} → Under peak w → (i j : ℕ) → natAbs (contents M w i j) ≤ entryLimit
@@ -23,11 +23,11 @@ small-entry M h i j = NatL.le-trans (h .bound (lineAt (M .at) (M .width) i + j))
 pub read-entry : (M : Matrix) {peak : ℕ} {w : List ℤ} → Under peak w → (i j : ℕ) (x : ℤ) → x ≡ contents M w i j → read w64 x ≡ contents M w i j
 read-entry M {w = w} h i j x e = ap (read w64) e ∙ read-wide (contents M w i j) (small-entry M h i j)
 
-pub pivot-positive : (W : Layout) (k : ℕ) {peak : ℕ} (w : List ℤ) → ReadyC (sizesOf W) k (stateOf W peak w) → pos 0 <ℤ contents (W .matrix) w k k
+pub pivot-positive : (W : Workspace) (k : ℕ) {peak : ℕ} (w : List ℤ) → ReadyC (sizesOf W) k (stateOf W peak w) → pos 0 <ℤ contents (W .matrix) w k k
 pivot-positive W k w h = subst (λ (x : ℤ). pos 0 <ℤ x) (entry-state W w k k (h .row) (h .column)) (h .positive)
 
 -- x holds the entry at (i, j), and d the pivot
-module _ (W : Layout) (k : ℕ) {peak : ℕ} (w : List ℤ) (under : Under peak w) (ready : ReadyC (sizesOf W) k (stateOf W peak w)) (i j : ℕ) {x d : ℤ} (x-is : x ≡ contents (W .matrix) w i j) (d-is : d ≡ contents (W .matrix) w k k) where
+module _ (W : Workspace) (k : ℕ) {peak : ℕ} (w : List ℤ) (under : Under peak w) (ready : ReadyC (sizesOf W) k (stateOf W peak w)) (i j : ℕ) {x d : ℤ} (x-is : x ≡ contents (W .matrix) w i j) (d-is : d ≡ contents (W .matrix) w k k) where
   pub quotient-asks : (pos 0 <ℤ read w64 d) × (natAbs (read w64 x) ≤ entryLimit) × (natAbs (read w64 d) ≤ entryLimit)
   quotient-asks =
       rw (read-entry (W .matrix) under i j x x-is, read-entry (W .matrix) under k k d d-is)

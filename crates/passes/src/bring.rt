@@ -9,29 +9,36 @@ use elementary_operations::operation::Operation;
 use lines::line::Effect;
 use lines::line::clear;
 use numbers::absolute::larger;
-use operations::layout::Layout;
+use operations::workspace::Workspace;
 use refusal::Refusal;
 
 // Swaps the entry at (i, j) to place (k, k), and negates row k where that is negative.
-pub fn bring_pivot(layout: Layout, w: &mut [i32], k: usize, i: usize, j: usize, peak: u64) -> Pass
-    requires { ⌜ Laid (length (now w)) layout ⌝ }
+pub fn bring_pivot(
+    workspace: Workspace,
+    w: &mut [i32],
+    k: usize,
+    i: usize,
+    j: usize,
+    peak: u64,
+) -> Pass
+    requires { ⌜ Laid (length (now w)) workspace ⌝ }
     requires { ⌜ Under peak (now w) ⌝ }
-    requires { ⌜ (k < layout .matrix .lines) × (k < layout .matrix .width) × (i < layout .matrix .lines) × (j < layout .matrix .width) ⌝ }
-    ensures { λ r. ⌜ Passed layout (bringOf layout k i j peak (now (w .entry))) (length (now (w .entry))) r (now (w .exit)) ⌝ }
+    requires { ⌜ (k < workspace .matrix .lines) × (k < workspace .matrix .width) × (i < workspace .matrix .lines) × (j < workspace .matrix .width) ⌝ }
+    ensures { λ r. ⌜ Passed workspace (bringOf workspace k i j peak (now (w .entry))) (length (now (w .entry))) r (now (w .exit)) ⌝ }
 {
-    let Effect::Done(rows) = layout.swap_rows(w, i, k) else {
+    let Effect::Done(rows) = workspace.swap_rows(w, i, k) else {
         clear(w);
         return Pass::Refused(Refusal::TooWide);
     };
     let swapped = larger(peak, rows);
-    let Effect::Done(columns) = layout.swap_columns(w, j, k) else {
+    let Effect::Done(columns) = workspace.swap_columns(w, j, k) else {
         clear(w);
         return Pass::Refused(Refusal::TooWide);
     };
     let brought = larger(swapped, columns);
-    let m = layout.matrix;
+    let m = workspace.matrix;
     if m.entry(w, k, k) < 0 {
-        let Effect::Done(negated) = layout.on_rows(w, Operation::Negate(k)) else {
+        let Effect::Done(negated) = workspace.on_rows(w, Operation::Negate(k)) else {
             clear(w);
             return Pass::Refused(Refusal::TooWide);
         };

@@ -8,7 +8,7 @@ use lines::line::clear;
 use lines::zero::first_nonzero;
 use numbers::absolute::larger;
 use numbers::quotient::quotient;
-use operations::layout::Layout;
+use operations::workspace::Workspace;
 use refusal::Refusal;
 
 pub enum Pass {
@@ -17,11 +17,11 @@ pub enum Pass {
 }
 
 // Step c: for each lower row in rising order, subtracts quotient times row k.
-pub fn clear_column(layout: Layout, w: &mut [i32], k: usize, peak: u64) -> Pass
-    requires { ⌜ Placed layout k peak (now w) ⌝ }
-    ensures { λ r. ⌜ Passed layout (rowPassOf layout k peak (now (w .entry))) (length (now (w .entry))) r (now (w .exit)) ⌝ }
+pub fn clear_column(workspace: Workspace, w: &mut [i32], k: usize, peak: u64) -> Pass
+    requires { ⌜ Placed workspace k peak (now w) ⌝ }
+    ensures { λ r. ⌜ Passed workspace (rowPassOf workspace k peak (now (w .entry))) (length (now (w .entry))) r (now (w .exit)) ⌝ }
 {
-    let m = layout.matrix;
+    let m = workspace.matrix;
     let rows = m.lines;
     let mut largest = peak;
     let mut i = k + 1;
@@ -31,7 +31,7 @@ pub fn clear_column(layout: Layout, w: &mut [i32], k: usize, peak: u64) -> Pass
             i = i + 1;
             continue;
         }
-        let Effect::Done(written) = layout.on_rows(w, Operation::Subtract(i, k, q)) else {
+        let Effect::Done(written) = workspace.on_rows(w, Operation::Subtract(i, k, q)) else {
             clear(w);
             return Pass::Refused(Refusal::TooWide);
         };
@@ -42,17 +42,17 @@ pub fn clear_column(layout: Layout, w: &mut [i32], k: usize, peak: u64) -> Pass
 }
 
 // Step d: for each later column in rising order, subtracts quotient times column k, whose one nonzero entry is the pivot.
-pub fn clear_row(layout: Layout, w: &mut [i32], k: usize, peak: u64) -> Pass
-    requires { ⌜ ColumnClear layout k peak (now w) ⌝ }
-    ensures { λ r. ⌜ Passed layout (columnPassOf layout k peak (now (w .entry))) (length (now (w .entry))) r (now (w .exit)) ⌝ }
+pub fn clear_row(workspace: Workspace, w: &mut [i32], k: usize, peak: u64) -> Pass
+    requires { ⌜ ColumnClear workspace k peak (now w) ⌝ }
+    ensures { λ r. ⌜ Passed workspace (columnPassOf workspace k peak (now (w .entry))) (length (now (w .entry))) r (now (w .exit)) ⌝ }
 {
-    let m = layout.matrix;
+    let m = workspace.matrix;
     let columns = m.width;
     let mut reached = peak;
     let mut j = first_nonzero(w, m.line(k), k + 1, columns);
     while j < columns {
         let q = quotient(m.entry(w, k, j), m.entry(w, k, k));
-        let Effect::Done(written) = layout.on_columns(w, Operation::Subtract(j, k, q)) else {
+        let Effect::Done(written) = workspace.on_columns(w, Operation::Subtract(j, k, q)) else {
             clear(w);
             return Pass::Refused(Refusal::TooWide);
         };

@@ -14,7 +14,7 @@ use Rattle.reduction_laws.proofs.Ends.{reaches-reduce}
 use Rattle.lines.specs.Slice.{entryLimit, Under}
 use Rattle.refusal.specs.declared.Refusal.{Refusal}
 use Rattle.operations.specs.Laid.{Laid, sizesOf, stateOf}
-use Rattle.operations.specs.declared.layout.Layout.{Layout}
+use Rattle.operations.specs.declared.workspace.Workspace.{Workspace}
 use Rattle.reducer.specs.declared.stage.Stage.{Stage}
 use Rattle.reducer.specs.declared.stage.Stage.the-variants as stage
 use Rattle.passes.specs.PassAnswers.{matrixOf}
@@ -25,14 +25,14 @@ use Rattle.passes.proofs.States.{entry-state}
 use Rattle.passes.proofs.Words.{small-entry}
 
 -- from the slice w₀ the reduction has come to letter a of stage k with the slice w
-pub record Reducing (rule : Rule) (W : Layout) (peak₀ : ℕ) (w₀ : List ℤ) (k peak : ℕ) (w : List ℤ) : Type 0 where
+pub record Reducing (rule : Rule) (W : Workspace) (peak₀ : ℕ) (w₀ : List ℤ) (k peak : ℕ) (w : List ℤ) : Type 0 where
   pub laid : Laid (length w₀) W
   pub under : Under peak₀ w₀
   pub goes : Goes rule W (at Letter.a 0 (stateOf W peak₀ w₀)) (at Letter.a k (stateOf W peak w))
   pub begun : Begun W k peak w
   pub same-length : length w ≡ length w₀
 
-pub reducing-start : {rule : Rule} {W : Layout} {peak : ℕ} {w : List ℤ} → Laid (length w) W → Under peak w → Reducing rule W peak w 0 peak w
+pub reducing-start : {rule : Rule} {W : Workspace} {peak : ℕ} {w : List ℤ} → Laid (length w) W → Under peak w → Reducing rule W peak w 0 peak w
 reducing-start {rule} {W} {peak} {w} l s = record {
   laid = l;
   under = s;
@@ -42,7 +42,7 @@ reducing-start {rule} {W} {peak} {w} l s = record {
 }
 
 -- the entry to be chosen lies within the limit
-chosen-small : {rule : Rule} → IsRule rule → {W : Layout} {k peak : ℕ} {w : List ℤ} → Begun W k peak w → chosenSize rule W k w ≤ entryLimit
+chosen-small : {rule : Rule} → IsRule rule → {W : Workspace} {k peak : ℕ} {w : List ℤ} → Begun W k peak w → chosenSize rule W k w ≤ entryLimit
 unfolding sizeAt
 chosen-small {rule} is {W} {k} {peak} {w} h = go (rule (W .matrix .lines) (W .matrix .width) k (matrixOf W w)) refl
   where
@@ -53,10 +53,10 @@ chosen-small {rule} is {W} {k} {peak} {w} h = go (rule (W .matrix .lines) (W .ma
         subst (λ (x : ℤ). natAbs x ≤ entryLimit) (sym (entry-state W w i j (l .row-below) (l .column-below))) (small-entry (W .matrix) (h .under) i j)
 
 -- The measure of the loop: a stage more counts for more than any entry, and within a stage the entry to be chosen falls.
-abbrev pub stagesLeft : Rule → Layout → ℕ → List ℤ → ℕ
+abbrev pub stagesLeft : Rule → Workspace → ℕ → List ℤ → ℕ
 stagesLeft rule W k w = (W .matrix .lines - k) * suc entryLimit + chosenSize rule W k w
 
-module _ {rule : Rule} {W : Layout} {peak₀ : ℕ} {w₀ : List ℤ} {k peak : ℕ} {w : List ℤ} (h : Reducing rule W peak₀ w₀ k peak w) where
+module _ {rule : Rule} {W : Workspace} {peak₀ : ℕ} {w₀ : List ℤ} {k peak : ℕ} {w : List ℤ} (h : Reducing rule W peak₀ w₀ k peak w) where
   -- the machine comes to letter a of stage l
   onward : {l peak′ : ℕ} {w′ : List ℤ} → Goes rule W (at Letter.a k (stateOf W peak w)) (at Letter.a l (stateOf W peak′ w′)) → Begun W l peak′ w′ → length w′ ≡ length w → Reducing rule W peak₀ w₀ l peak′ w′
   onward g b s = record { laid = h .laid; under = h .under; goes = reaches-trans entryLimit (sizesOf W) rule (h .goes) g; begun = b; same-length = s ∙ h .same-length }
@@ -65,7 +65,7 @@ module _ {rule : Rule} {W : Layout} {peak₀ : ℕ} {w₀ : List ℤ} {k peak : 
   ended is g = reaches-reduce entryLimit (sizesOf W) rule is (stateOf W peak₀ w₀) (shaped-state peak₀ w₀ (h .laid)) (within-under W (h .under)) (reaches-trans entryLimit (sizesOf W) rule (h .goes) g)
 
 -- the stage k that begins with the slice w has come to r and the slice w′
-module _ {rule : Rule} (is : IsRule rule) {W : Layout} {peak₀ : ℕ} {w₀ : List ℤ} {k peak : ℕ} {w : List ℤ} (h : Reducing rule W peak₀ w₀ k peak w) (rounds : ℕ) {r : Stage} (w′ : List ℤ) (e : ChoiceEnds rule W k rounds peak w r w′) where
+module _ {rule : Rule} (is : IsRule rule) {W : Workspace} {peak₀ : ℕ} {w₀ : List ℤ} {k peak : ℕ} {w : List ℤ} (h : Reducing rule W peak₀ w₀ k peak w) (rounds : ℕ) {r : Stage} (w′ : List ℤ) (e : ChoiceEnds rule W k rounds peak w r w′) where
   ends-as : {r′ : Stage} → r ≡ r′ → ChoiceEnds rule W k rounds peak w r′ w′
   ends-as i = subst (λ (r : Stage). ChoiceEnds rule W k rounds peak w r w′) i e
 

@@ -27,7 +27,7 @@ use Rattle.refusal.specs.declared.Refusal.{Refusal}
 use Rattle.refusal.specs.declared.Refusal.the-variants as refusal
 use Rattle.operations.specs.Laid.{Laid, sizesOf, stateOf}
 use Rattle.scans.specs.Scan.{ColumnReduced}
-use Rattle.operations.specs.declared.layout.Layout.{Layout}
+use Rattle.operations.specs.declared.workspace.Workspace.{Workspace}
 use Rattle.operations.proofs.Side.{shaped-state}
 use Rattle.passes.specs.declared.pass.Pass.{Pass}
 use Rattle.passes.specs.declared.pass.Pass.the-variants as pass
@@ -39,29 +39,29 @@ use Rattle.passes.proofs.States.{laid-kept, entry-state, rowsDone-moves}
 use Rattle.reducer.proofs.Tests.{columnKeeps-cong, rowKeeps-cong, firstIndivisible-cong}
 use Rattle.reducer.proofs.Measures.{columnCalls, calls-fall, chosen-at, smaller-chosen}
 
--- From the machine x the layout has come to letter l with the slice w′, of which P holds. The absolute value to be brought down, which was `bound`, has
+-- From the machine x the workspace has come to letter l with the slice w′, of which P holds. The absolute value to be brought down, which was `bound`, has
 -- fallen by `spent` at least.
-pub record Onward (rule : Rule) (P : Layout → ℕ → ℕ → List ℤ → Type 0) (size : Layout → ℕ → List ℤ → ℕ) (l : Letter) (W : Layout) (k : ℕ) (x : Machine) (n spent bound peak′ : ℕ) (w′ : List ℤ) : Type 0 where
+pub record Onward (rule : Rule) (P : Workspace → ℕ → ℕ → List ℤ → Type 0) (size : Workspace → ℕ → List ℤ → ℕ) (l : Letter) (W : Workspace) (k : ℕ) (x : Machine) (n spent bound peak′ : ℕ) (w′ : List ℤ) : Type 0 where
   pub holds : P W k peak′ w′
   pub falls : size W k w′ + spent ≤ bound
   pub goes : Goes rule W x (at l k (stateOf W peak′ w′))
   pub same-length : length w′ ≡ n
 
 -- from the choice to the row pass
-abbrev pub ToRows : Rule → Layout → ℕ → ℕ → List ℤ → ℕ → List ℤ → Type 0
+abbrev pub ToRows : Rule → Workspace → ℕ → ℕ → List ℤ → ℕ → List ℤ → Type 0
 ToRows rule W k peak w peak′ w′ = Onward rule Placed pivotSize Letter.c W k (at Letter.a k (stateOf W peak w)) (length w) 0 (chosenSize rule W k w) peak′ w′
 
 -- from letter l back to the choice
-abbrev pub ToChoice : Rule → Letter → Layout → ℕ → ℕ → List ℤ → ℕ → List ℤ → Type 0
+abbrev pub ToChoice : Rule → Letter → Workspace → ℕ → ℕ → List ℤ → ℕ → List ℤ → Type 0
 ToChoice rule l W k peak w peak′ w′ = Onward rule Begun (chosenSize rule) Letter.a W k (at l k (stateOf W peak w)) (length w) 1 (pivotSize W k w) peak′ w′
 
 -- from letter l to the column pass: from the row pass, or after step e
-abbrev pub ToColumns : Rule → Letter → Layout → ℕ → ℕ → List ℤ → ℕ → List ℤ → Type 0
+abbrev pub ToColumns : Rule → Letter → Workspace → ℕ → ℕ → List ℤ → ℕ → List ℤ → Type 0
 ToColumns rule l W k peak w peak′ w′ = Onward rule ColumnClear pivotSize Letter.d W k (at l k (stateOf W peak w)) (length w) 0 (pivotSize W k w) peak′ w′
 
 -- a stage that goes on from y ends as one from x that comes to y
 pub stage-after :
-    {rule : Rule} (W : Layout) (k rounds′ rounds size′ size : ℕ) (x y : Machine) (n : ℕ) (w : List ℤ) (r : Stage) (w′ : List ℤ) → size′ + rounds ≤ size + rounds′ → Goes rule W x y → length w ≡ n
+    {rule : Rule} (W : Workspace) (k rounds′ rounds size′ size : ℕ) (x y : Machine) (n : ℕ) (w : List ℤ) (r : Stage) (w′ : List ℤ) → size′ + rounds ≤ size + rounds′ → Goes rule W x y → length w ≡ n
     → StageEnds rule W k rounds′ size′ y (length w) r w′ → StageEnds rule W k rounds size x n r w′
 stage-after {rule} W k rounds′ rounds size′ size x y n w (stage.Cleared peak) w′ b g l e = record {
   goes = reaches-trans entryLimit (sizesOf W) rule g (e .goes);
@@ -85,14 +85,14 @@ stage-after {rule} W k rounds′ rounds size′ size x y n w (stage.Refused z) w
 
 -- what is spent is the rounds that the callee does not count
 pub onward-ends :
-    {rule : Rule} {P : Layout → ℕ → ℕ → List ℤ → Type 0} {size : Layout → ℕ → List ℤ → ℕ} {l : Letter} {W : Layout} {k : ℕ} {x : Machine} {n spent bound peak : ℕ} {w : List ℤ}
+    {rule : Rule} {P : Workspace → ℕ → ℕ → List ℤ → Type 0} {size : Workspace → ℕ → List ℤ → ℕ} {l : Letter} {W : Workspace} {k : ℕ} {x : Machine} {n spent bound peak : ℕ} {w : List ℤ}
     → Onward rule P size l W k x n spent bound peak w → (rounds′ rounds : ℕ) → rounds ≤ rounds′ + spent → (r : Stage) (w′ : List ℤ)
     → StageEnds rule W k rounds′ (size W k w) (at l k (stateOf W peak w)) (length w) r w′ → StageEnds rule W k rounds bound x n r w′
 onward-ends {rule} {P} {size} {l} {W} {k} {x} {n} {spent} {bound} {peak} {w} o rounds′ rounds b r w′ e =
     stage-after W k rounds′ rounds (size W k w) bound x (at l k (stateOf W peak w)) n w r w′ (omega (arith, o .falls)) (o .goes) (o .same-length) e
 
 -- no round is left, and the stage stays at letter a
-pub again : {rule : Rule} {W : Layout} {k peak : ℕ} {w : List ℤ} → Begun W k peak w → (rounds : ℕ) → rounds ≡ 0 → StageAgain rule W k rounds (chosenSize rule W k w) (at Letter.a k (stateOf W peak w)) (length w) peak w
+pub again : {rule : Rule} {W : Workspace} {k peak : ℕ} {w : List ℤ} → Begun W k peak w → (rounds : ℕ) → rounds ≡ 0 → StageAgain rule W k rounds (chosenSize rule W k w) (at Letter.a k (stateOf W peak w)) (length w) peak w
 again {rule} {W} {k} {peak} {w} h rounds e = record {
   goes = reaches-refl entryLimit (sizesOf W) rule (at Letter.a k (stateOf W peak w));
   begun = h;
@@ -101,12 +101,12 @@ again {rule} {W} {k} {peak} {w} h rounds e = record {
 }
 
 -- what a pass answered
-pub passed-made : {W : Layout} {o : Outcome} {n : ℕ} {r : Pass} {peak′ : ℕ} {w′ : List ℤ} → r ≡ pass.Made peak′ → Passed W o n r w′ → PassMade W o n peak′ w′
+pub passed-made : {W : Workspace} {o : Outcome} {n : ℕ} {r : Pass} {peak′ : ℕ} {w′ : List ℤ} → r ≡ pass.Made peak′ → Passed W o n r w′ → PassMade W o n peak′ w′
 passed-made {W} {o} {n} {r} {w′ = w′} e h = subst (λ (x : Pass). Passed W o n x w′) e h
 
 -- a pass that went too wide ends the stage
 pub pass-stops :
-    {rule : Rule} (W : Layout) (x : Machine) {o : Outcome} {n : ℕ} (r : Pass) {y : Refusal} (w′ : List ℤ) → (o ≡ tooWide → Goes rule W x wide) → r ≡ pass.Refused y → Passed W o n r w′
+    {rule : Rule} (W : Workspace) (x : Machine) {o : Outcome} {n : ℕ} (r : Pass) {y : Refusal} (w′ : List ℤ) → (o ≡ tooWide → Goes rule W x wide) → r ≡ pass.Refused y → Passed W o n r w′
     → StageRefused rule W x n refusal.TooWide w′
 pass-stops W x {o} {n} r {y} w′ f e h =
     let p : PassRefused o n y w′ = subst (λ (x : Pass). Passed W o n x w′) e h in
@@ -114,7 +114,7 @@ pass-stops W x {o} {n} r {y} w′ f e h =
 
 -- ---- letter a
 
-module _ {rule : Rule} (is : IsRule rule) (W : Layout) (k peak : ℕ) (w : List ℤ) where
+module _ {rule : Rule} (is : IsRule rule) (W : Workspace) (k peak : ℕ) (w : List ℤ) where
   -- the rule's choice, read from the slice
   choice-state : rule (W .matrix .lines) (W .matrix .width) k (contents (W .matrix) w) ≡ rule (W .matrix .lines) (W .matrix .width) k (matrixOf W w)
   choice-state = is .block (W .matrix .lines) (W .matrix .width) k (contents (W .matrix) w) (matrixOf W w) (λ i j _ a _ b. sym (entry-state W w i j a b))
@@ -154,7 +154,7 @@ module _ {rule : Rule} (is : IsRule rule) (W : Layout) (k peak : ℕ) (w : List 
 
 -- ---- letter c
 
-module _ {rule : Rule} (is : IsRule rule) {W : Layout} {k peak : ℕ} {w : List ℤ} (h : Placed W k peak w) where
+module _ {rule : Rule} (is : IsRule rule) {W : Workspace} {k peak : ℕ} {w : List ℤ} (h : Placed W k peak w) where
   pub rows-go : rowPassOf W k peak w ≡ tooWide → Goes rule W (at Letter.c k (stateOf W peak w)) wide
   rows-go o = reaches-next entryLimit (sizesOf W) rule (step-c-wide entryLimit (sizesOf W) rule k (stateOf W peak w) o)
 
@@ -212,7 +212,7 @@ module _ {rule : Rule} (is : IsRule rule) {W : Layout} {k peak : ℕ} {w : List 
 -- ---- letter d
 
 -- after a column pass that has cleared row k: letter e
-pub record RowClear (rule : Rule) (W : Layout) (k peak : ℕ) (w : List ℤ) (peak′ : ℕ) (w′ : List ℤ) : Type 0 where
+pub record RowClear (rule : Rule) (W : Workspace) (k peak : ℕ) (w : List ℤ) (peak′ : ℕ) (w′ : List ℤ) : Type 0 where
   pub laid : Laid (length w′) W
   pub under : Under peak′ w′
   pub ready : ReadyE (sizesOf W) k (stateOf W peak′ w′)
@@ -222,7 +222,7 @@ pub record RowClear (rule : Rule) (W : Layout) (k peak : ℕ) (w : List ℤ) (pe
   pub divided : (j : ℕ) → k < j → j < W .matrix .width → matrixOf W w k k ∣ℤ matrixOf W w k j
   pub same-length : length w′ ≡ length w
 
-module _ {rule : Rule} (is : IsRule rule) {W : Layout} {k peak : ℕ} {w : List ℤ} (h : ColumnClear W k peak w) where
+module _ {rule : Rule} (is : IsRule rule) {W : Workspace} {k peak : ℕ} {w : List ℤ} (h : ColumnClear W k peak w) where
   pub columns-go : columnPassOf W k peak w ≡ tooWide → Goes rule W (at Letter.d k (stateOf W peak w)) wide
   columns-go o = reaches-next entryLimit (sizesOf W) rule (step-d-wide entryLimit (sizesOf W) rule k (stateOf W peak w) o)
 
@@ -271,11 +271,11 @@ module _ {rule : Rule} (is : IsRule rule) {W : Layout} {k peak : ℕ} {w : List 
 -- ---- letter e
 
 -- from the column pass to the column pass after step e, which calls no further one
-pub record ColumnsAgain (rule : Rule) (W : Layout) (k peak : ℕ) (w : List ℤ) (peak′ : ℕ) (w′ : List ℤ) : Type 0 where
+pub record ColumnsAgain (rule : Rule) (W : Workspace) (k peak : ℕ) (w : List ℤ) (peak′ : ℕ) (w′ : List ℤ) : Type 0 where
   pub onward : ToColumns rule Letter.d W k peak w peak′ w′
   pub calls : columnCalls (W .matrix .width) k (matrixOf W w′) < columnCalls (W .matrix .width) k (matrixOf W w)
 
-module _ {rule : Rule} {W : Layout} {k peak : ℕ} {w : List ℤ} {peak′ : ℕ} {w′ : List ℤ} (h : RowClear rule W k peak w peak′ w′) where
+module _ {rule : Rule} {W : Workspace} {k peak : ℕ} {w : List ℤ} {peak′ : ℕ} {w′ : List ℤ} (h : RowClear rule W k peak w peak′ w′) where
   ready-pivot : ReadyC (sizesOf W) k (stateOf W peak′ w′)
   ready-pivot = h .ready .ready .ready
 

@@ -7,7 +7,7 @@ ghost use Rattle.reducer.specs.StageAnswers.{reductionOf, Reduces};
 use crate::stage::ROUNDS;
 use crate::stage::Stage;
 use crate::stage::choose_pivot;
-use operations::layout::Layout;
+use operations::workspace::Workspace;
 use refusal::Refusal;
 
 // Done with the rank and the peak, or refused.
@@ -17,15 +17,15 @@ pub enum Reduction {
 }
 
 // Reduces the matrix, and its companions with it, by the pivot rule. It is handed the peak so far.
-pub fn reduce_matrix(layout: Layout, w: &mut [i32], peak: u64) -> Reduction
-    requires { ⌜ Laid (length (now w)) layout ⌝ }
+pub fn reduce_matrix(workspace: Workspace, w: &mut [i32], peak: u64) -> Reduction
+    requires { ⌜ Laid (length (now w)) workspace ⌝ }
     requires { ⌜ Under peak (now w) ⌝ }
-    ensures { λ r. ⌜ Reduces layout (reductionOf pivotRule layout peak (now (w .entry))) (length (now (w .entry))) r (now (w .exit)) ⌝ }
+    ensures { λ r. ⌜ Reduces workspace (reductionOf pivotRule workspace peak (now (w .entry))) (length (now (w .entry))) r (now (w .exit)) ⌝ }
 {
     let mut largest = peak;
     let mut k: usize = 0;
     loop {
-        match choose_pivot(layout, w, k, ROUNDS, largest) {
+        match choose_pivot(workspace, w, k, ROUNDS, largest) {
             Stage::Cleared(reached) => {
                 k = k + 1;
                 largest = reached;

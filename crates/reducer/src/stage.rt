@@ -8,7 +8,7 @@ use elementary_operations::operation::Operation;
 use lines::line::Effect;
 use lines::line::clear;
 use numbers::absolute::larger;
-use operations::layout::Layout;
+use operations::workspace::Workspace;
 use passes::bring::bring_pivot;
 use passes::pass::Pass;
 use passes::pass::clear_column;
@@ -36,54 +36,60 @@ pub enum Stage {
 }
 
 // Steps a and b, where a round is left.
-pub fn choose_pivot(layout: Layout, w: &mut [i32], k: usize, rounds: usize, peak: u64) -> Stage
-    requires { ⌜ Begun layout k peak (now w) ⌝ }
-    ensures { λ r. ⌜ ChoiceEnds pivotRule layout k rounds peak (now (w .entry)) r (now (w .exit)) ⌝ }
+pub fn choose_pivot(
+    workspace: Workspace,
+    w: &mut [i32],
+    k: usize,
+    rounds: usize,
+    peak: u64,
+) -> Stage
+    requires { ⌜ Begun workspace k peak (now w) ⌝ }
+    ensures { λ r. ⌜ ChoiceEnds pivotRule workspace k rounds peak (now (w .entry)) r (now (w .exit)) ⌝ }
 {
     if rounds == 0 {
         return Stage::Again(peak);
     }
-    let Pivot::At(i, j) = find_pivot(layout.matrix, w, k) else {
+    let Pivot::At(i, j) = find_pivot(workspace.matrix, w, k) else {
         return Stage::Exhausted(peak);
     };
-    let Pass::Made(brought) = bring_pivot(layout, w, k, i, j, peak) else {
+    let Pass::Made(brought) = bring_pivot(workspace, w, k, i, j, peak) else {
         return Stage::Refused(Refusal::TooWide);
     };
-    row_pass(layout, w, k, rounds - 1, brought)
+    row_pass(workspace, w, k, rounds - 1, brought)
 }
 
 // Step c.
-fn row_pass(layout: Layout, w: &mut [i32], k: usize, rounds: usize, peak: u64) -> Stage
-    requires { ⌜ Placed layout k peak (now w) ⌝ }
-    ensures { λ r. ⌜ PassEnds pivotRule steps.c layout k rounds peak (now (w .entry)) r (now (w .exit)) ⌝ }
+fn row_pass(workspace: Workspace, w: &mut [i32], k: usize, rounds: usize, peak: u64) -> Stage
+    requires { ⌜ Placed workspace k peak (now w) ⌝ }
+    ensures { λ r. ⌜ PassEnds pivotRule steps.c workspace k rounds peak (now (w .entry)) r (now (w .exit)) ⌝ }
 {
-    let Pass::Made(cleared) = clear_column(layout, w, k, peak) else {
+    let Pass::Made(cleared) = clear_column(workspace, w, k, peak) else {
         return Stage::Refused(Refusal::TooWide);
     };
-    if column_keeps(layout.matrix, w, k) {
-        return choose_pivot(layout, w, k, rounds, cleared);
+    if column_keeps(workspace.matrix, w, k) {
+        return choose_pivot(workspace, w, k, rounds, cleared);
     }
-    column_pass(layout, w, k, rounds, cleared)
+    column_pass(workspace, w, k, rounds, cleared)
 }
 
 // Steps d and e.
-fn column_pass(layout: Layout, w: &mut [i32], k: usize, rounds: usize, peak: u64) -> Stage
-    requires { ⌜ ColumnClear layout k peak (now w) ⌝ }
-    ensures { λ r. ⌜ PassEnds pivotRule steps.d layout k rounds peak (now (w .entry)) r (now (w .exit)) ⌝ }
+fn column_pass(workspace: Workspace, w: &mut [i32], k: usize, rounds: usize, peak: u64) -> Stage
+    requires { ⌜ ColumnClear workspace k peak (now w) ⌝ }
+    ensures { λ r. ⌜ PassEnds pivotRule steps.d workspace k rounds peak (now (w .entry)) r (now (w .exit)) ⌝ }
 {
-    let Pass::Made(cleared) = clear_row(layout, w, k, peak) else {
+    let Pass::Made(cleared) = clear_row(workspace, w, k, peak) else {
         return Stage::Refused(Refusal::TooWide);
     };
-    if row_keeps(layout.matrix, w, k) {
-        return choose_pivot(layout, w, k, rounds, cleared);
+    if row_keeps(workspace.matrix, w, k) {
+        return choose_pivot(workspace, w, k, rounds, cleared);
     }
-    let Indivisible::Row(i) = first_indivisible(layout.matrix, w, k) else {
+    let Indivisible::Row(i) = first_indivisible(workspace.matrix, w, k) else {
         return Stage::Cleared(cleared);
     };
-    let Effect::Done(added) = layout.on_rows(w, Operation::Subtract(k, i, -1)) else {
+    let Effect::Done(added) = workspace.on_rows(w, Operation::Subtract(k, i, -1)) else {
         clear(w);
         return Stage::Refused(Refusal::TooWide);
     };
     let reached = larger(cleared, added);
-    column_pass(layout, w, k, rounds, reached)
+    column_pass(workspace, w, k, rounds, reached)
 }

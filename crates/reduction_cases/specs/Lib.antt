@@ -1,2 +1,2 @@
 -- What the contracts of the crate cite.
-pub mod Layout
+pub mod Workspace

@@ -3,9 +3,9 @@ ghost use mathlib.Core.Path.{_≡_};
 ghost use Prim.Native.Nat.{_+_, _*_, _<_, _≤_};
 ghost use lib.ListN.{length};
 ghost use Rattle.lines.specs.Slice.{Small};
-ghost use Rattle.reduction_cases.specs.Layout.{slots, Slotted, LaidOut};
+ghost use Rattle.reduction_cases.specs.Workspace.{slots, Slotted, LaidOut};
 use lines::matrix::Matrix;
-use operations::layout::Layout;
+use operations::workspace::Workspace;
 
 fn byte(s: &[u8], i: usize) -> u32
     requires { ⌜ i < length (now s) ⌝ }
@@ -81,14 +81,14 @@ fn write_identity(m: Matrix, w: &mut [i32])
 }
 
 // Makes every companion an identity.
-pub fn write_identities(layout: Layout, w: &mut [i32])
-    requires { ⌜ LaidOut layout ⌝ }
+pub fn write_identities(workspace: Workspace, w: &mut [i32])
+    requires { ⌜ LaidOut workspace ⌝ }
     requires { ⌜ length (now w) ≡ slots ⌝ }
     requires { ⌜ Small (now w) ⌝ }
     ensures { λ r. ⌜ Small (now (w .exit)) ⌝ }
 {
-    write_identity(layout.row_inverse, w);
-    write_identity(layout.row_follower, w);
-    write_identity(layout.column_follower, w);
-    write_identity(layout.column_inverse, w);
+    write_identity(workspace.row_inverse, w);
+    write_identity(workspace.row_follower, w);
+    write_identity(workspace.column_follower, w);
+    write_identity(workspace.column_inverse, w);
 }

@@ -2,19 +2,19 @@
 // rows, its columns and the companions asked for, then its entries row by row, each in four bytes. tests/pack_matrices.py makes the input and, by an
 // independent implementation of document 01, the output that is due.
 mod entries;
-mod layout;
 mod print;
+mod workspace;
 
 ghost use Prim.Native.Nat.{_≤_};
 ghost use lib.ListN.{length};
-ghost use Rattle.reduction_cases.specs.Layout.{side};
+ghost use Rattle.reduction_cases.specs.Workspace.{side};
 use crate::entries::read_entries;
 use crate::entries::write_identities;
-use crate::layout::SIDE;
-use crate::layout::SLOTS;
-use crate::layout::asked_for;
-use crate::layout::lay_out;
 use crate::print::print_reduced;
+use crate::workspace::SIDE;
+use crate::workspace::SLOTS;
+use crate::workspace::asked_for;
+use crate::workspace::lay_out;
 use libc::STDIN_FILENO;
 use libc::STDOUT_FILENO;
 use lines::matrix::Matrix;
@@ -29,14 +29,14 @@ fn answer(rows: usize, columns: usize, companions: u8, entries: &[u8]) -> bool
     requires { ⌜ length (now entries) ≤ 256 ⌝ }
 {
     let asked = asked_for(companions);
-    let layout = lay_out(rows, columns, asked);
+    let workspace = lay_out(rows, columns, asked);
     let mut w = [0i32; SLOTS];
     if !read_entries(entries, &mut w) {
         return false;
     }
-    write_identities(layout, &mut w);
-    match reduce_matrix(layout, &mut w, Matrix::ENTRY_LIMIT as u64) {
-        Reduction::Done(rank, _) => print_reduced(rank, asked, layout, &w),
+    write_identities(workspace, &mut w);
+    match reduce_matrix(workspace, &mut w, Matrix::ENTRY_LIMIT as u64) {
+        Reduction::Done(rank, _) => print_reduced(rank, asked, workspace, &w),
         Reduction::Refused(_) => {
             io::write_all(STDOUT_FILENO, b"T\n");
         }

@@ -2,11 +2,11 @@
 ghost use mathlib.Core.Path.{_≡_};
 ghost use Prim.Native.Nat.{_+_, _*_, _<_, _≤_};
 ghost use lib.ListN.{length};
-ghost use Rattle.reduction_cases.specs.Layout.{side, slots, Slotted, LaidOut};
-use crate::layout::Asked;
+ghost use Rattle.reduction_cases.specs.Workspace.{side, slots, Slotted, LaidOut};
+use crate::workspace::Asked;
 use libc::STDOUT_FILENO;
 use lines::matrix::Matrix;
-use operations::layout::Layout;
+use operations::workspace::Workspace;
 
 // Writes a space and x.
 fn print_number(x: i32) {
@@ -72,24 +72,24 @@ fn print_columns(mark: &[u8], w: &[i32], m: Matrix)
 }
 
 // Writes the rank, the matrix and the companions asked for.
-pub fn print_reduced(rank: usize, asked: Asked, layout: Layout, w: &[i32])
-    requires { ⌜ LaidOut layout ⌝ }
+pub fn print_reduced(rank: usize, asked: Asked, workspace: Workspace, w: &[i32])
+    requires { ⌜ LaidOut workspace ⌝ }
     requires { ⌜ length (now w) ≡ slots ⌝ }
 {
     io::write_all(STDOUT_FILENO, b"D ");
     io::print_decimal(STDOUT_FILENO, rank as u64);
     io::write_all(STDOUT_FILENO, b"\n");
-    print_rows(b"M", w, layout.matrix);
+    print_rows(b"M", w, workspace.matrix);
     if asked.row_follower {
-        print_rows(b"R", w, layout.row_follower);
+        print_rows(b"R", w, workspace.row_follower);
     }
     if asked.row_inverse {
-        print_columns(b"r", w, layout.row_inverse);
+        print_columns(b"r", w, workspace.row_inverse);
     }
     if asked.column_follower {
-        print_columns(b"C", w, layout.column_follower);
+        print_columns(b"C", w, workspace.column_follower);
     }
     if asked.column_inverse {
-        print_rows(b"c", w, layout.column_inverse);
+        print_rows(b"c", w, workspace.column_inverse);
     }
 }

@@ -30,8 +30,8 @@ use Rattle.lines.specs.declared.matrix.Matrix.{Matrix}
 use Rattle.operations.specs.Laid.{Laid, linesOf, stateOf}
 use Rattle.operations.proofs.Regions.{lines-off, lines-on}
 use Rattle.operations.proofs.Operate.{largest-under}
-use Rattle.two_reductions.specs.Layouts.{matrixAt, firstLayout, secondLayout}
-use Rattle.two_reductions.specs.Slices.{firstLayoutOf, secondLayoutOf}
+use Rattle.two_reductions.specs.Workspaces.{matrixAt, firstWorkspace, secondWorkspace}
+use Rattle.two_reductions.specs.Slices.{firstWorkspaceOf, secondWorkspaceOf}
 use Rattle.two_reductions.proofs.Places.{second-laid, matrix-row-inverse, matrix-row-follower}
 use Rattle.two_reductions.proofs.Filling.{state-is, lines-absent}
 
@@ -52,43 +52,43 @@ unfolding largest
 matrix-largest s = omega arith
 
 module _ (K : Sections) (p n r : ℕ) (slots : workSlots K p ≤ n) (within : r ≤ count K p) (peak : ℕ) (w : List ℤ)
-    (shaped : Shaped (firstSizes noTransforms K p) (stateOf (firstLayoutOf K p) peak w)) where
+    (shaped : Shaped (firstSizes noTransforms K p) (stateOf (firstWorkspaceOf K p) peak w)) where
   -- Q times the boundary matrix of dimension p + 1
   abbrev pub multiplied : theory.Matrix
-  multiplied = mul (count K p) (contents (secondLayoutOf K p r .«row_follower») w) (boundary K (suc p))
+  multiplied = mul (count K p) (contents (secondWorkspaceOf K p r .«row_follower») w) (boundary K (suc p))
 
-  pub laid-second : Laid n (secondLayoutOf K p r)
+  pub laid-second : Laid n (secondWorkspaceOf K p r)
   laid-second =
       second-laid (count K p) (countBelow K p) (count K (suc p)) slots r within
 
-  Q-is : Eq (count K p - r) (count K p) (contents (secondLayoutOf K p r .«row_follower») w)
-      (entry (drop r (stateOf (firstLayoutOf K p) peak w .columnInverse)))
-  unfolding firstLayout secondLayout
+  Q-is : Eq (count K p - r) (count K p) (contents (secondWorkspaceOf K p r .«row_follower») w)
+      (entry (drop r (stateOf (firstWorkspaceOf K p) peak w .columnInverse)))
+  unfolding firstWorkspace secondWorkspace
   Q-is = later-lines _ (count K p) (count K p) r w
 
-  G-is : Eq (count K p - r) (count K p) (contents (secondLayoutOf K p r .«row_inverse») w)
-      (entry (drop r (stateOf (firstLayoutOf K p) peak w .columnFollower)))
-  unfolding firstLayout secondLayout
+  G-is : Eq (count K p - r) (count K p) (contents (secondWorkspaceOf K p r .«row_inverse») w)
+      (entry (drop r (stateOf (firstWorkspaceOf K p) peak w .columnFollower)))
+  unfolding firstWorkspace secondWorkspace
   G-is = later-lines _ (count K p) (count K p) r w
 
-  product-is : table (count K p - r) (count K (suc p)) multiplied ≡ product K p r (stateOf (firstLayoutOf K p) peak w)
+  product-is : table (count K p - r) (count K (suc p)) multiplied ≡ product K p r (stateOf (firstWorkspaceOf K p) peak w)
   unfolding product
   product-is = table-ext (mul-ext Q-is (Eq-refl (count K p) (count K (suc p)) (boundary K (suc p))))
 
-  module _ (under : Under peak w) {x : ℕ} {w′ : List ℤ} (h : Holds (secondLayoutOf K p r .matrix) w everywhere multiplied 0 x w′) where
+  module _ (under : Under peak w) {x : ℕ} {w′ : List ℤ} (h : Holds (secondWorkspaceOf K p r .matrix) w everywhere multiplied 0 x w′) where
     -- before the peak takes in what stands there
     abbrev begun : ℕ → State
     begun top = record {
-      matrix = product K p r (stateOf (firstLayoutOf K p) peak w);
-      rowFollower = drop r (stateOf (firstLayoutOf K p) peak w .columnInverse);
-      rowInverse = drop r (stateOf (firstLayoutOf K p) peak w .columnFollower);
+      matrix = product K p r (stateOf (firstWorkspaceOf K p) peak w);
+      rowFollower = drop r (stateOf (firstWorkspaceOf K p) peak w .columnInverse);
+      rowInverse = drop r (stateOf (firstWorkspaceOf K p) peak w .columnFollower);
       columnFollower = absent (count K (suc p));
       columnInverse = absent (count K (suc p));
       peak = top;
     }
 
-    tables : (top : ℕ) → stateOf (secondLayoutOf K p r) top w′ ≡ begun top
-    unfolding linesOf secondLayout secondStart
+    tables : (top : ℕ) → stateOf (secondWorkspaceOf K p r) top w′ ≡ begun top
+    unfolding linesOf secondWorkspace secondStart
     tables top =
         state-is
         (lines-on h ∙ product-is)
@@ -98,46 +98,46 @@ module _ (K : Sections) (p n r : ℕ) (slots : workSlots K p ≤ n) (within : r 
         (lines-absent end (count K (suc p)) w′)
         refl
       where
-        later : Shaped (secondSizes noTransforms K p r) (secondStart noTransforms K p r (stateOf (firstLayoutOf K p) peak w))
-        later = second-shaped noTransforms K p r (stateOf (firstLayoutOf K p) peak w) shaped
+        later : Shaped (secondSizes noTransforms K p r) (secondStart noTransforms K p r (stateOf (firstWorkspaceOf K p) peak w))
+        later = second-shaped noTransforms K p r (stateOf (firstWorkspaceOf K p) peak w) shaped
 
         end : ℕ
-        end = secondLayoutOf K p r .«column_follower» .at
+        end = secondWorkspaceOf K p r .«column_follower» .at
 
     pub product-under : Under (max peak x) w′
     product-under = under-covered under (h .covered) (h .bounded)
 
     -- the larger one of the peak and what the product answers is the larger one of the peak and the largest entry now
     peak-is : max peak x ≡ max peak (largest (begun peak))
-    unfolding secondLayout
+    unfolding secondWorkspace
     peak-is =
         le-antisymm (max-le (le-max-left peak (largest (begun peak))) (le-trans (answer (h .wrote)) (le-max-right peak (largest (begun peak)))))
-        (max-le (le-max-left peak x) (subst (λ (s : State). largest s ≤ max peak x) (tables peak) (largest-under (secondLayoutOf K p r) peak product-under)))
+        (max-le (le-max-left peak x) (subst (λ (s : State). largest s ≤ max peak x) (tables peak) (largest-under (secondWorkspaceOf K p r) peak product-under)))
       where
         entry-product : (i j : ℕ) → i < count K p - r → j < count K (suc p) → natAbs (multiplied i j) ≤ tableLargest (begun peak .matrix)
         entry-product =
             tableLargest-table (tableLargest (begun peak .matrix)) (count K p - r) (count K (suc p)) multiplied .0
             (subst (λ (T : Table). tableLargest T ≤ tableLargest (begun peak .matrix)) (sym product-is) (le-refl (tableLargest (begun peak .matrix))))
 
-        answer : (x ≡ 0) ⊎ EntryOf (secondLayoutOf K p r .matrix) everywhere multiplied x → x ≤ largest (begun peak)
+        answer : (x ≡ 0) ⊎ EntryOf (secondWorkspaceOf K p r .matrix) everywhere multiplied x → x ≤ largest (begun peak)
         answer (inl e) = omega arith
         answer (inr o) =
             le-trans (le-of-eq (o .is)) (le-trans (entry-product (o .line) (o .place) (o .line-below) (o .place-below)) (matrix-largest (begun peak)))
 
-    pub second-state : stateOf (secondLayoutOf K p r) (max peak x) w′ ≡ secondStart noTransforms K p r (stateOf (firstLayoutOf K p) peak w)
+    pub second-state : stateOf (secondWorkspaceOf K p r) (max peak x) w′ ≡ secondStart noTransforms K p r (stateOf (firstWorkspaceOf K p) peak w)
     unfolding secondStart
     second-state = tables (max peak x) ∙ ap begun peak-is
 
-    pub product-narrow : tableWithin entryLimit (product K p r (stateOf (firstLayoutOf K p) peak w)) ≡ true
-    unfolding secondLayout
+    pub product-narrow : tableWithin entryLimit (product K p r (stateOf (firstWorkspaceOf K p) peak w)) ≡ true
+    unfolding secondWorkspace
     product-narrow =
         rw (← product-is)
         (tableWithin-table entryLimit (count K p - r) (count K (suc p)) multiplied .1
         (λ i j s t. subst (λ (x : ℤ). natAbs x ≤ entryLimit) (h .on .at i j s t) (h .bounded .bound (lineAt 0 (count K (suc p)) i + j))))
 
-  pub product-beyond : {w′ : List ℤ} → Exceeds (secondLayoutOf K p r .matrix) w multiplied w′
-      → tableWithin entryLimit (product K p r (stateOf (firstLayoutOf K p) peak w)) ≡ false
-  unfolding secondLayout
+  pub product-beyond : {w′ : List ℤ} → Exceeds (secondWorkspaceOf K p r .matrix) w multiplied w′
+      → tableWithin entryLimit (product K p r (stateOf (firstWorkspaceOf K p) peak w)) ≡ false
+  unfolding secondWorkspace
   product-beyond h =
       rw (← product-is)
       (tableWithin-false entryLimit (table (count K p - r) (count K (suc p)) multiplied) (h .line) (h .place)

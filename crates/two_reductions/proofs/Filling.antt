@@ -21,13 +21,13 @@ use Rattle.lines.specs.Slice.{entryLimit, lineAt, Under}
 use Rattle.lines.specs.Matrices.{contents, Held, everywhere, Holds}
 use Rattle.lines.specs.declared.matrix.Matrix.{Matrix}
 use Rattle.operations.specs.Laid.{Laid, linesOf, stateOf}
-use Rattle.operations.specs.declared.layout.Layout.{Layout}
+use Rattle.operations.specs.declared.workspace.Workspace.{Workspace}
 use Rattle.operations.proofs.Regions.{disjoint-sym, contents-apart, lines-off, lines-on}
 use Rattle.operations.proofs.Operate.{largest-under}
 use Rattle.boundaries.specs.Filled.{MatrixFilled}
 use Rattle.boundaries.proofs.Filled.{filled-under, filled-holds}
-use Rattle.two_reductions.specs.Layouts.{matrixAt, firstLayout}
-use Rattle.two_reductions.specs.Slices.{firstLayoutOf, startPeak, Filled}
+use Rattle.two_reductions.specs.Workspaces.{matrixAt, firstWorkspace}
+use Rattle.two_reductions.specs.Slices.{firstWorkspaceOf, startPeak, Filled}
 use Rattle.two_reductions.proofs.Places.{first-laid, held-column-follower, held-column-inverse, matrix-column-follower, matrix-column-inverse, column-follower-inverse}
 
 -- ---- a slice of zeros
@@ -86,43 +86,43 @@ CanFill M w = Held (length w) M × (M .lines ≡ M .width) × Eq (M .lines) (M .
 
 module _ (K : Sections) (p n : ℕ) (slots : workSlots K p ≤ n) where
   -- the slice of zeros, and what is written in it by one call after another
-  pub record Written (W : Layout) (w₁ w₂ w₃ : List ℤ) : Type 0 where
+  pub record Written (W : Workspace) (w₁ w₂ w₃ : List ℤ) : Type 0 where
     pub matrix : MatrixFilled (W .matrix) (replicate n (pos 0)) (boundary K p) w₁
     pub follower : MatrixFilled (W .«column_follower») w₁ identity w₂
     pub inverse : MatrixFilled (W .«column_inverse») w₂ identity w₃
 
-  first-laid-of : Laid n (firstLayoutOf K p)
+  first-laid-of : Laid n (firstWorkspaceOf K p)
   first-laid-of = first-laid (count K p) (countBelow K p) (count K (suc p)) slots
 
-  module _ {w₁ w₂ w₃ : List ℤ} (small : (i j : ℕ) → natAbs (boundary K p i j) ≤ 1) (h : Written (firstLayoutOf K p) w₁ w₂ w₃) where
+  module _ {w₁ w₂ w₃ : List ℤ} (small : (i j : ℕ) → natAbs (boundary K p i j) ≤ 1) (h : Written (firstWorkspaceOf K p) w₁ w₂ w₃) where
     abbrev start : ℕ
     start = startPeak (count K p)
 
     zeros-under : Under start (replicate n (pos 0))
     zeros-under = record { bound = λ i. rw (zero-at n i) zero-le; limit = start-limit (count K p) }
 
-    matrix-holds : Holds (firstLayoutOf K p .matrix) (replicate n (pos 0)) everywhere (boundary K p) start start w₁
-    unfolding firstLayout
+    matrix-holds : Holds (firstWorkspaceOf K p .matrix) (replicate n (pos 0)) everywhere (boundary K p) start start w₁
+    unfolding firstWorkspace
     matrix-holds = filled-holds (h .matrix) zeros-under (λ i j a b. le-trans (small i j) (start-one (count K p) j b))
 
     matrix-under : Under start w₁
-    unfolding firstLayout
+    unfolding firstWorkspace
     matrix-under = filled-under (h .matrix) zeros-under (λ i j a b. le-trans (small i j) (start-one (count K p) j b))
 
-    follower-holds : Holds (firstLayoutOf K p .«column_follower») w₁ everywhere identity start start w₂
-    unfolding firstLayout
+    follower-holds : Holds (firstWorkspaceOf K p .«column_follower») w₁ everywhere identity start start w₂
+    unfolding firstWorkspace
     follower-holds = filled-holds (h .follower) matrix-under (λ i j a b. le-trans (identity-small i j) (start-one (count K p) j b))
 
     follower-under : Under start w₂
-    unfolding firstLayout
+    unfolding firstWorkspace
     follower-under = filled-under (h .follower) matrix-under (λ i j a b. le-trans (identity-small i j) (start-one (count K p) j b))
 
-    inverse-holds : Holds (firstLayoutOf K p .«column_inverse») w₂ everywhere identity start start w₃
-    unfolding firstLayout
+    inverse-holds : Holds (firstWorkspaceOf K p .«column_inverse») w₂ everywhere identity start start w₃
+    unfolding firstWorkspace
     inverse-holds = filled-holds (h .inverse) follower-under (λ i j a b. le-trans (identity-small i j) (start-one (count K p) j b))
 
     inverse-under : Under start w₃
-    unfolding firstLayout
+    unfolding firstWorkspace
     inverse-under = filled-under (h .inverse) follower-under (λ i j a b. le-trans (identity-small i j) (start-one (count K p) j b))
 
     -- before the peak takes in what stands there
@@ -136,8 +136,8 @@ module _ (K : Sections) (p n : ℕ) (slots : workSlots K p ≤ n) where
       peak = top;
     }
 
-    tables : (top : ℕ) → stateOf (firstLayoutOf K p) top w₃ ≡ begun top
-    unfolding firstLayout
+    tables : (top : ℕ) → stateOf (firstWorkspaceOf K p) top w₃ ≡ begun top
+    unfolding firstWorkspace
     tables top =
         state-is
         (lines-off (disjoint-sym (matrix-column-inverse first-laid-of)) inverse-holds
@@ -152,7 +152,7 @@ module _ (K : Sections) (p n : ℕ) (slots : workSlots K p ≤ n) where
         room : ℕ
         room = count K p * max (countBelow K p) (count K (suc p))
 
-    first-state : stateOf (firstLayoutOf K p) start w₃ ≡ firstStart noTransforms K p
+    first-state : stateOf (firstWorkspaceOf K p) start w₃ ≡ firstStart noTransforms K p
     unfolding firstStart
     first-state = tables start ∙ ap begun start-is
       where
@@ -169,19 +169,19 @@ module _ (K : Sections) (p n : ℕ) (slots : workSlots K p ≤ n) where
         start-is : start ≡ max 0 (largest (begun 0))
         start-is =
             le-antisymm (le-trans (reached (count K p) refl) (le-max-right 0 (largest (begun 0))))
-            (max-le zero-le (subst (λ (s : State). largest s ≤ start) (tables 0) (largest-under (firstLayoutOf K p) 0 inverse-under)))
+            (max-le zero-le (subst (λ (s : State). largest s ≤ start) (tables 0) (largest-under (firstWorkspaceOf K p) 0 inverse-under)))
 
-  module _ (W : Layout) (is : W ≡ firstLayoutOf K p) where
+  module _ (W : Workspace) (is : W ≡ firstWorkspaceOf K p) where
     pub laid : Laid n W
     laid = rw is first-laid-of
 
     -- the matrix has the rows and columns of the boundary matrix
     pub matrix-rows : W .matrix .lines ≡ countBelow K p
-    unfolding firstLayout
+    unfolding firstWorkspace
     matrix-rows = rw is refl
 
     pub matrix-columns : W .matrix .width ≡ count K p
-    unfolding firstLayout
+    unfolding firstWorkspace
     matrix-columns = rw is refl
 
     pub filled : {w₁ w₂ w₃ : List ℤ} → ((i j : ℕ) → natAbs (boundary K p i j) ≤ 1) → Written W w₁ w₂ w₃ → Filled K p n w₃
@@ -194,7 +194,7 @@ module _ (K : Sections) (p n : ℕ) (slots : workSlots K p ≤ n) where
     }
 
     pub follower-fills : {w : List ℤ} {A : theory.Matrix} → MatrixFilled (W .matrix) (replicate n (pos 0)) A w → CanFill (W .«column_follower») w
-    unfolding firstLayout
+    unfolding firstWorkspace
     follower-fills {w} h = (
       rw (h .same-length, length-replicate) (held-column-follower laid),
       square,
@@ -206,7 +206,7 @@ module _ (K : Sections) (p n : ℕ) (slots : workSlots K p ≤ n) where
 
     pub inverse-fills : {w w′ : List ℤ} {A B : theory.Matrix} → MatrixFilled (W .matrix) (replicate n (pos 0)) A w → MatrixFilled (W .«column_follower») w B w′
         → CanFill (W .«column_inverse») w′
-    unfolding firstLayout
+    unfolding firstWorkspace
     inverse-fills {w} {w′} h k = (
       rw (k .same-length, h .same-length, length-replicate) (held-column-inverse laid),
       square,

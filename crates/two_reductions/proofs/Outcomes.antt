@@ -33,14 +33,14 @@ use Rattle.lines.specs.declared.line.Effect.the-variants as effect
 use Rattle.refusal.specs.declared.Refusal.{Refusal}
 use Rattle.refusal.specs.declared.Refusal.the-variants as refusal
 use Rattle.operations.specs.Laid.{Laid, stateOf}
-use Rattle.operations.specs.declared.layout.Layout.{Layout}
+use Rattle.operations.specs.declared.workspace.Workspace.{Workspace}
 use Rattle.passes.specs.PassAnswers.{Cleared, StillUnder}
 use Rattle.reducer.specs.StageAnswers.{Reduces, ReductionDone, ReductionRefused, reductionOf}
 use Rattle.reducer.specs.declared.reduction.Reduction.{Reduction}
 use Rattle.reducer.specs.declared.reduction.Reduction.the-variants as reduction
 use Rattle.two_reductions.specs.declared.reduced.Reduced.{Reduced}
-use Rattle.two_reductions.specs.Layouts.{firstLayout, secondLayout}
-use Rattle.two_reductions.specs.Slices.{firstLayoutOf, secondLayoutOf, startPeak, Filled, TwiceReduced}
+use Rattle.two_reductions.specs.Workspaces.{firstWorkspace, secondWorkspace}
+use Rattle.two_reductions.specs.Slices.{firstWorkspaceOf, secondWorkspaceOf, startPeak, Filled, TwiceReduced}
 use Rattle.two_reductions.specs.declared.reductions.Reductions.the-variants.{Done, Refused}
 use Rattle.two_reductions.proofs.Places.{held-row-follower}
 use Rattle.two_reductions.proofs.Between.{laid-second, second-state, product-narrow, product-beyond}
@@ -54,7 +54,7 @@ cleared-length {n} h = ap length (h .zeros) ∙ length-replicate n (pos 0)
 
 -- ---- the case that a call answered
 
-module _ (W : Layout) {y : Machine} {n : ℕ} {w : List ℤ} (x : Reduction) where
+module _ (W : Workspace) {y : Machine} {n : ℕ} {w : List ℤ} (x : Reduction) where
   pub reduces-done : {r peak : ℕ} → x ≡ reduction.Done r peak → Reduces W y n x w → ReductionDone W y n r peak w
   reduces-done e h = subst (λ (z : Reduction). Reduces W y n z w) e h
 
@@ -71,24 +71,24 @@ module _ {M : Matrix} {w w′ : List ℤ} {A : theory.Matrix} (x : Effect) where
 module _ {rule : Rule} (is-rule : IsRule rule) (K : Sections) (p n : ℕ) (chains : ChainComplex libraryLimit K) (slots : workSlots K p ≤ n) where
   -- the first reduction is done with rank r, and the slice holds the state that it leaves, with the peak
   pub record FirstDone (r peak : ℕ) (w : List ℤ) : Type 0 where
-    pub outcome : reduce entryLimit (firstSizes noTransforms K p) rule (firstStart noTransforms K p) ≡ done r (stateOf (firstLayoutOf K p) peak w)
+    pub outcome : reduce entryLimit (firstSizes noTransforms K p) rule (firstStart noTransforms K p) ≡ done r (stateOf (firstWorkspaceOf K p) peak w)
     pub rank-within : r ≤ count K p
-    pub shaped : Shaped (firstSizes noTransforms K p) (stateOf (firstLayoutOf K p) peak w)
+    pub shaped : Shaped (firstSizes noTransforms K p) (stateOf (firstWorkspaceOf K p) peak w)
     pub kept : StillUnder n peak w
 
   -- the product lies within the limit, and the slice holds the start of the second reduction
   pub record SecondStarted (r peak : ℕ) (w : List ℤ) (peak′ : ℕ) (w′ : List ℤ) : Type 0 where
     pub first : FirstDone r peak w
-    pub state : stateOf (secondLayoutOf K p r) peak′ w′ ≡ secondStart noTransforms K p r (stateOf (firstLayoutOf K p) peak w)
-    pub narrow : tableWithin entryLimit (product K p r (stateOf (firstLayoutOf K p) peak w)) ≡ true
+    pub state : stateOf (secondWorkspaceOf K p r) peak′ w′ ≡ secondStart noTransforms K p r (stateOf (firstWorkspaceOf K p) peak w)
+    pub narrow : tableWithin entryLimit (product K p r (stateOf (firstWorkspaceOf K p) peak w)) ≡ true
     pub kept : StillUnder n peak′ w′
 
   -- ---- the first reduction
 
-  module _ (W : Layout) (is : W ≡ firstLayoutOf K p) {w : List ℤ} (f : Filled K p n w) {peak : ℕ} (from : peak ≡ startPeak (count K p)) where
+  module _ (W : Workspace) (is : W ≡ firstWorkspaceOf K p) {w : List ℤ} (f : Filled K p n w) {peak : ℕ} (from : peak ≡ startPeak (count K p)) where
     -- it starts as the definition's
     starts : reductionOf rule W peak w ≡ reduce entryLimit (firstSizes noTransforms K p) rule (firstStart noTransforms K p)
-    unfolding firstLayout
+    unfolding firstWorkspace
     starts = rw (is, from) (ap (reduce entryLimit (firstSizes noTransforms K p) rule) (f .state))
 
     pub first-refused : {x : Refusal} {w′ : List ℤ} → ReductionRefused (reductionOf rule W peak w) (length w) x w′
@@ -106,25 +106,25 @@ module _ {rule : Rule} (is-rule : IsRule rule) (K : Sections) (p n : ℕ) (chain
       kept = record { same-length = h .kept .same-length ∙ f .kept .same-length; under = h .kept .under };
     }
       where
-        outcome : reduce entryLimit (firstSizes noTransforms K p) rule (firstStart noTransforms K p) ≡ done r (stateOf (firstLayoutOf K p) peak′ w′)
-        outcome = sym starts ∙ h .outcome ∙ ap (λ (X : Layout). done r (stateOf X peak′ w′)) is
+        outcome : reduce entryLimit (firstSizes noTransforms K p) rule (firstStart noTransforms K p) ≡ done r (stateOf (firstWorkspaceOf K p) peak′ w′)
+        outcome = sym starts ∙ h .outcome ∙ ap (λ (X : Workspace). done r (stateOf X peak′ w′)) is
 
-        right : machine.Reduced entryLimit (firstSizes noTransforms K p) (firstStart noTransforms K p) r (stateOf (firstLayoutOf K p) peak′ w′)
-        right = first-reduced chains noTransforms rule is-rule entryLimit p (omega arith) r (stateOf (firstLayoutOf K p) peak′ w′) outcome
+        right : machine.Reduced entryLimit (firstSizes noTransforms K p) (firstStart noTransforms K p) r (stateOf (firstWorkspaceOf K p) peak′ w′)
+        right = first-reduced chains noTransforms rule is-rule entryLimit p (omega arith) r (stateOf (firstWorkspaceOf K p) peak′ w′) outcome
 
   -- ---- the product
 
-  module _ {r peak : ℕ} {w : List ℤ} (f : FirstDone r peak w) (W : Layout) (is : W ≡ secondLayoutOf K p r) where
+  module _ {r peak : ℕ} {w : List ℤ} (f : FirstDone r peak w) (W : Workspace) (is : W ≡ secondWorkspaceOf K p r) where
     pub laid-then : Laid n W
     laid-then = rw is (laid-second K p n r slots (f .rank-within) peak w (f .shaped))
 
     -- what `multiply` asks of Q and of the matrix
     pub Q-width : W .«row_follower» .width ≡ count K p
-    unfolding secondLayout
+    unfolding secondWorkspace
     Q-width = rw is refl
 
     pub product-width : W .matrix .width ≡ count K (suc p)
-    unfolding secondLayout
+    unfolding secondWorkspace
     product-width = rw is refl
 
     pub Q-held : Held (length w) (W .«row_follower»)
@@ -135,14 +135,14 @@ module _ {rule : Rule} (is-rule : IsRule rule) (K : Sections) (p n : ℕ) (chain
     asked = mul (W .«row_follower» .width) (contents (W .«row_follower») w) (boundary K (suc p))
 
     pub product-refused : {w′ : List ℤ} → Exceeds (W .matrix) w asked w′ → reductionsOf rule K p ≡ reports.tooWide
-    unfolding secondLayout
+    unfolding secondWorkspace
     product-refused {w′} h =
-        product-wide noTransforms rule entryLimit K p r (stateOf (firstLayoutOf K p) peak w) (f .outcome)
+        product-wide noTransforms rule entryLimit K p r (stateOf (firstWorkspaceOf K p) peak w) (f .outcome)
         (product-beyond K p n r slots (f .rank-within) peak w (f .shaped) (rw is at h))
 
     -- the product answered x, and the second reduction starts with the larger one of that and the peak of the first
     pub second-started : {x peak′ : ℕ} {w′ : List ℤ} → Holds (W .matrix) w everywhere asked 0 x w′ → peak′ ≡ max peak x → SecondStarted r peak w peak′ w′
-    unfolding secondLayout
+    unfolding secondWorkspace
     second-started {x} {peak′} {w′} h e = subst (λ (m : ℕ). SecondStarted r peak w m w′) (sym e) (record {
       first = f;
       state = second-state K p n r slots (f .rank-within) peak w (f .shaped) (f .kept .under) (rw is at h);
@@ -152,25 +152,25 @@ module _ {rule : Rule} (is-rule : IsRule rule) (K : Sections) (p n : ℕ) (chain
 
   -- ---- the second reduction
 
-  module _ {r peak : ℕ} {w : List ℤ} {peak′ : ℕ} {w′ : List ℤ} (s : SecondStarted r peak w peak′ w′) (W : Layout) (is : W ≡ secondLayoutOf K p r) where
-    starts-again : reductionOf rule W peak′ w′ ≡ reduce entryLimit (secondSizes noTransforms K p r) rule (secondStart noTransforms K p r (stateOf (firstLayoutOf K p) peak w))
-    unfolding secondLayout
+  module _ {r peak : ℕ} {w : List ℤ} {peak′ : ℕ} {w′ : List ℤ} (s : SecondStarted r peak w peak′ w′) (W : Workspace) (is : W ≡ secondWorkspaceOf K p r) where
+    starts-again : reductionOf rule W peak′ w′ ≡ reduce entryLimit (secondSizes noTransforms K p r) rule (secondStart noTransforms K p r (stateOf (firstWorkspaceOf K p) peak w))
+    unfolding secondWorkspace
     starts-again = rw is (ap (reduce entryLimit (secondSizes noTransforms K p r) rule) (s .state))
 
     pub second-refused : {x : Refusal} {w″ : List ℤ} → ReductionRefused (reductionOf rule W peak′ w′) (length w′) x w″
         → TwiceReduced K p (reductionsOf rule K p) n (Refused refusal.TooWide) w″
     second-refused h = (
-      second-wide noTransforms rule entryLimit K p r (stateOf (firstLayoutOf K p) peak w) (s .first .outcome) (s .narrow) (sym starts-again ∙ h .outcome),
+      second-wide noTransforms rule entryLimit K p r (stateOf (firstWorkspaceOf K p) peak w) (s .first .outcome) (s .narrow) (sym starts-again ∙ h .outcome),
       cleared (s .kept .same-length) (h .cleared),
     )
 
     pub second-done : {last peak″ : ℕ} {w″ : List ℤ} → ReductionDone W (reductionOf rule W peak′ w′) (length w′) last peak″ w″
-        → TwiceReduced K p (reductionsOf rule K p) n (Done (record { layout = W; rank = last; peak = peak″ })) w″
-    unfolding secondLayout afterSecond
+        → TwiceReduced K p (reductionsOf rule K p) n (Done (record { workspace = W; rank = last; peak = peak″ })) w″
+    unfolding secondWorkspace afterSecond
     second-done {last} {peak″} {w″} h = record {
       first-rank = r;
       rank-within = s .first .rank-within;
-      layout-is = is;
+      workspace-is = is;
       is = outcome;
       rank-below = reductions-right chains noTransforms rule is-rule entryLimit p (omega arith) (W .matrix .lines) last (stateOf W peak″ w″) outcome .rank-bound;
       kept = record { same-length = h .kept .same-length ∙ s .kept .same-length; under = h .kept .under };
@@ -178,6 +178,6 @@ module _ {rule : Rule} (is-rule : IsRule rule) (K : Sections) (p n : ℕ) (chain
       where
         outcome : reductionsOf rule K p ≡ reports.reduced (W .matrix .lines) last (stateOf W peak″ w″)
         outcome =
-            after-second noTransforms rule entryLimit K p r (stateOf (firstLayoutOf K p) peak w) (s .first .outcome) (s .narrow)
+            after-second noTransforms rule entryLimit K p r (stateOf (firstWorkspaceOf K p) peak w) (s .first .outcome) (s .narrow)
             (done last (stateOf W peak″ w″)) (sym starts-again ∙ h .outcome)
-            ∙ ap (λ (k : ℕ). reports.reduced k last (stateOf W peak″ w″)) (sym (ap (λ (X : Layout). X .matrix .lines) is))
+            ∙ ap (λ (k : ℕ). reports.reduced k last (stateOf W peak″ w″)) (sym (ap (λ (X : Workspace). X .matrix .lines) is))

@@ -12,7 +12,7 @@ use Rattle.reports.specs.Reductions as reports
 use Rattle.lines.specs.Slice.{at, lineAt, Under}
 use Rattle.lines.specs.declared.matrix.Matrix.{Matrix}
 use Rattle.operations.specs.Laid.{linesOf, stateOf}
-use Rattle.operations.specs.declared.layout.Layout.{Layout}
+use Rattle.operations.specs.declared.workspace.Workspace.{Workspace}
 use Rattle.two_reductions.specs.Slices.{TwiceReduced, ZeroFrom}
 use Rattle.two_reductions.specs.declared.reductions.Reductions.{Reductions}
 use Rattle.two_reductions.specs.declared.reductions.Reductions.the-variants.{Done, Refused}
@@ -47,7 +47,7 @@ module _ (w : List ℤ) (k : ℕ) where
   unfolding linesOf
   lines-front M = table-ext (record { at = λ i j a b. at-front w k (lineAt (M .at) (M .width) i + j) })
 
-  state-front : (W : Layout) (peak : ℕ) → stateOf W peak (w ++ zeros k) ≡ stateOf W peak w
+  state-front : (W : Workspace) (peak : ℕ) → stateOf W peak (w ++ zeros k) ≡ stateOf W peak w
   state-front W peak =
       state-is (lines-front (W .matrix)) (lines-front (W .«row_follower»)) (lines-front (W .«row_inverse»)) (lines-front (W .«column_follower»))
       (lines-front (W .«column_inverse»)) refl
@@ -60,8 +60,8 @@ module _ (w : List ℤ) (k : ℕ) where
   twice-whole K p y m n (Done x) e h = record {
     first-rank = h .first-rank;
     rank-within = h .rank-within;
-    layout-is = h .layout-is;
-    is = h .is ∙ ap (reports.reduced (x .layout .matrix .lines) (x .rank)) (sym (state-front (x .layout) (x .peak)));
+    workspace-is = h .workspace-is;
+    is = h .is ∙ ap (reports.reduced (x .workspace .matrix .lines) (x .rank)) (sym (state-front (x .workspace) (x .peak)));
     rank-below = h .rank-below;
     kept = record {
       same-length = length-append w (zeros k) ∙ omega (arith, h .kept .same-length, length-replicate k (pos 0), e);

@@ -5,9 +5,9 @@ use native.Mathlib.Nat.{mul-comm, mul-zero, mul-add, add-mul, mul-le-mul, le-ref
 use native.Mathlib.Omega.{arith}
 use Rattle.lines.specs.Matrices.{Held}
 use Rattle.operations.specs.Laid.{Laid}
-use Rattle.operations.specs.declared.layout.Layout.{Layout}
+use Rattle.operations.specs.declared.workspace.Workspace.{Workspace}
 use Rattle.operations.proofs.Regions.{Disjoint}
-use Rattle.two_reductions.specs.Layouts.{firstLayout, secondLayout}
+use Rattle.two_reductions.specs.Workspaces.{firstWorkspace, secondWorkspace}
 
 module _ {n : ℕ} (cells rows columns : ℕ) (slots : cells * (2 * cells + max rows columns) ≤ n) where
   -- the room for the matrix, then two squares
@@ -20,8 +20,8 @@ module _ {n : ℕ} (cells rows columns : ℕ) (slots : cells * (2 * cells + max 
   rows-fit : rows * cells ≤ cells * max rows columns
   rows-fit = omega (arith, mul-comm rows cells, mul-le-mul (le-refl cells) (le-max-left rows columns))
 
-  pub first-laid : Laid n (firstLayout cells rows columns)
-  unfolding firstLayout
+  pub first-laid : Laid n (firstWorkspace cells rows columns)
+  unfolding firstWorkspace
   first-laid = record {
     row-inverse-lines = refl;
     row-follower-lines = refl;
@@ -42,8 +42,8 @@ module _ {n : ℕ} (cells rows columns : ℕ) (slots : cells * (2 * cells + max 
     product-fits : (cells - rank) * columns ≤ cells * max rows columns
     product-fits = mul-le-mul (omega arith) (le-max-right rows columns)
 
-    pub second-laid : Laid n (secondLayout cells rows columns rank)
-    unfolding secondLayout
+    pub second-laid : Laid n (secondWorkspace cells rows columns rank)
+    unfolding secondWorkspace
     second-laid = record {
       row-inverse-lines = refl;
       row-follower-lines = refl;
@@ -58,7 +58,7 @@ module _ {n : ℕ} (cells rows columns : ℕ) (slots : cells * (2 * cells + max 
 
 -- ---- each matrix lies within the slice
 
-module _ {n : ℕ} {W : Layout} (l : Laid n W) where
+module _ {n : ℕ} {W : Workspace} (l : Laid n W) where
   pub held-matrix : Held n (W .matrix)
   held-matrix = record { ends = omega arith }
 

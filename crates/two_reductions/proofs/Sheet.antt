@@ -19,10 +19,10 @@ use Rattle.fields.specs.Read.{ReadsBelow}
 use Rattle.limits.specs.Limits.{libraryLimit}
 use Rattle.requests.specs.Call.{workSlots}
 use Rattle.faces.specs.Face.{Accepted}
-use Rattle.two_reductions.specs.Layouts.{firstLayout, secondLayout}
+use Rattle.two_reductions.specs.Workspaces.{firstWorkspace, secondWorkspace}
 use Rattle.two_reductions.specs.CellCounts.{CellCountsRead}
 use Rattle.two_reductions.specs.declared.cell_counts.CellCounts.{CellCounts}
-use Rattle.two_reductions.specs.Slices.{firstLayoutOf, secondLayoutOf}
+use Rattle.two_reductions.specs.Slices.{firstWorkspaceOf, secondWorkspaceOf}
 
 pub rows-none : (K : Sections) (p : ℕ) → p ≡ 0 → countBelow K p ≡ 0
 unfolding countBelow
@@ -77,8 +77,8 @@ module _ {K : Sections} {p : ℕ} {n : CellCounts} (h : CellCountsRead K p n) wh
   pub slots-of : n .cells * (2 * n .cells + max (n .rows) (n .columns)) ≡ workSlots K p
   slots-of = ap (λ (k : CellCounts). k .cells * (2 * k .cells + max (k .rows) (k .columns))) (h .is)
 
-  pub first-of : firstLayout (n .cells) (n .rows) (n .columns) ≡ firstLayoutOf K p
-  first-of = ap (λ (k : CellCounts). firstLayout (k .cells) (k .rows) (k .columns)) (h .is)
+  pub first-of : firstWorkspace (n .cells) (n .rows) (n .columns) ≡ firstWorkspaceOf K p
+  first-of = ap (λ (k : CellCounts). firstWorkspace (k .cells) (k .rows) (k .columns)) (h .is)
 
-  pub second-of : (rank : ℕ) → secondLayout (n .cells) (n .rows) (n .columns) rank ≡ secondLayoutOf K p rank
-  second-of rank = ap (λ (k : CellCounts). secondLayout (k .cells) (k .rows) (k .columns) rank) (h .is)
+  pub second-of : (rank : ℕ) → secondWorkspace (n .cells) (n .rows) (n .columns) rank ≡ secondWorkspaceOf K p rank
+  second-of rank = ap (λ (k : CellCounts). secondWorkspace (k .cells) (k .rows) (k .columns) rank) (h .is)

@@ -10,8 +10,8 @@ use Rattle.reports.specs.Reductions as reports
 use Rattle.reports.specs.Reductions.{noTransforms, firstStart}
 use Rattle.lines.specs.Slice.{at}
 use Rattle.operations.specs.Laid.{stateOf}
-use Rattle.two_reductions.specs.Layouts.{firstLayout, secondLayout}
-use Rattle.operations.specs.declared.layout.Layout.{Layout}
+use Rattle.two_reductions.specs.Workspaces.{firstWorkspace, secondWorkspace}
+use Rattle.operations.specs.declared.workspace.Workspace.{Workspace}
 use Rattle.passes.specs.PassAnswers.{Cleared, StillUnder}
 use Rattle.two_reductions.specs.declared.reduced.Reduced.{Reduced}
 use Rattle.two_reductions.specs.declared.reductions.Reductions.{Reductions}
@@ -19,15 +19,15 @@ use Rattle.two_reductions.specs.declared.reductions.Reductions.the-varia
 
 -- ---- where the matrices of dimension p of the cells K stand
 
-abbrev pub firstLayoutOf : Sections → ℕ → Layout
-firstLayoutOf K p = firstLayout (count K p) (countBelow K p) (count K (suc p))
+abbrev pub firstWorkspaceOf : Sections → ℕ → Workspace
+firstWorkspaceOf K p = firstWorkspace (count K p) (countBelow K p) (count K (suc p))
 
-abbrev pub secondLayoutOf : Sections → ℕ → ℕ → Layout
-secondLayoutOf K p rank = secondLayout (count K p) (countBelow K p) (count K (suc p)) rank
+abbrev pub secondWorkspaceOf : Sections → ℕ → ℕ → Workspace
+secondWorkspaceOf K p rank = secondWorkspace (count K p) (countBelow K p) (count K (suc p)) rank
 
 -- the state that the two reductions leave
 abbrev pub stateIn : Reduced → List ℤ → State
-stateIn x w = stateOf (x .layout) (x .peak) w
+stateIn x w = stateOf (x .workspace) (x .peak) w
 
 -- the peak at the start of the first reduction
 abbrev pub startPeak : ℕ → ℕ
@@ -36,16 +36,16 @@ startPeak (suc cells) = 1
 
 -- the slice of length n holds the start of the first reduction
 pub record Filled (K : Sections) (p n : ℕ) (w′ : List ℤ) : Type 0 where
-  pub state : stateOf (firstLayoutOf K p) (startPeak (count K p)) w′ ≡ firstStart noTransforms K p
+  pub state : stateOf (firstWorkspaceOf K p) (startPeak (count K p)) w′ ≡ firstStart noTransforms K p
   pub kept : StillUnder n (startPeak (count K p)) w′
 
 -- The two reductions came to x, and the slice holds the state that the second leaves, with the peak of both; its matrix has a line for each row of Q.
 pub record ReducedTwice (K : Sections) (p : ℕ) (y : reports.Reductions) (n : ℕ) (x : Reduced) (w′ : List ℤ) : Type 0 where
   pub first-rank : ℕ
   pub rank-within : first-rank ≤ count K p
-  pub layout-is : x .layout ≡ secondLayoutOf K p first-rank
-  pub is : y ≡ reports.reduced (x .layout .matrix .lines) (x .rank) (stateIn x w′)
-  pub rank-below : x .rank ≤ x .layout .matrix .lines
+  pub workspace-is : x .workspace ≡ secondWorkspaceOf K p first-rank
+  pub is : y ≡ reports.reduced (x .workspace .matrix .lines) (x .rank) (stateIn x w′)
+  pub rank-below : x .rank ≤ x .workspace .matrix .lines
   pub kept : StillUnder n (x .peak) w′
 
 abbrev pub TwiceReduced : Sections → ℕ → reports.Reductions → ℕ → Reductions → List ℤ → Type 0

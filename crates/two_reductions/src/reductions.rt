@@ -10,19 +10,19 @@ ghost use Rattle.requests.specs.Call.{workSlots};
 ghost use Rattle.reports.specs.Reductions.{reductionsOf};
 ghost use Rattle.faces.specs.Face.{Accepted};
 ghost use Rattle.two_reductions.specs.CellCounts.{CellCountsRead};
-ghost use Rattle.two_reductions.specs.Slices.{firstLayoutOf, startPeak, Filled, TwiceReduced, ZeroFrom};
+ghost use Rattle.two_reductions.specs.Slices.{firstWorkspaceOf, startPeak, Filled, TwiceReduced, ZeroFrom};
 use crate::cell_counts::CellCounts;
-use crate::layouts::first_layout;
-use crate::layouts::second_layout;
-use crate::layouts::work_slots;
 use crate::reduced::Reduced;
+use crate::workspaces::first_workspace;
+use crate::workspaces::second_workspace;
+use crate::workspaces::work_slots;
 use boundaries::fill::fill_boundary;
 use boundaries::fill::fill_identity;
 use boundaries::product::multiply;
 use lines::line::Effect;
 use lines::line::clear;
 use numbers::absolute::larger;
-use operations::layout::Layout;
+use operations::workspace::Workspace;
 use reducer::reduction::Reduction;
 use reducer::reduction::reduce_matrix;
 use refusal::Refusal;
@@ -33,18 +33,18 @@ pub enum Reductions {
 }
 
 // Sets up the first reduction in a slice that reads 0: the boundary matrix of dimension p, V and its inverse.
-fn fill_first(s: &[u8], p: usize, layout: Layout, w: &mut [i32])
+fn fill_first(s: &[u8], p: usize, workspace: Workspace, w: &mut [i32])
     requires { ⌜ Accepted (now s) × (p ≤ top) ⌝ }
     requires { ⌜ workSlots (sectionsOf (now s)) p ≤ length (now w) ⌝ }
-    requires { ⌜ layout ≡ firstLayoutOf (sectionsOf (now s)) p ⌝ }
+    requires { ⌜ workspace ≡ firstWorkspaceOf (sectionsOf (now s)) p ⌝ }
     requires { ⌜ now w ≡ replicate (length (now w)) (pos 0) ⌝ }
     ensures { λ r. ⌜ Filled (sectionsOf (now (s .entry))) p (length (now (w .entry))) (now (w .exit)) ⌝ }
 {
     if 0 < p {
-        fill_boundary(s, p - 1, layout.matrix, w);
+        fill_boundary(s, p - 1, workspace.matrix, w);
     }
-    fill_identity(layout.column_follower, w);
-    fill_identity(layout.column_inverse, w);
+    fill_identity(workspace.column_follower, w);
+    fill_identity(workspace.column_inverse, w);
 }
 
 // The peak at the start of the first reduction: V and its inverse are identities, and no entry of the boundary matrix is larger.
@@ -54,7 +54,7 @@ fn start_peak(cells: usize) -> u64
     if cells == 0 { 0 } else { 1 }
 }
 
-// Reduces the boundary matrix of dimension p, then Q times the one of p + 1, in the part of the work slice that their layouts use, which reads 0.
+// Reduces the boundary matrix of dimension p, then Q times the one of p + 1, in the part of the work slice that their workspaces use, which reads 0.
 fn reduce_part(s: &[u8], p: usize, n: CellCounts, w: &mut [i32]) -> Reductions
     requires { ⌜ Accepted (now s) × (p ≤ top) ⌝ }
     requires { ⌜ workSlots (sectionsOf (now s)) p ≤ length (now w) ⌝ }
@@ -62,12 +62,12 @@ fn reduce_part(s: &[u8], p: usize, n: CellCounts, w: &mut [i32]) -> Reductions
     requires { ⌜ now w ≡ replicate (length (now w)) (pos 0) ⌝ }
     ensures { λ r. ⌜ TwiceReduced (sectionsOf (now (s .entry))) p (reductionsOf pivotRule (sectionsOf (now (s .entry))) p) (length (now (w .entry))) r (now (w .exit)) ⌝ }
 {
-    let first = first_layout(n.cells, n.rows, n.columns);
+    let first = first_workspace(n.cells, n.rows, n.columns);
     fill_first(s, p, first, w);
     let Reduction::Done(rank, halfway) = reduce_matrix(first, w, start_peak(n.cells)) else {
         return Reductions::Refused(Refusal::TooWide);
     };
-    let second = second_layout(n.cells, n.rows, n.columns, rank);
+    let second = second_workspace(n.cells, n.rows, n.columns, rank);
     let Effect::Done(product) = multiply(s, p, second.row_follower, second.matrix, w) else {
         clear(w);
         return Reductions::Refused(Refusal::TooWide);
@@ -77,13 +77,13 @@ fn reduce_part(s: &[u8], p: usize, n: CellCounts, w: &mut [i32]) -> Reductions
         return Reductions::Refused(Refusal::TooWide);
     };
     Reductions::Done(Reduced {
-        layout: second,
+        workspace: second,
         rank: last,
         peak,
     })
 }
 
-// The two reductions of dimension p. The work slice is cleared first, and the slots behind those of the layouts are not lent.
+// The two reductions of dimension p. The work slice is cleared first, and the slots behind those of the workspaces are not lent.
 pub fn reduce_twice(s: &[u8], p: usize, n: CellCounts, w: &mut [i32]) -> Reductions
     requires { ⌜ Accepted (now s) × (p ≤ top) ⌝ }
     requires { ⌜ workSlots (sectionsOf (now s)) p ≤ length (now w) ⌝ }

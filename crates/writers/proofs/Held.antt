@@ -1,11 +1,11 @@
--- The matrices of a layout lie within the slice: `matrix-held`, `row-inverse-held`, `row-follower-held`.
+-- The matrices of a workspace lie within the slice: `matrix-held`, `row-inverse-held`, `row-follower-held`.
 use Prim.Native.Nat.{ℕ}
 use native.Mathlib.Omega.{arith}
 use Rattle.lines.specs.Matrices.{Held}
 use Rattle.operations.specs.Laid.{Laid}
-use Rattle.operations.specs.declared.layout.Layout.{Layout}
+use Rattle.operations.specs.declared.workspace.Workspace.{Workspace}
 
-module _ {n : ℕ} {W : Layout} (laid : Laid n W) where
+module _ {n : ℕ} {W : Workspace} (laid : Laid n W) where
   pub row-follower-held : Held n (W .«row_follower»)
   row-follower-held = record { ends = omega arith }
 

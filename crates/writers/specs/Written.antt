@@ -41,9 +41,9 @@ pub record CopiedLine (M : Matrix) (w : List ℤ) (i from : ℕ) (slice slice′
 
 -- what the counts are read from
 pub record CanCount (x : Reduced) (w : List ℤ) : Type 0 where
-  pub laid : Laid (length w) (x .layout)
-  pub kinds : Kinds (x .layout .matrix) w
-  pub rank-below : x .rank ≤ x .layout .matrix .lines
+  pub laid : Laid (length w) (x .workspace)
+  pub kinds : Kinds (x .workspace .matrix) w
+  pub rank-below : x .rank ≤ x .workspace .matrix .lines
 
 -- counts as those of the report's definition
 abbrev pub countsIn : Counts → report.Counts
@@ -51,33 +51,33 @@ countsIn r = record { free = r .free; torsion = r .torsion; peak = r .peak; bits
 
 -- r are the report's counts
 abbrev pub Counted : Reduced → List ℤ → Counts → Type 0
-Counted x w r = countsIn r ≡ countsOf (x .layout .matrix .lines) (x .rank) (stateIn x w)
+Counted x w r = countsIn r ≡ countsOf (x .workspace .matrix .lines) (x .rank) (stateIn x w)
 
 -- what the report is written from: no kind is negative, Q has no more rows than there are cells, and there is room for the report
 pub record CanReport (x : Reduced) (w : List ℤ) (m : ℕ) : Type 0 where
-  pub laid : Laid (length w) (x .layout)
-  pub kinds : Kinds (x .layout .matrix) w
-  pub rank-below : x .rank ≤ x .layout .matrix .lines
-  pub lines-below : x .layout .matrix .lines ≤ x .layout .«row_inverse» .width
-  pub room : 2 + x .rank + x .layout .matrix .lines * x .layout .«row_inverse» .width ≤ m
+  pub laid : Laid (length w) (x .workspace)
+  pub kinds : Kinds (x .workspace .matrix) w
+  pub rank-below : x .rank ≤ x .workspace .matrix .lines
+  pub lines-below : x .workspace .matrix .lines ≤ x .workspace .«row_inverse» .width
+  pub room : 2 + x .rank + x .workspace .matrix .lines * x .workspace .«row_inverse» .width ≤ m
 
 pub record WroteReport (x : Reduced) (w slice : List ℤ) (r : Counts) (slice′ : List ℤ) : Type 0 where
   pub counts : Counted x w r
-  pub is : slice′ ≡ written (reportList (x .layout .«row_inverse» .width) (x .layout .matrix .lines) (x .rank) (stateIn x w)) slice
+  pub is : slice′ ≡ written (reportList (x .workspace .«row_inverse» .width) (x .workspace .matrix .lines) (x .rank) (stateIn x w)) slice
 
 -- what the coordinates are written from: no kind is negative, there is room for them from slot `from` on, and the chain is one of the dimension
 pub record CanCoordinate (x : Reduced) (w z : List ℤ) (from m : ℕ) : Type 0 where
-  pub laid : Laid (length w) (x .layout)
+  pub laid : Laid (length w) (x .workspace)
   pub small : Small w
-  pub kinds : Kinds (x .layout .matrix) w
-  pub room : from + x .layout .matrix .lines ≤ m
-  pub width : x .layout .«row_follower» .width ≡ length z
+  pub kinds : Kinds (x .workspace .matrix) w
+  pub room : from + x .workspace .matrix .lines ≤ m
+  pub width : x .workspace .«row_follower» .width ≡ length z
   pub width-within : length z ≤ libraryLimit
   pub coefficients : (j : ℕ) → natAbs (at z j) ≤ coefficientLimit
 
 -- the coordinates of the chain z
 abbrev pub coordinatesOf : Reduced → List ℤ → List ℤ → List ℤ
-coordinatesOf x w z = coordinateList (x .layout .«row_follower» .width) (x .layout .matrix .lines) (stateIn x w) z
+coordinatesOf x w z = coordinateList (x .workspace .«row_follower» .width) (x .workspace .matrix .lines) (stateIn x w) z
 
 -- what the coordinates of many chains are written from
 pub record CanList (x : Reduced) (w : List ℤ) (cells many : ℕ) (chains : List ℤ) (m : ℕ) : Type 0 where

@@ -50,8 +50,8 @@ pub fn write_coordinates(
         (now (coordinates .exit))
         ⌝ }
 {
-    let m = reduced.layout.matrix;
-    let q = reduced.layout.row_follower;
+    let m = reduced.workspace.matrix;
+    let q = reduced.workspace.row_follower;
     let lines = m.lines;
     let mut next = from;
     let mut i: usize = 0;

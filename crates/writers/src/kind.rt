@@ -39,7 +39,7 @@ pub fn counts(reduced: Reduced, w: &[i32]) -> Counts
     requires { ⌜ CanCount reduced (now w) ⌝ }
     ensures { λ r. ⌜ Counted reduced (now (w .entry)) r ⌝ }
 {
-    let m = reduced.layout.matrix;
+    let m = reduced.workspace.matrix;
     let rank = reduced.rank;
     let peak = reduced.peak;
     Counts {

@@ -79,8 +79,8 @@ pub fn write_report(reduced: Reduced, w: &[i32], report: &mut [i64]) -> Counts
     requires { ⌜ CanReport reduced (now w) (length (now report)) ⌝ }
     ensures { λ r. ⌜ WroteReport reduced (now (w .entry)) (now (report .entry)) r (now (report .exit)) ⌝ }
 {
-    let m = reduced.layout.matrix;
-    let g = reduced.layout.row_inverse;
+    let m = reduced.workspace.matrix;
+    let g = reduced.workspace.row_inverse;
     let rank = reduced.rank;
     let counted = counts(reduced, w);
     report[0] = counted.free as i64;

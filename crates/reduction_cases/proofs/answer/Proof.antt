@@ -1,4 +1,4 @@
--- `reduction_cases::answer` is safe and ends: the slots start at 0, each call keeps their count and the limit, and the layout is one that the
+-- `reduction_cases::answer` is safe and ends: the slots start at 0, each call keeps their count and the limit, and the workspace is one that the
 -- reduction asks for.
 use mathlib.Core.Path.{_≡_, refl, sym, subst}
 use Prim.Native.Nat.{ℕ, zero, suc, _≤_}
@@ -9,7 +9,7 @@ use borrow.Author.Needs.{needs}
 use Rattle.lines.specs.Slice.{entryLimit, at, Small}
 use Rattle.lines.proofs.Peaks.{small-under}
 use Rattle.operations.specs.Laid.{Laid}
-use Rattle.reduction_cases.specs.Layout.{slots}
+use Rattle.reduction_cases.specs.Workspace.{slots}
 use Rattle.reduction_cases.proofs.answer.Statement.{statement}
 use Rattle.reduction_cases.proofs.answer.Tie as tie
 

@@ -82,8 +82,8 @@ module _ (c : tie.After-read-chain Inv-loop μ-loop) where
       let x = start .args .reduced in let state = stateIn x (now (start .args .w)) in
       omega (
         arith,
-        length-coordinateList (x .layout .«row_follower» .width) (x .layout .matrix .lines) state (chainOf cells many bytes i),
-        length-reported-le (kind state) (x .layout .matrix .lines),
+        length-coordinateList (x .workspace .«row_follower» .width) (x .workspace .matrix .lines) state (chainOf cells many bytes i),
+        length-reported-le (kind state) (x .workspace .matrix .lines),
         start .pre .short,
       )
 

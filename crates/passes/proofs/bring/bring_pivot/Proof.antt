@@ -28,14 +28,14 @@ module _ (c : tie.After-larger) where
   rows-peak = c .larger .result
 
   rows-swapped :
-      onRow entryLimit (sizesOf (first .args .layout)) (swap (first .args .i) (first .args .k)) (stateOf (first .args .layout) (first .args .peak) (first .args .w .now))
-      ≡ made (stateOf (first .args .layout) rows-peak (rows-called .swap-rows .last .1 .0))
+      onRow entryLimit (sizesOf (first .args .workspace)) (swap (first .args .i) (first .args .k)) (stateOf (first .args .workspace) (first .args .peak) (first .args .w .now))
+      ≡ made (stateOf (first .args .workspace) rows-peak (rows-called .swap-rows .last .1 .0))
   rows-swapped = operated-done (rows-called .swap-rows .ensures) (c .before .before .rows .given .1) (first .pre .1 .0) (c .larger .ensures)
 
   rows-under : Under rows-peak (rows-called .swap-rows .last .1 .0)
   rows-under = operated-under (rows-called .swap-rows .ensures) (c .before .before .rows .given .1) (first .pre .1 .0) (c .larger .ensures)
 
-  laid-first : Laid (length (rows-called .swap-rows .last .1 .0)) (first .args .layout)
+  laid-first : Laid (length (rows-called .swap-rows .last .1 .0)) (first .args .workspace)
   laid-first = laid-kept (rows-called .swap-rows .last .1 .0) (first .pre .0) (rows-called .swap-rows .kept .1 .0)
 
 -- ---- after the columns were swapped
@@ -54,18 +54,18 @@ module _ (c : tie.After-larger2) where
   under = operated-under (called .swap-columns .ensures) (c .before .before .columns .given .1) (rows-under rows) (c .larger2 .ensures)
 
   both-swapped :
-      bringOf (first rows .args .layout) (first rows .args .k) (first rows .args .i) (first rows .args .j) (first rows .args .peak) (first rows .args .w .now)
-      ≡ positive entryLimit (sizesOf (first rows .args .layout)) (first rows .args .k) (stateOf (first rows .args .layout) peak (called .swap-columns .last .1 .0))
+      bringOf (first rows .args .workspace) (first rows .args .k) (first rows .args .i) (first rows .args .j) (first rows .args .peak) (first rows .args .w .now)
+      ≡ positive entryLimit (sizesOf (first rows .args .workspace)) (first rows .args .k) (stateOf (first rows .args .workspace) peak (called .swap-columns .last .1 .0))
   both-swapped =
-      bring-swapped entryLimit (sizesOf (first rows .args .layout)) (first rows .args .k) (first rows .args .i) (first rows .args .j) (stateOf (first rows .args .layout) (first rows .args .peak) (first rows .args .w .now))
-      (stateOf (first rows .args .layout) (rows-peak rows) (rows-called rows .swap-rows .last .1 .0))
-      (stateOf (first rows .args .layout) peak (called .swap-columns .last .1 .0))
+      bring-swapped entryLimit (sizesOf (first rows .args .workspace)) (first rows .args .k) (first rows .args .i) (first rows .args .j) (stateOf (first rows .args .workspace) (first rows .args .peak) (first rows .args .w .now))
+      (stateOf (first rows .args .workspace) (rows-peak rows) (rows-called rows .swap-rows .last .1 .0))
+      (stateOf (first rows .args .workspace) peak (called .swap-columns .last .1 .0))
       (rows-swapped rows) (operated-done (called .swap-columns .ensures) (c .before .before .columns .given .1) (rows-under rows) (c .larger2 .ensures))
 
   kept-both : length (called .swap-columns .last .1 .0) ≡ length (first rows .args .w .now)
   kept-both = called .swap-columns .kept .1 .0 ∙ rows-called rows .swap-rows .kept .1 .0
 
-  laid-both : Laid (length (called .swap-columns .last .1 .0)) (first rows .args .layout)
+  laid-both : Laid (length (called .swap-columns .last .1 .0)) (first rows .args .workspace)
   laid-both = laid-kept (called .swap-columns .last .1 .0) (first rows .pre .0) kept-both
 
 -- ---- the needs
@@ -92,7 +92,7 @@ returns c =
     let start = c .before .before .before .before .before .before .before .before in
     let called = c .before .before .before .before .before .before .swap-rows in
     pass-refused (called .last .1 .0)
-    (bring-rows-wide entryLimit (sizesOf (start .args .layout)) (start .args .k) (start .args .i) (start .args .j) (stateOf (start .args .layout) (start .args .peak) (start .args .w .now))
+    (bring-rows-wide entryLimit (sizesOf (start .args .workspace)) (start .args .k) (start .args .i) (start .args .j) (stateOf (start .args .workspace) (start .args .peak) (start .args .w .now))
     (operated-wide (called .ensures) (c .before .before .before .enum-told .given .1) (start .pre .1 .0)))
     (c .before .clear .ensures) (called .kept .1 .0)
 
@@ -123,9 +123,9 @@ returns-2 c =
     let rows = c .before .before .before .before .before .before .before .before in
     let called = c .before .before .before .before .before .before .swap-columns in
     pass-refused (called .last .1 .0)
-    (bring-columns-wide entryLimit (sizesOf (first rows .args .layout)) (first rows .args .k) (first rows .args .i) (first rows .args .j)
-    (stateOf (first rows .args .layout) (first rows .args .peak) (first rows .args .w .now))
-    (stateOf (first rows .args .layout) (rows-peak rows) (rows-called rows .swap-rows .last .1 .0))
+    (bring-columns-wide entryLimit (sizesOf (first rows .args .workspace)) (first rows .args .k) (first rows .args .i) (first rows .args .j)
+    (stateOf (first rows .args .workspace) (first rows .args .peak) (first rows .args .w .now))
+    (stateOf (first rows .args .workspace) (rows-peak rows) (rows-called rows .swap-rows .last .1 .0))
     (rows-swapped rows) (operated-wide (called .ensures) (c .before .before .before .enum-told2 .given .1) (rows-under rows)))
     (c .before .clear2 .ensures) (called .kept .1 .0 ∙ rows-called rows .swap-rows .kept .1 .0)
 
@@ -155,11 +155,11 @@ module _ (c : tie.After-on-rows) where
   both = c .before .before .before .before .before .before
 
   negated :
-      bringOf (first (rows both) .args .layout) (first (rows both) .args .k) (first (rows both) .args .i) (first (rows both) .args .j) (first (rows both) .args .peak) (first (rows both) .args .w .now)
-      ≡ onRow entryLimit (sizesOf (first (rows both) .args .layout)) (negate (first (rows both) .args .k)) (stateOf (first (rows both) .args .layout) (peak both) (called both .swap-columns .last .1 .0))
+      bringOf (first (rows both) .args .workspace) (first (rows both) .args .k) (first (rows both) .args .i) (first (rows both) .args .j) (first (rows both) .args .peak) (first (rows both) .args .w .now)
+      ≡ onRow entryLimit (sizesOf (first (rows both) .args .workspace)) (negate (first (rows both) .args .k)) (stateOf (first (rows both) .args .workspace) (peak both) (called both .swap-columns .last .1 .0))
   negated =
       both-swapped both
-      ∙ positive-taken entryLimit (sizesOf (first (rows both) .args .layout)) (first (rows both) .args .layout) (first (rows both) .args .k) (called both .swap-columns .last .1 .0)
+      ∙ positive-taken entryLimit (sizesOf (first (rows both) .args .workspace)) (first (rows both) .args .workspace) (first (rows both) .args .k) (called both .swap-columns .last .1 .0)
       (under both) (first (rows both) .pre .1 .1 .0) (first (rows both) .pre .1 .1 .1) (c .before .before .before .entry .ensures) (c .before .before .if1 .taken)
 
 returns-3 : tie.Need-returns-3
@@ -194,7 +194,7 @@ returns-5 c =
     record {
       outcome =
           both-swapped swapped
-          ∙ positive-left entryLimit (sizesOf (start .args .layout)) (start .args .layout) (start .args .k) w (under swapped)
+          ∙ positive-left entryLimit (sizesOf (start .args .workspace)) (start .args .workspace) (start .args .k) w (under swapped)
           (start .pre .1 .1 .0) (start .pre .1 .1 .1) (c .before .entry .ensures) (c .if1 .left);
       kept = record { same-length = kept-both swapped; under = under swapped };
     }

@@ -37,12 +37,12 @@ module _ (c : tie.After-entry2 Inv-loop μ-loop) where
 -- the quotient as the machine reads it
 taken :
     (c : tie.After-quotient Inv-loop μ-loop)
-    → (let A = contents (start (c .before) .args .layout .matrix) (head (c .before) .loop .w) in
+    → (let A = contents (start (c .before) .args .workspace .matrix) (head (c .before) .loop .w) in
     read w64 (c .quotient .result) ≡ floor (A (head (c .before) .loop .i) (start (c .before) .args .k)) (A (start (c .before) .args .k) (start (c .before) .args .k)))
 taken c =
     let e = c .before in
     let h = head e .loop .inv .placed in
-    quotient-read (start e .args .layout) (start e .args .k) (head e .loop .w) (h .under) (h .ready) (head e .loop .i) (start e .args .k)
+    quotient-read (start e .args .workspace) (start e .args .k) (head e .loop .w) (h .under) (h .ready) (head e .loop .i) (start e .args .k)
     (e .before .before .entry .ensures) (e .entry2 .ensures) (c .quotient .ensures)
 
 add-i : tie.Need-add-i Inv-loop μ-loop
@@ -64,7 +64,7 @@ entry-requires-2 c κs =
 quotient-requires : tie.Need-quotient-requires Inv-loop μ-loop
 quotient-requires c κs =
     let h = head c .loop .inv .placed in
-    quotient-asks (start c .args .layout) (start c .args .k) (head c .loop .w) (h .under) (h .ready) (head c .loop .i) (start c .args .k) (c .before .before .entry .ensures) (c .entry2 .ensures)
+    quotient-asks (start c .args .workspace) (start c .args .k) (head c .loop .w) (h .under) (h .ready) (head c .loop .i) (start c .args .k) (c .before .before .entry .ensures) (c .entry2 .ensures)
 
 -- a quotient of 0: nothing is called
 add-i-2 : tie.Need-add-i-2 Inv-loop μ-loop
@@ -81,7 +81,7 @@ loop-again c =
     let inv = head e .loop .inv in
     let q = read w64 (c .before .quotient .result) in
     rows-next inv (turn e .loop-test .taken) (taken (c .before)) refl (inv .placed .under)
-    (rows-unchanged (start e .args .layout) (head e .loop .largest) (head e .loop .w) (inv .placed .laid) (inv .placed .under) (subtract (head e .loop .i) (start e .args .k) q) (ap (λ (bits : ℕ). toZ w64 bits) (c .if1 .taken)) (record {
+    (rows-unchanged (start e .args .workspace) (head e .loop .largest) (head e .loop .w) (inv .placed .laid) (inv .placed .under) (subtract (head e .loop .i) (start e .args .k) q) (ap (λ (bits : ℕ). toZ w64 bits) (c .if1 .taken)) (record {
       within = record { changed = turn e .loop-test .taken; taken = inv .placed .ready .row; distinct = λ same. omega (arith, inv .from) };
       factor = wide-small (c .before .quotient .result) (c .before .quotient .ensures .1);
     }))

@@ -35,12 +35,12 @@ module _ (c : tie.After-entry2 Inv-loop μ-loop) where
 -- the quotient as the machine reads it
 taken :
     (c : tie.After-quotient Inv-loop μ-loop)
-    → (let A = contents (start (c .before) .args .layout .matrix) (head (c .before) .loop .w) in
+    → (let A = contents (start (c .before) .args .workspace .matrix) (head (c .before) .loop .w) in
     read w64 (c .quotient .result) ≡ floor (A (start (c .before) .args .k) (head (c .before) .loop .j)) (A (start (c .before) .args .k) (start (c .before) .args .k)))
 taken c =
     let e = c .before in
     let h = head e .loop .inv .clear in
-    quotient-read (start e .args .layout) (start e .args .k) (head e .loop .w) (h .under) (h .ready .ready) (start e .args .k) (head e .loop .j)
+    quotient-read (start e .args .workspace) (start e .args .k) (head e .loop .w) (h .under) (h .ready .ready) (start e .args .k) (head e .loop .j)
     (e .before .before .entry .ensures) (e .entry2 .ensures) (c .quotient .ensures)
 
 line-requires : tie.Need-line-requires Inv-loop μ-loop
@@ -70,7 +70,7 @@ entry-requires-2 c κs =
 quotient-requires : tie.Need-quotient-requires Inv-loop μ-loop
 quotient-requires c κs =
     let h = head c .loop .inv .clear in
-    quotient-asks (start c .args .layout) (start c .args .k) (head c .loop .w) (h .under) (h .ready .ready) (start c .args .k) (head c .loop .j) (c .before .before .entry .ensures) (c .entry2 .ensures)
+    quotient-asks (start c .args .workspace) (start c .args .k) (head c .loop .w) (h .under) (h .ready .ready) (start c .args .k) (head c .loop .j) (c .before .before .entry .ensures) (c .entry2 .ensures)
 
 on-columns-requires : tie.Need-on-columns-requires Inv-loop μ-loop
 on-columns-requires c κs =
@@ -120,7 +120,7 @@ module _ (c : tie.After-larger Inv-loop μ-loop) where
   read-pivot = c .before .before .before .before .before .before .before .before
 
   next :
-      ColumnPassing (start read-pivot .args .layout) (start read-pivot .args .k) (start read-pivot .args .peak) (start read-pivot .args .w .now)
+      ColumnPassing (start read-pivot .args .workspace) (start read-pivot .args .k) (start read-pivot .args .peak) (start read-pivot .args .w .now)
       (head read-pivot .loop .j + 1) (c .larger .result) (c .before .before .before .before .before .on-columns .last .1 .0)
   next =
       let called = c .before .before .before .before .before .on-columns in let is = c .before .before .written .given .1 in

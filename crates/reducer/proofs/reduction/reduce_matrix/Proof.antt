@@ -36,7 +36,7 @@ module _ (c : tie.After-w Inv-loop μ-loop) where
 next :
     (c : tie.After-known-told Inv-loop μ-loop)
     → (let w = c .before .before .before in
-    Reducing pivotRule (head w .before .args .layout) (head w .before .args .peak) (head w .before .args .w .now) (head w .loop .k + 1) (c .before .reached .given .0 .0) (called w .choose-pivot .last .1 .0))
+    Reducing pivotRule (head w .before .args .workspace) (head w .before .args .peak) (head w .before .args .w .now) (head w .loop .k + 1) (c .before .reached .given .0 .0) (called w .choose-pivot .last .1 .0))
 next c =
     let w = c .before .before .before in let stage = called w .choose-pivot in
     reducing-next pivotRule-is-rule (head w .loop .inv) _ (stage .last .1 .0) (stage .ensures) (c .before .reached .given .1)

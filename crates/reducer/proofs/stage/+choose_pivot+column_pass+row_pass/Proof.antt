@@ -36,7 +36,7 @@ use Rattle.passes.proofs.bring.bring_pivot.Reads as bring-pivot-reads
 use Rattle.passes.proofs.pass.clear_column.Reads as clear-column-reads
 use Rattle.passes.proofs.pass.clear_row.Reads as clear-row-reads
 use Rattle.numbers.proofs.absolute.larger.Reads as larger-reads
-use Rattle.operations.proofs.layout.Layout.on_rows.Reads as on-rows-reads
+use Rattle.operations.proofs.workspace.Workspace.on_rows.Reads as on-rows-reads
 use Rattle.scans.proofs.pivot.find_pivot.Reads as find-pivot-reads
 use Rattle.scans.proofs.remainder.column_keeps.Reads as column-keeps-reads
 use Rattle.scans.proofs.remainder.first_indivisible.Reads as first-indivisible-reads
@@ -146,7 +146,7 @@ choose-pivot-same-length t c = refl
 choose-pivot-returns-2 : (t : ℕ) → choose-pivot-lts.Need-returns-2 (choose-pivot-calls t) (choose-pivot-at t) choose-pivot.Post
 choose-pivot-returns-2 t c =
     let start = c .before .before .before .before .before in
-    exhausted pivotRule-is-rule (start .args .layout) (start .args .k) (start .args .peak) (start .args .w .now) (start .pre .1) (sym (ap pivotChoice (c .enum-told .given .1)) ∙ c .before .before .find-pivot .ensures)
+    exhausted pivotRule-is-rule (start .args .workspace) (start .args .k) (start .args .peak) (start .args .w .now) (start .pre .1) (sym (ap pivotChoice (c .enum-told .given .1)) ∙ c .before .before .find-pivot .ensures)
 
 -- the place that was found
 module _ (t : ℕ) (c : choose-pivot-lts.After-known-told (choose-pivot-calls t) (choose-pivot-at t) choose-pivot.Post) where
@@ -159,11 +159,11 @@ module _ (t : ℕ) (c : choose-pivot-lts.After-known-told (choose-pivot-calls t)
   abbrev pivot-column : ℕ
   pivot-column = c .before .i .given .0 .1 .0
 
-  found : Chosen pivotRule-is-rule (start .args .layout) (start .args .k) (start .args .peak) (start .args .w .now) (place pivot-row pivot-column)
+  found : Chosen pivotRule-is-rule (start .args .workspace) (start .args .k) (start .args .peak) (start .args .w .now) (place pivot-row pivot-column)
   found = sym (ap pivotChoice (c .before .i .given .1)) ∙ c .before .before .before .find-pivot .ensures
 
-  least : Least (start .args .layout .matrix .lines) (start .args .layout .matrix .width) (start .args .k) (matrixOf (start .args .layout) (start .args .w .now)) pivot-row pivot-column
-  least = chosen-least pivotRule-is-rule (start .args .layout) (start .args .k) (start .args .peak) (start .args .w .now) pivot-row pivot-column found
+  least : Least (start .args .workspace .matrix .lines) (start .args .workspace .matrix .width) (start .args .k) (matrixOf (start .args .workspace) (start .args .w .now)) pivot-row pivot-column
+  least = chosen-least pivotRule-is-rule (start .args .workspace) (start .args .k) (start .args .peak) (start .args .w .now) pivot-row pivot-column found
 
 choose-pivot-bring-pivot-requires : (t : ℕ) → choose-pivot-lts.Need-bring-pivot-requires (choose-pivot-calls t) (choose-pivot-at t) choose-pivot.Post
 choose-pivot-bring-pivot-requires t c κs =
@@ -184,8 +184,8 @@ choose-pivot-returns-3 : (t : ℕ) → choose-pivot-lts.Need-returns-3 (choose-p
 choose-pivot-returns-3 t c =
     let place = c .before .before .before .before .before in
     let begun = start t place in
-    pass-stops (begun .args .layout) (at Letter.a (begun .args .k) (stateOf (begun .args .layout) (begun .args .peak) (begun .args .w .now))) (c .before .before .before .bring-pivot .result) (c .before .before .before .bring-pivot .last .1 .0)
-    (bring-goes pivotRule-is-rule (begun .args .layout) (begun .args .k) (begun .args .peak) (begun .args .w .now) (pivot-row t place) (pivot-column t place) (found t place))
+    pass-stops (begun .args .workspace) (at Letter.a (begun .args .k) (stateOf (begun .args .workspace) (begun .args .peak) (begun .args .w .now))) (c .before .before .before .bring-pivot .result) (c .before .before .before .bring-pivot .last .1 .0)
+    (bring-goes pivotRule-is-rule (begun .args .workspace) (begun .args .k) (begun .args .peak) (begun .args .w .now) (pivot-row t place) (pivot-column t place) (found t place))
     (c .enum-told2 .given .1) (c .before .before .before .bring-pivot .ensures)
 
 -- after step b
@@ -195,11 +195,11 @@ module _ (t : ℕ) (c : choose-pivot-lts.After-known-told2 (choose-pivot-calls t
 
   to-row-pass :
       (let begun = start t (brought .before .before) in
-      ToRows pivotRule (begun .args .layout) (begun .args .k) (begun .args .peak) (begun .args .w .now) (c .before .brought .given .0 .0) (brought .bring-pivot .last .1 .0))
+      ToRows pivotRule (begun .args .workspace) (begun .args .k) (begun .args .peak) (begun .args .w .now) (c .before .brought .given .0 .0) (brought .bring-pivot .last .1 .0))
   to-row-pass =
       let place = brought .before .before in
       let begun = start t place in
-      to-rows pivotRule-is-rule (begun .args .layout) (begun .args .k) (begun .args .peak) (begun .args .w .now) (pivot-row t place) (pivot-column t place) (found t place) (begun .pre .1)
+      to-rows pivotRule-is-rule (begun .args .workspace) (begun .args .k) (begun .args .peak) (begun .args .w .now) (pivot-row t place) (pivot-column t place) (found t place) (begun .pre .1)
       (passed-made (c .before .brought .given .1) (brought .bring-pivot .ensures))
 
 choose-pivot-sub-row-pass : (t : ℕ) → choose-pivot-lts.Need-sub-row-pass (choose-pivot-calls t) (choose-pivot-at t) choose-pivot.Post
@@ -232,7 +232,7 @@ column-pass-same-length t c = c .before .before .before .clear-row .kept .1 .0
 column-pass-returns : (t : ℕ) → column-pass-lts.Need-returns (column-pass-calls t) (column-pass-at t) column-pass.Post
 column-pass-returns t c =
     let begun = c .before .before .before .before .before in
-    pass-stops (begun .args .layout) (at Letter.d (begun .args .k) (stateOf (begun .args .layout) (begun .args .peak) (begun .args .w .now))) (c .before .before .before .clear-row .result) (c .before .before .before .clear-row .last .1 .0)
+    pass-stops (begun .args .workspace) (at Letter.d (begun .args .k) (stateOf (begun .args .workspace) (begun .args .peak) (begun .args .w .now))) (c .before .before .before .clear-row .result) (c .before .before .before .clear-row .last .1 .0)
     (columns-go pivotRule-is-rule (begun .pre .1)) (c .enum-told .given .1) (c .before .before .before .clear-row .ensures)
 
 -- after step d
@@ -248,8 +248,8 @@ module _ (t : ℕ) (c : column-pass-lts.After-known-told (column-pass-calls t) (
   column-peak = c .before .cleared .given .0 .0
 
   columns-made :
-      PassMade (column-start .args .layout)
-      (columnPassOf (column-start .args .layout) (column-start .args .k) (column-start .args .peak) (column-start .args .w .now))
+      PassMade (column-start .args .workspace)
+      (columnPassOf (column-start .args .workspace) (column-start .args .k) (column-start .args .peak) (column-start .args .w .now))
       (length (column-start .args .w .now)) column-peak
       (column-called .clear-row .last .1 .0)
   columns-made = passed-made (c .before .cleared .given .1) (column-called .clear-row .ensures)
@@ -267,21 +267,21 @@ column-pass-row-keeps-requires t c κs =
 column-to-choice :
     (t : ℕ) (c : column-pass-lts.Then1 (column-pass-calls t) (column-pass-at t) column-pass.Post)
     → (let begun = column-start t (c .before .before .before) in
-    ToChoice pivotRule Letter.d (begun .args .layout) (begun .args .k) (begun .args .peak) (begun .args .w .now) (column-peak t (c .before .before .before)) (column-called t (c .before .before .before) .clear-row .last .1 .0))
+    ToChoice pivotRule Letter.d (begun .args .workspace) (begun .args .k) (begun .args .peak) (begun .args .w .now) (column-peak t (c .before .before .before)) (column-called t (c .before .before .before) .clear-row .last .1 .0))
 column-to-choice t c =
     columns-to-choice pivotRule-is-rule (column-start t (c .before .before .before) .pre .1) (columns-made t (c .before .before .before)) (sym (c .if1 .taken) ∙ c .before .row-keeps .ensures)
 
 column-cleared :
     (t : ℕ) (c : column-pass-lts.Else1 (column-pass-calls t) (column-pass-at t) column-pass.Post)
     → (let begun = column-start t (c .before .before .before) in
-    RowClear pivotRule (begun .args .layout) (begun .args .k) (begun .args .peak) (begun .args .w .now) (column-peak t (c .before .before .before)) (column-called t (c .before .before .before) .clear-row .last .1 .0))
+    RowClear pivotRule (begun .args .workspace) (begun .args .k) (begun .args .peak) (begun .args .w .now) (column-peak t (c .before .before .before)) (column-called t (c .before .before .before) .clear-row .last .1 .0))
 column-cleared t c =
     row-clear pivotRule-is-rule (column-start t (c .before .before .before) .pre .1) (columns-made t (c .before .before .before)) (sym (c .if1 .left) ∙ c .before .row-keeps .ensures)
 
 column-pass-choose-pivot-requires : (t : ℕ) → column-pass-lts.Need-choose-pivot-requires (column-pass-calls t) (column-pass-at t) column-pass.Post
 column-pass-choose-pivot-requires t c κs =
     let start = column-start t (c .before .before .before .before) in
-    (omega (arith, start .pre .0, calls-range (start .args .layout .matrix .width) (start .args .k) (matrixOf (start .args .layout) (start .args .w .now))), column-to-choice t (c .before) .holds)
+    (omega (arith, start .pre .0, calls-range (start .args .workspace .matrix .width) (start .args .k) (matrixOf (start .args .workspace) (start .args .w .now))), column-to-choice t (c .before) .holds)
 
 column-pass-same-length-2 : (t : ℕ) → column-pass-lts.Need-same-length-2 (column-pass-calls t) (column-pass-at t) column-pass.Post
 column-pass-same-length-2 t c = c .before .choose-pivot .kept .1 .0 ∙ column-called t (c .before .before .before .before .before .before) .clear-row .kept .1 .0
@@ -294,7 +294,7 @@ column-pass-first-indivisible-requires t c κs =
     let h = column-cleared t (c .before) in
     let start = column-start t (c .before .before .before .before) in
     let ready = h .ready .ready .ready in
-    (held-matrix (h .laid), (ready .row, ready .column, pivot-positive (start .args .layout) (start .args .k) (column-called t (c .before .before .before .before) .clear-row .last .1 .0) ready))
+    (held-matrix (h .laid), (ready .row, ready .column, pivot-positive (start .args .workspace) (start .args .k) (column-called t (c .before .before .before .before) .clear-row .last .1 .0) ready))
 
 column-pass-enum-known-i : (t : ℕ) → column-pass-lts.Need-enum-known-i (column-pass-calls t) (column-pass-at t) column-pass.Post
 column-pass-enum-known-i t c = c .match2 .keys1
@@ -356,7 +356,7 @@ module _ (t : ℕ) (c : column-pass-lts.After-enum-told3 (column-pass-calls t) (
 
   stopped :
       {w : List ℤ} → w ≡ replicate (length (c .before .before .before .on-rows .last .1 .0)) (pos 0)
-      → (let start = begun t adding .args in StageRefused pivotRule (start .layout) (at Letter.d (start .k) (stateOf (start .layout) (start .peak) (start .w .now))) (length (start .w .now)) TooWide w)
+      → (let start = begun t adding .args in StageRefused pivotRule (start .workspace) (at Letter.d (start .k) (stateOf (start .workspace) (start .peak) (start .w .now))) (length (start .w .now)) TooWide w)
   stopped z =
       let called = c .before .before .before .on-rows in
       add-stops (column-cleared t (else t adding)) (lower t adding) (found-lower t adding) (called .last .1 .0) (operated-wide (called .ensures) (c .enum-told3 .given .1) (column-cleared t (else t adding) .under)) z
@@ -381,7 +381,7 @@ module _ (t : ℕ) (c : column-pass-lts.After-larger (column-pass-calls t) (colu
 
   column-again :
       (let start = begun t (added .before .before) in
-      ColumnsAgain pivotRule (start .args .layout) (start .args .k) (start .args .peak) (start .args .w .now) (c .larger .result) (added .on-rows .last .1 .0))
+      ColumnsAgain pivotRule (start .args .workspace) (start .args .k) (start .args .peak) (start .args .w .now) (c .larger .result) (added .on-rows .last .1 .0))
   column-again =
       let row = added .before .before in let called = added .on-rows in let is = c .before .before .added .given .1 in
       let cleared = column-cleared t (else t row) in
@@ -420,7 +420,7 @@ row-pass-same-length t c = c .before .before .before .clear-column .kept .1 .0
 row-pass-returns : (t : ℕ) → row-pass-lts.Need-returns (row-pass-calls t) (row-pass-at t) row-pass.Post
 row-pass-returns t c =
     let begun = c .before .before .before .before .before in
-    pass-stops (begun .args .layout) (at Letter.c (begun .args .k) (stateOf (begun .args .layout) (begun .args .peak) (begun .args .w .now))) (c .before .before .before .clear-column .result) (c .before .before .before .clear-column .last .1 .0)
+    pass-stops (begun .args .workspace) (at Letter.c (begun .args .k) (stateOf (begun .args .workspace) (begun .args .peak) (begun .args .w .now))) (c .before .before .before .clear-column .result) (c .before .before .before .clear-column .last .1 .0)
     (rows-go pivotRule-is-rule (begun .pre .1)) (c .enum-told .given .1) (c .before .before .before .clear-column .ensures)
 
 -- after step c
@@ -436,8 +436,8 @@ module _ (t : ℕ) (c : row-pass-lts.After-known-told (row-pass-calls t) (row-pa
   row-peak = c .before .cleared .given .0 .0
 
   rows-made :
-      PassMade (row-start .args .layout)
-      (rowPassOf (row-start .args .layout) (row-start .args .k) (row-start .args .peak) (row-start .args .w .now))
+      PassMade (row-start .args .workspace)
+      (rowPassOf (row-start .args .workspace) (row-start .args .k) (row-start .args .peak) (row-start .args .w .now))
       (length (row-start .args .w .now)) row-peak
       (row-called .clear-column .last .1 .0)
   rows-made = passed-made (c .before .cleared .given .1) (row-called .clear-column .ensures)
@@ -450,14 +450,14 @@ row-pass-column-keeps-requires t c κs =
 row-to-choice :
     (t : ℕ) (c : row-pass-lts.Then1 (row-pass-calls t) (row-pass-at t) row-pass.Post)
     → (let begun = row-start t (c .before .before .before) in
-    ToChoice pivotRule Letter.c (begun .args .layout) (begun .args .k) (begun .args .peak) (begun .args .w .now) (row-peak t (c .before .before .before)) (row-called t (c .before .before .before) .clear-column .last .1 .0))
+    ToChoice pivotRule Letter.c (begun .args .workspace) (begun .args .k) (begun .args .peak) (begun .args .w .now) (row-peak t (c .before .before .before)) (row-called t (c .before .before .before) .clear-column .last .1 .0))
 row-to-choice t c =
     rows-to-choice pivotRule-is-rule (row-start t (c .before .before .before) .pre .1) (rows-made t (c .before .before .before)) (sym (c .if1 .taken) ∙ c .before .column-keeps .ensures)
 
 row-to-columns :
     (t : ℕ) (c : row-pass-lts.Else1 (row-pass-calls t) (row-pass-at t) row-pass.Post)
     → (let begun = row-start t (c .before .before .before) in
-    ToColumns pivotRule Letter.c (begun .args .layout) (begun .args .k) (begun .args .peak) (begun .args .w .now) (row-peak t (c .before .before .before)) (row-called t (c .before .before .before) .clear-column .last .1 .0))
+    ToColumns pivotRule Letter.c (begun .args .workspace) (begun .args .k) (begun .args .peak) (begun .args .w .now) (row-peak t (c .before .before .before)) (row-called t (c .before .before .before) .clear-column .last .1 .0))
 row-to-columns t c =
     rows-to-columns pivotRule-is-rule (row-start t (c .before .before .before) .pre .1) (rows-made t (c .before .before .before)) (sym (c .if1 .left) ∙ c .before .column-keeps .ensures)
 
@@ -475,7 +475,7 @@ row-pass-returns-2 t c = onward-ends (row-to-choice t (c .before .before .before
 row-pass-column-pass-requires : (t : ℕ) → row-pass-lts.Need-column-pass-requires (row-pass-calls t) (row-pass-at t) row-pass.Post
 row-pass-column-pass-requires t c κs =
     let start = row-start t (c .before .before .before .before) in
-    (omega (arith, start .pre .0, calls-range (start .args .layout .matrix .width) (start .args .k) (matrixOf (start .args .layout) (row-called t (c .before .before .before .before) .clear-column .last .1 .0))), row-to-columns t (c .before) .holds)
+    (omega (arith, start .pre .0, calls-range (start .args .workspace .matrix .width) (start .args .k) (matrixOf (start .args .workspace) (row-called t (c .before .before .before .before) .clear-column .last .1 .0))), row-to-columns t (c .before) .holds)
 
 row-pass-same-length-3 : (t : ℕ) → row-pass-lts.Need-same-length-3 (row-pass-calls t) (row-pass-at t) row-pass.Post
 row-pass-same-length-3 t c = c .before .column-pass .kept .1 .0 ∙ row-called t (c .before .before .before .before .before .before) .clear-column .kept .1 .0

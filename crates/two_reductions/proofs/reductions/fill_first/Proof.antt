@@ -27,7 +27,7 @@ fill-boundary-requires c κs =
     let K = sectionsOf (now (start .args .s)) in
     let p = start .args .p in
     let n = length (now (start .args .w)) in
-    let W = start .args .layout in
+    let W = start .args .workspace in
     let is = start .pre .1 .1 .0 in (
       (start .pre .0 .0, omega (arith, start .pre .0 .1, c .before .if1 .taken)),
       (
@@ -45,39 +45,39 @@ fill-boundary-requires c κs =
 -- the boundary matrix stands in a slice of zeros
 matrix-filled : (c : tie.Joined1) →
     let args = c .before .before .args in
-    MatrixFilled (args .layout .matrix) (replicate (length (now (args .w))) (pos 0)) (boundary (sectionsOf (now (args .s))) (args .p)) (c .if1 .w)
+    MatrixFilled (args .workspace .matrix) (replicate (length (now (args .w))) (pos 0)) (boundary (sectionsOf (now (args .s))) (args .p)) (c .if1 .w)
 matrix-filled c =
     let start = c .before .before in
     let K = sectionsOf (now (start .args .s)) in
     let p = start .args .p in
     let n = length (now (start .args .w)) in
-    let M = start .args .layout .matrix in
+    let M = start .args .workspace .matrix in
     let zeros = start .pre .1 .1 .1 in
     ⊎-elim
     (λ f. let dimension : suc (p - 1) ≡ p = omega (arith, f .0 .taken) in
     subst (λ (w : List ℤ). MatrixFilled M w (boundary K p) (c .if1 .w)) zeros (rw (f .4) (rw dimension at (f .2 .ensures))))
     (λ f. subst (MatrixFilled M (replicate n (pos 0)) (boundary K p)) (sym (f .1 ∙ zeros)) (no-lines (boundary K p)
-    (matrix-rows K p n (start .pre .1 .0) (start .args .layout) (start .pre .1 .1 .0) ∙ rows-none K p (omega (arith, f .0 .left)))))
+    (matrix-rows K p n (start .pre .1 .0) (start .args .workspace) (start .pre .1 .1 .0) ∙ rows-none K p (omega (arith, f .0 .left)))))
     (c .if1 .came)
 
 fill-identity-requires : tie.Need-fill-identity-requires
 fill-identity-requires c κs =
     let start = c .before .before .before in
-    follower-fills (sectionsOf (now (start .args .s))) (start .args .p) (length (now (start .args .w))) (start .pre .1 .0) (start .args .layout) (start .pre .1 .1 .0)
+    follower-fills (sectionsOf (now (start .args .s))) (start .args .p) (length (now (start .args .w))) (start .pre .1 .0) (start .args .workspace) (start .pre .1 .1 .0)
     (matrix-filled (c .before))
 
 fill-identity-requires-2 : tie.Need-fill-identity-requires-2
 fill-identity-requires-2 c κs =
     let joined = c .before .before .before .before in
     let start = joined .before .before in
-    inverse-fills (sectionsOf (now (start .args .s))) (start .args .p) (length (now (start .args .w))) (start .pre .1 .0) (start .args .layout) (start .pre .1 .1 .0)
+    inverse-fills (sectionsOf (now (start .args .s))) (start .args .p) (length (now (start .args .w))) (start .pre .1 .0) (start .args .workspace) (start .pre .1 .1 .0)
     (matrix-filled joined) (c .before .before .fill-identity .ensures)
 
 returns : tie.Need-returns
 returns c =
     let joined = c .before .before .before .before .before .before in
     let start = joined .before .before in
-    filled (sectionsOf (now (start .args .s))) (start .args .p) (length (now (start .args .w))) (start .pre .1 .0) (start .args .layout) (start .pre .1 .1 .0)
+    filled (sectionsOf (now (start .args .s))) (start .args .p) (length (now (start .args .w))) (start .pre .1 .0) (start .args .workspace) (start .pre .1 .1 .0)
     (sheet-chains (record { small = λ i. joined .before .shared-slice-known .given i .fits }) (start .pre .0 .0) .small (start .args .p))
     (record {
       matrix = matrix-filled joined;

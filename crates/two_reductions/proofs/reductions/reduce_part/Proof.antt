@@ -12,7 +12,7 @@ use Rattle.sheet_format.specs.Check.{sectionsOf}
 use Rattle.limits.specs.Limits.{libraryLimit}
 use Rattle.reduction_steps.proofs.PivotLaws.{pivotRule-is-rule}
 use Rattle.two_reductions.specs.CellCounts.{CellCountsRead}
-use Rattle.two_reductions.specs.Slices.{firstLayoutOf, secondLayoutOf, startPeak}
+use Rattle.two_reductions.specs.Slices.{firstWorkspaceOf, secondWorkspaceOf, startPeak}
 use Rattle.two_reductions.proofs.Sheet.{sheet-chains, cells-of, first-of, second-of}
 use Rattle.two_reductions.proofs.Filling.{laid}
 use Rattle.lines.proofs.Peaks.{under-small}
@@ -21,12 +21,12 @@ use Rattle.two_reductions.proofs.Outcomes.{product-refused, second-star
 use Rattle.two_reductions.proofs.reductions.reduce_part.Statement.{statement}
 use Rattle.two_reductions.proofs.reductions.reduce_part.Tie as tie
 
--- ---- the layouts
+-- ---- the workspaces
 
-first-layout-requires : tie.Need-first-layout-requires
-first-layout-requires c κs = let cell-counts = c .before .pre .1 .1 .0 in (cell-counts .cells-below, cell-counts .rows-below, cell-counts .columns-below)
+first-workspace-requires : tie.Need-first-workspace-requires
+first-workspace-requires c κs = let cell-counts = c .before .pre .1 .1 .0 in (cell-counts .cells-below, cell-counts .rows-below, cell-counts .columns-below)
 
-module _ (c : tie.After-first-layout) where
+module _ (c : tie.After-first-workspace) where
   abbrev start : tie.Start
   start = c .before .before
 
@@ -36,8 +36,8 @@ module _ (c : tie.After-first-layout) where
   cell-counts : CellCountsRead (sectionsOf (now (start .args .s))) (start .args .p) (start .args .n)
   cell-counts = start .pre .1 .1 .0
 
-  first-is : c .first-layout .result ≡ firstLayoutOf (sectionsOf (now (start .args .s))) (start .args .p)
-  first-is = c .first-layout .ensures ∙ first-of cell-counts
+  first-is : c .first-workspace .result ≡ firstWorkspaceOf (sectionsOf (now (start .args .s))) (start .args .p)
+  first-is = c .first-workspace .ensures ∙ first-of cell-counts
 
 -- ---- the first reduction
 
@@ -50,7 +50,7 @@ reduce-matrix-requires c κs =
     let s = start first in
     let filled = c .before .before .before .fill-first .ensures in (
       rw (filled .kept .same-length)
-          (laid (sectionsOf (now (s .args .s))) (s .args .p) (length (now (s .args .w))) (s .pre .1 .0) (first .first-layout .result) (first-is first)),
+          (laid (sectionsOf (now (s .args .s))) (s .args .p) (length (now (s .args .w))) (s .pre .1 .0) (first .first-workspace .result) (first-is first)),
       rw (c .start-peak .ensures, cells-of (cell-counts first)) (filled .kept .under),
     )
 
@@ -61,7 +61,7 @@ enum-told : tie.Need-enum-told
 enum-told c = c .match .keys2
 
 module _ (c : tie.After-reduce-matrix) where
-  abbrev at-first : tie.After-first-layout
+  abbrev at-first : tie.After-first-workspace
   at-first = c .before .before .before .before .before .before
 
   -- the peak at the start
@@ -73,8 +73,8 @@ returns c =
     let called = c .before .before .before in
     let first = at-first called in
     let s = start first in
-    first-refused pivotRule-is-rule (sectionsOf (now (s .args .s))) (s .args .p) (length (now (s .args .w))) (chains first) (s .pre .1 .0) (first .first-layout .result) (first-is first)
-    (called .before .before .before .before .fill-first .ensures) (started-from called) (reduces-refused (first .first-layout .result) (called .reduce-matrix .result) (c .enum-told .given .1) (called .reduce-matrix .ensures))
+    first-refused pivotRule-is-rule (sectionsOf (now (s .args .s))) (s .args .p) (length (now (s .args .w))) (chains first) (s .pre .1 .0) (first .first-workspace .result) (first-is first)
+    (called .before .before .before .before .fill-first .ensures) (started-from called) (reduces-refused (first .first-workspace .result) (called .reduce-matrix .result) (c .enum-told .given .1) (called .reduce-matrix .ensures))
 
 same-length : tie.Need-same-length
 same-length c = cleared-length (returns c .1)
@@ -85,7 +85,7 @@ module _ (c : tie.After-known-told) where
   abbrev first-called : tie.After-reduce-matrix
   first-called = c .before .before .before .before
 
-  abbrev began : tie.After-first-layout
+  abbrev began : tie.After-first-workspace
   began = at-first (c .before .before .before .before)
 
   abbrev rank : ℕ
@@ -98,22 +98,22 @@ module _ (c : tie.After-known-told) where
       FirstDone pivotRule-is-rule (sectionsOf (now (s .args .s))) (s .args .p) (length (now (s .args .w))) (chains began) (s .pre .1 .0) rank halfway (first-called .reduce-matrix .last .1 .0)
   first =
       let s = start began in
-      first-done pivotRule-is-rule (sectionsOf (now (s .args .s))) (s .args .p) (length (now (s .args .w))) (chains began) (s .pre .1 .0) (began .first-layout .result) (first-is began)
-      (first-called .before .before .before .before .fill-first .ensures) (started-from first-called) (reduces-done (began .first-layout .result) (first-called .reduce-matrix .result) (c .before .rank .given .1) (first-called .reduce-matrix .ensures))
+      first-done pivotRule-is-rule (sectionsOf (now (s .args .s))) (s .args .p) (length (now (s .args .w))) (chains began) (s .pre .1 .0) (began .first-workspace .result) (first-is began)
+      (first-called .before .before .before .before .fill-first .ensures) (started-from first-called) (reduces-done (began .first-workspace .result) (first-called .reduce-matrix .result) (c .before .rank .given .1) (first-called .reduce-matrix .ensures))
 
-second-layout-requires : tie.Need-second-layout-requires
-second-layout-requires c κs =
+second-workspace-requires : tie.Need-second-workspace-requires
+second-workspace-requires c κs =
     let n = cell-counts (began c) in (n .cells-below, n .rows-below, n .columns-below, rw (cells-of n) (first c .rank-within))
 
-second-is : (c : tie.After-second-layout) →
-    let s = start (began (c .before)) in c .second-layout .result ≡ secondLayoutOf (sectionsOf (now (s .args .s))) (s .args .p) (rank (c .before))
-second-is c = c .second-layout .ensures ∙ second-of (cell-counts (began (c .before))) (rank (c .before))
+second-is : (c : tie.After-second-workspace) →
+    let s = start (began (c .before)) in c .second-workspace .result ≡ secondWorkspaceOf (sectionsOf (now (s .args .s))) (s .args .p) (rank (c .before))
+second-is c = c .second-workspace .ensures ∙ second-of (cell-counts (began (c .before))) (rank (c .before))
 
 multiply-requires : tie.Need-multiply-requires
 multiply-requires c κs =
     let told = c .before .before in
     let s = start (began told) in
-    let W = c .before .second-layout .result in
+    let W = c .before .second-workspace .result in
     let is = second-is (c .before) in
     let l = laid-then pivotRule-is-rule (sectionsOf (now (s .args .s))) (s .args .p) (length (now (s .args .w))) (chains (began told)) (s .pre .1 .0) (first told) W is in (
       s .pre .0 .0,
@@ -142,7 +142,7 @@ returns-2 c =
     let called = c .before .before .before .before .before .before in
     let told = called .before .before .before in
     let s = start (began told) in
-    let W = called .before .before .second-layout .result in
+    let W = called .before .before .second-workspace .result in
     let beyond = became-wide (called .multiply .result) (c .before .before .before .enum-told2 .given .1) (called .multiply .ensures) in (
       product-refused pivotRule-is-rule (sectionsOf (now (s .args .s))) (s .args .p) (length (now (s .args .w))) (chains (began told)) (s .pre .1 .0) (first told) W
           (second-is (called .before .before)) beyond,
@@ -172,7 +172,7 @@ module _ (c : tie.After-larger) where
   started =
       let s = start (began first-told) in
       second-started pivotRule-is-rule (sectionsOf (now (s .args .s))) (s .args .p) (length (now (s .args .w))) (chains (began first-told)) (s .pre .1 .0) (first first-told)
-      (multiplied .before .before .second-layout .result) (second-is (multiplied .before .before))
+      (multiplied .before .before .second-workspace .result) (second-is (multiplied .before .before))
       (became-done (multiplied .multiply .result) (c .before .before .product .given .1) (multiplied .multiply .ensures)) (c .larger .ensures)
 
 reduce-matrix-requires-2 : tie.Need-reduce-matrix-requires-2
@@ -182,7 +182,7 @@ reduce-matrix-requires-2 c κs =
     let second = multiplied (c .before) .before .before in
     let kept = started (c .before) .kept in (
       rw (kept .same-length)
-          (laid-then pivotRule-is-rule (sectionsOf (now (s .args .s))) (s .args .p) (length (now (s .args .w))) (chains (began told)) (s .pre .1 .0) (first told) (second .second-layout .result)
+          (laid-then pivotRule-is-rule (sectionsOf (now (s .args .s))) (s .args .p) (length (now (s .args .w))) (chains (began told)) (s .pre .1 .0) (first told) (second .second-workspace .result)
           (second-is second)),
       kept .under,
     )
@@ -200,8 +200,8 @@ returns-3 c =
     let s = start (began told) in
     let second = multiplied (called .before .before) .before .before in
     second-refused pivotRule-is-rule (sectionsOf (now (s .args .s))) (s .args .p) (length (now (s .args .w))) (chains (began told)) (s .pre .1 .0) (started (called .before .before))
-    (second .second-layout .result) (second-is second)
-    (reduces-refused (second .second-layout .result) (called .reduce-matrix2 .result) (c .enum-told3 .given .1) (called .reduce-matrix2 .ensures))
+    (second .second-workspace .result) (second-is second)
+    (reduces-refused (second .second-workspace .result) (called .reduce-matrix2 .result) (c .enum-told3 .given .1) (called .reduce-matrix2 .ensures))
 
 same-length-3 : tie.Need-same-length-3
 same-length-3 c = cleared-length (returns-3 c .1)
@@ -213,8 +213,8 @@ returns-4 c =
     let s = start (began told) in
     let second = multiplied (called .before .before) .before .before in
     second-done pivotRule-is-rule (sectionsOf (now (s .args .s))) (s .args .p) (length (now (s .args .w))) (chains (began told)) (s .pre .1 .0) (started (called .before .before))
-    (second .second-layout .result) (second-is second)
-    (reduces-done (second .second-layout .result) (called .reduce-matrix2 .result) (c .before .last .given .1) (called .reduce-matrix2 .ensures))
+    (second .second-workspace .result) (second-is second)
+    (reduces-done (second .second-workspace .result) (called .reduce-matrix2 .result) (c .before .last .given .1) (called .reduce-matrix2 .ensures))
 
 same-length-4 : tie.Need-same-length-4
 same-length-4 c = returns-4 c .kept .same-length
@@ -222,6 +222,6 @@ same-length-4 c = returns-4 c .kept .same-length
 pub reduce-part-spec : {M : Type 1} → statement M
 reduce-part-spec =
     tie.close
-    (tie.spec first-layout-requires fill-first-requires (λ c κs. search needs) reduce-matrix-requires enum-known-rank enum-told same-length returns second-layout-requires
+    (tie.spec first-workspace-requires fill-first-requires (λ c κs. search needs) reduce-matrix-requires enum-known-rank enum-told same-length returns second-workspace-requires
     multiply-requires enum-known-product enum-told-2 (λ c κs. search needs) same-length-2 returns-2 (λ c κs. tt) reduce-matrix-requires-2 enum-known-last enum-told-3
     same-length-3 returns-3 same-length-4 returns-4)

@@ -40,8 +40,8 @@ abbrev μ-loop : tie.MeasureT-loop
 
 loop-holds : tie.Need-loop-holds Inv-loop μ-loop
 loop-holds c =
-    let args = c .before .before .args in let m = args .reduced .layout .matrix in let w = args .w .now in
-    progress-none (kindIn m w) (λ k. coordinate m (args .reduced .layout .«row_follower») w (args .chain .now) k ∷ []) (m .lines) (args .from) (args .coordinates .now)
+    let args = c .before .before .args in let m = args .reduced .workspace .matrix in let w = args .w .now in
+    progress-none (kindIn m w) (λ k. coordinate m (args .reduced .workspace .«row_follower») w (args .chain .now) k ∷ []) (m .lines) (args .from) (args .coordinates .now)
 
 kind-requires : tie.Need-kind-requires Inv-loop μ-loop
 kind-requires c κs = (matrix-held (c .before .before .before .before .pre .laid), c .loop-test .taken)
@@ -89,7 +89,7 @@ loop-again : tie.Need-loop-again Inv-loop μ-loop
 loop-again c =
     let start = c .before .before .before .before .before .before in let loop = c .before .before .before .loop in let kind = c .before .kind in
     let more = c .before .before .loop-test .taken in
-    let m = start .args .reduced .layout .matrix in let q = start .args .reduced .layout .«row_follower» in
+    let m = start .args .reduced .workspace .matrix in let q = start .args .reduced .workspace .«row_follower» in
     let f : ℕ → ℤ = coordinate m q (start .args .w .now) (start .args .chain .now) in
     ⊎-elim
     (λ w. rw (w .3, w .4)
@@ -108,7 +108,7 @@ returns : tie.Need-returns Inv-loop μ-loop
 unfolding coordinateList coordinateAt
 returns c =
     let args = c .before .before .before .before .args in
-    let m = args .reduced .layout .matrix in let q = args .reduced .layout .«row_follower» in let w = args .w .now in
+    let m = args .reduced .workspace .matrix in let q = args .reduced .workspace .«row_follower» in let w = args .w .now in
     subst (λ (l : List ℤ). WrittenFrom (args .from) l (args .coordinates .now) (c .before .loop .next) (c .before .loop .coordinates))
     (map-blocks (coordinate m q w (args .chain .now)) (reported (kindIn m w) (m .lines))) (progress-end (c .before .loop .inv) (c .loop-test .left))
 

@@ -38,13 +38,13 @@ record ReducedWith (x : Reduced) (w report : List ℤ) (r : Counts) : Type 0 whe
 module _ {x : Reduced} {w report : List ℤ} {r : Counts} (known : ReducedWith x w report r) where
   -- the kinds of the rows
   abbrev e : ℕ → ℤ
-  e = kindIn (x .layout .matrix) w
+  e = kindIn (x .workspace .matrix) w
 
   abbrev orders : List ℤ
   orders = map e (reported e (x .rank))
 
   abbrev columns : List ℤ
-  columns = columnsOf (linesOf (x .layout .«row_inverse») w) (x .layout .«row_inverse» .width) (reported e (x .layout .matrix .lines))
+  columns = columnsOf (linesOf (x .workspace .«row_inverse») w) (x .workspace .«row_inverse» .width) (reported e (x .workspace .matrix .lines))
 
   free-fits : SFits w64 (pos (r .free))
   free-fits = record {
@@ -53,7 +53,7 @@ module _ {x : Reduced} {w report : List ℤ} {r : Counts} (known : ReducedWith x
       known .fits,
       known .can .room,
       ap (λ (counts : definition.Counts). counts .free) (known .counted),
-      le-mul (x .layout .matrix .lines) (x .layout .«row_inverse» .width) (known .can .lines-below),
+      le-mul (x .workspace .matrix .lines) (x .workspace .«row_inverse» .width) (known .can .lines-below),
     );
   }
 
@@ -73,9 +73,9 @@ module _ {x : Reduced} {w report : List ℤ} {r : Counts} (known : ReducedWith x
       (written-one (written-one (written-none 0 report) (pos (r .free)) (omega (arith, known .can .room))) (pos (r .torsion)) (omega (arith, known .can .room)))
 
   module _ {next : ℕ} {ordered : List ℤ} (o : WrittenFrom 2 orders headed next ordered) where
-    columns-room : next + x .layout .«row_inverse» .lines * x .layout .«row_inverse» .width ≤ length report
+    columns-room : next + x .workspace .«row_inverse» .lines * x .workspace .«row_inverse» .width ≤ length report
     columns-room =
-        subst (λ (n : ℕ). next + n * x .layout .«row_inverse» .width ≤ length report) (sym (known .can .laid .row-inverse-lines))
+        subst (λ (n : ℕ). next + n * x .workspace .«row_inverse» .width ≤ length report) (sym (known .can .laid .row-inverse-lines))
         (omega (arith, o .next, known .can .room, length-map (reported e (x .rank)) e, length-reported-le e (x .rank)))
 
     wrote : {last : ℕ} {report′ : List ℤ} → WrittenFrom next columns ordered last report′ → WroteReport x w report r report′
@@ -113,7 +113,7 @@ write-orders-requires c κs =
 write-generators-requires : tie.Need-write-generators-requires
 write-generators-requires c κs =
     let counted = c .before .before .before .before .before .before in let write-orders = c .before .before .write-orders in
-    let g = counted .before .before .before .args .reduced .layout .«row_inverse» in let pre = counted .before .before .before .pre in (
+    let g = counted .before .before .before .args .reduced .workspace .«row_inverse» in let pre = counted .before .before .before .pre in (
       matrix-held (pre .laid),
       row-inverse-held (pre .laid),
       sym (pre .laid .row-inverse-lines),

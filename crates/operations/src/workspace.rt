@@ -13,7 +13,7 @@ use lines::line::Effect;
 use lines::matrix::Matrix;
 
 // The companions undergo the row operations, by rows, their inverses, by columns, the column operations, by columns, and their inverses, by rows.
-pub struct Layout {
+pub struct Workspace {
     pub matrix: Matrix,
     pub row_inverse: Matrix,
     pub row_follower: Matrix,
@@ -43,7 +43,7 @@ fn follow(follower: Matrix, inverse: Matrix, w: &mut [i32], op: Operation, befor
     Effect::Done(second)
 }
 
-impl Layout {
+impl Workspace {
     // Does the operation to the rows of the matrix, and so to its companions. It answers the largest absolute value that it wrote.
     pub fn on_rows(self, w: &mut [i32], op: Operation) -> Effect
         requires { ⌜ Laid (length (now w)) self ⌝ }

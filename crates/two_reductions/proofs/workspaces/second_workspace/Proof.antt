@@ -1,11 +1,11 @@
--- `layouts::second_layout` meets its contract: every place is a sum of products of two counts.
+-- `workspaces::second_workspace` meets its contract: every place is a sum of products of two counts.
 use Prim.Native.Nat.{_≤_, _*_, _^_}
 use native.Mathlib.Omega.{arith}
 use borrow.Author.Needs.{needs}
-use Rattle.two_reductions.specs.Layouts.{secondLayout}
+use Rattle.two_reductions.specs.Workspaces.{secondWorkspace}
 use Rattle.two_reductions.proofs.Room.{product-below, max-below}
-use Rattle.two_reductions.proofs.layouts.second_layout.Statement.{statement}
-use Rattle.two_reductions.proofs.layouts.second_layout.Tie as tie
+use Rattle.two_reductions.proofs.workspaces.second_workspace.Statement.{statement}
+use Rattle.two_reductions.proofs.workspaces.second_workspace.Tie as tie
 
 -- the products in the places
 record Below (c : tie.After-larger) : Type 0 where
@@ -53,10 +53,10 @@ add-t15 : tie.Need-add-t15
 add-t15 c = omega (arith, below c)
 
 returns : tie.Need-returns
-unfolding secondLayout
+unfolding secondWorkspace
 returns c = rw (c .larger .ensures)
 
-pub second-layout-spec : {M : Type 1} → statement M
-second-layout-spec =
+pub second-workspace-spec : {M : Type 1} → statement M
+second-workspace-spec =
     tie.close
     (tie.spec (λ c κs. search needs) mul-room mul-end mul-end-2 add-end (λ c. search needs) mul-t8 add-t9 mul-t12 add-t13 mul-t14 add-t15 returns)

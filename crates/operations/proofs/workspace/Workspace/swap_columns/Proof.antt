@@ -1,10 +1,10 @@
--- `operations::layout::Layout::swap_columns` meets its contract: a column exchanged with itself leaves all as it is.
+-- `operations::workspace::Workspace::swap_columns` meets its contract: a column exchanged with itself leaves all as it is.
 use borrow.Author.Needs.{needs}
 use Rattle.matrices.specs.Operation.{swap}
 use Rattle.operations.proofs.Unchanged.{swap-fits, unchanged}
 use Rattle.operations.proofs.Side.{columns}
-use Rattle.operations.proofs.layout.Layout.swap_columns.Statement.{statement}
-use Rattle.operations.proofs.layout.Layout.swap_columns.Tie as tie
+use Rattle.operations.proofs.workspace.Workspace.swap_columns.Statement.{statement}
+use Rattle.operations.proofs.workspace.Workspace.swap_columns.Tie as tie
 
 returns : tie.Need-returns
 returns c =
@@ -12,7 +12,7 @@ returns c =
     unchanged (record {
       side = columns;
       operation = swap (start .args .j) (start .args .k);
-      layout = start .args .self;
+      workspace = start .args .self;
       slice = start .args .w .now;
       laid = start .pre .0;
       fits = swap-fits (start .args .j) (start .args .k) (start .pre .1 .1);

@@ -1,11 +1,11 @@
--- `layouts::first_layout` meets its contract: the room for the matrix is a product of two counts.
+-- `workspaces::first_workspace` meets its contract: the room for the matrix is a product of two counts.
 use Prim.Native.Nat.{_≤_, _*_, _^_}
 use native.Mathlib.Omega.{arith}
 use borrow.Author.Needs.{needs}
-use Rattle.two_reductions.specs.Layouts.{firstLayout}
+use Rattle.two_reductions.specs.Workspaces.{firstWorkspace}
 use Rattle.two_reductions.proofs.Room.{product-below, max-below}
-use Rattle.two_reductions.proofs.layouts.first_layout.Statement.{statement}
-use Rattle.two_reductions.proofs.layouts.first_layout.Tie as tie
+use Rattle.two_reductions.proofs.workspaces.first_workspace.Statement.{statement}
+use Rattle.two_reductions.proofs.workspaces.first_workspace.Tie as tie
 
 room-below : (c : tie.After-larger) → c .before .args .cells * c .larger .result ≤ 2 ^ 32
 room-below c =
@@ -25,8 +25,8 @@ add-t10 : tie.Need-add-t10
 add-t10 c = omega (arith, room-below c, square-below c)
 
 returns : tie.Need-returns
-unfolding firstLayout
+unfolding firstWorkspace
 returns c = rw (c .larger .ensures)
 
-pub first-layout-spec : {M : Type 1} → statement M
-first-layout-spec = tie.close (tie.spec (λ c κs. search needs) mul-room mul-t5 add-t10 returns)
+pub first-workspace-spec : {M : Type 1} → statement M
+first-workspace-spec = tie.close (tie.spec (λ c κs. search needs) mul-room mul-t5 add-t10 returns)

@@ -1,4 +1,4 @@
--- `operations::layout::Layout::on_columns` meets its contract: the matrix undergoes it, then its companions of the columns.
+-- `operations::workspace::Workspace::on_columns` meets its contract: the matrix undergoes it, then its companions of the columns.
 use mathlib.Core.Path.{_∙_}
 use borrow.Author.Needs.{needs}
 use Rattle.elementary_operations.specs.Operations.{operationOf}
@@ -6,14 +6,14 @@ use Rattle.lines.specs.declared.line.Effect.the-variants.{Done, TooWide}
 use Rattle.lines.proofs.Peaks.{small-bounded}
 use Rattle.operations.proofs.Side.{columns, matrix-held}
 use Rattle.operations.proofs.Operate.{Task, MatrixCalled, wide-matrix, companions-ready, operated}
-use Rattle.operations.proofs.layout.Layout.on_columns.Statement.{statement}
-use Rattle.operations.proofs.layout.Layout.on_columns.Tie as tie
+use Rattle.operations.proofs.workspace.Workspace.on_columns.Statement.{statement}
+use Rattle.operations.proofs.workspace.Workspace.on_columns.Tie as tie
 
 abbrev task : tie.Start → Task
 task s = record {
   side = columns;
   operation = operationOf (s .args .op);
-  layout = s .args .self;
+  workspace = s .args .self;
   slice = s .args .w .now;
   laid = s .pre .0;
   fits = s .pre .1 .1 .0;

@@ -1,14 +1,14 @@
--- `layout::lay_out` meets its contract: a matrix of at most 8 lines of at most 8 entries has at most 64.
+-- `workspace::lay_out` meets its contract: a matrix of at most 8 lines of at most 8 entries has at most 64.
 use mathlib.Core.Path.{_≡_, refl}
 use Prim.Native.Nat.{ℕ, _*_, _≤_}
 use native.Mathlib.Nat as NatL
 use native.Mathlib.Omega.{arith}
 use borrow.Author.Needs.{needs}
 use Rattle.lines.specs.declared.matrix.Matrix.{Matrix}
-use Rattle.operations.specs.declared.layout.Layout.{Layout}
-use Rattle.reduction_cases.specs.Layout.{side, Companion, Slotted, LaidOut}
-use Rattle.reduction_cases.proofs.layout.lay_out.Statement.{statement}
-use Rattle.reduction_cases.proofs.layout.lay_out.Tie as tie
+use Rattle.operations.specs.declared.workspace.Workspace.{Workspace}
+use Rattle.reduction_cases.specs.Workspace.{side, Companion, Slotted, LaidOut}
+use Rattle.reduction_cases.proofs.workspace.lay_out.Statement.{statement}
+use Rattle.reduction_cases.proofs.workspace.lay_out.Tie as tie
 
 slotted : {place lines : ℕ} {m : Matrix} → Companion place lines m → place ≤ 256 → lines ≤ side → Slotted m
 slotted k p s = record { at = omega (arith, k .at); lines = omega (arith, k .count); width = k .width }
@@ -16,7 +16,7 @@ slotted k p s = record { at = omega (arith, k .at); lines = omega (arith, k .cou
 area : {m : Matrix} → Slotted m → m .lines * m .width ≤ 64
 area s = NatL.mul-le-mul (s .lines) (s .width)
 
-module _ (rows columns : ℕ) (W : Layout) (rows-most : rows ≤ side) (columns-most : columns ≤ side)
+module _ (rows columns : ℕ) (W : Workspace) (rows-most : rows ≤ side) (columns-most : columns ≤ side)
     (at : W .matrix .at ≡ 0) (lines : W .matrix .lines ≡ rows) (width : W .matrix .width ≡ columns)
     (ri : Companion 64 rows (W .«row_inverse»)) (rf : Companion 128 rows (W .«row_follower»))
     (cf : Companion 192 columns (W .«column_follower»)) (ci : Companion 256 columns (W .«column_inverse»)) where

@@ -1,8 +1,8 @@
 // Where a matrix and its companions stand: each has 64 slots.
 ghost use Prim.Native.Nat.{_≤_};
-ghost use Rattle.reduction_cases.specs.Layout.{side, Companion, LaidOut};
+ghost use Rattle.reduction_cases.specs.Workspace.{side, Companion, LaidOut};
 use lines::matrix::Matrix;
-use operations::layout::Layout;
+use operations::workspace::Workspace;
 
 // The most rows or columns.
 pub const SIDE: usize = 8;
@@ -47,11 +47,11 @@ fn companion(at: usize, lines: usize, asked: bool) -> Matrix
 }
 
 // The places of a matrix and its companions.
-pub fn lay_out(rows: usize, columns: usize, asked: Asked) -> Layout
+pub fn lay_out(rows: usize, columns: usize, asked: Asked) -> Workspace
     requires { ⌜ (rows ≤ side) × (columns ≤ side) ⌝ }
     ensures { λ r. ⌜ LaidOut r ⌝ }
 {
-    Layout {
+    Workspace {
         matrix: Matrix {
             at: 0,
             lines: rows,

@@ -2,13 +2,13 @@
 -- is n_(p+1).
 use Prim.Native.Nat.{ℕ, _+_, _*_, _-_, max}
 use Rattle.lines.specs.declared.matrix.Matrix.{Matrix}
-use Rattle.operations.specs.declared.layout.Layout.{Layout}
+use Rattle.operations.specs.declared.workspace.Workspace.{Workspace}
 
 abbrev pub matrixAt : ℕ → ℕ → ℕ → Matrix
 matrixAt at lines width = record { at = at; lines = lines; width = width }
 
-unfoldable pub firstLayout : ℕ → ℕ → ℕ → Layout
-firstLayout cells rows columns =
+unfoldable pub firstWorkspace : ℕ → ℕ → ℕ → Workspace
+firstWorkspace cells rows columns =
     record {
       matrix = matrixAt 0 rows cells;
       «row_inverse» = matrixAt (cells * max rows columns) rows 0;
@@ -17,8 +17,8 @@ firstLayout cells rows columns =
       «column_inverse» = matrixAt (cells * max rows columns + cells * cells) cells cells;
     }
 
-unfoldable pub secondLayout : ℕ → ℕ → ℕ → ℕ → Layout
-secondLayout cells rows columns rank =
+unfoldable pub secondWorkspace : ℕ → ℕ → ℕ → ℕ → Workspace
+secondWorkspace cells rows columns rank =
     record {
       matrix = matrixAt 0 (cells - rank) columns;
       «row_inverse» = matrixAt (cells * max rows columns + rank * cells) (cells - rank) cells;

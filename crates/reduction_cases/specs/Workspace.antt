@@ -2,7 +2,7 @@
 use mathlib.Core.Path.{_≡_}
 use Prim.Native.Nat.{ℕ, _+_, _≤_}
 use Rattle.lines.specs.declared.matrix.Matrix.{Matrix}
-use Rattle.operations.specs.declared.layout.Layout.{Layout}
+use Rattle.operations.specs.declared.workspace.Workspace.{Workspace}
 use Rattle.operations.specs.Laid.{Laid}
 
 -- the most rows or columns
@@ -24,7 +24,7 @@ pub record Slotted (m : Matrix) : Type 0 where
   pub lines : m .lines ≤ side
   pub width : m .width ≤ side
 
-pub record LaidOut (W : Layout) : Type 0 where
+pub record LaidOut (W : Workspace) : Type 0 where
   pub laid : Laid slots W
   pub matrix : Slotted (W .matrix)
   pub row-inverse : Slotted (W .«row_inverse»)

@@ -1,10 +1,10 @@
--- `operations::layout::Layout::swap_rows` meets its contract: a row exchanged with itself leaves all as it is.
+-- `operations::workspace::Workspace::swap_rows` meets its contract: a row exchanged with itself leaves all as it is.
 use borrow.Author.Needs.{needs}
 use Rattle.matrices.specs.Operation.{swap}
 use Rattle.operations.proofs.Unchanged.{swap-fits, unchanged}
 use Rattle.operations.proofs.Side.{rows}
-use Rattle.operations.proofs.layout.Layout.swap_rows.Statement.{statement}
-use Rattle.operations.proofs.layout.Layout.swap_rows.Tie as tie
+use Rattle.operations.proofs.workspace.Workspace.swap_rows.Statement.{statement}
+use Rattle.operations.proofs.workspace.Workspace.swap_rows.Tie as tie
 
 returns : tie.Need-returns
 returns c =
@@ -12,7 +12,7 @@ returns c =
     unchanged (record {
       side = rows;
       operation = swap (start .args .i) (start .args .k);
-      layout = start .args .self;
+      workspace = start .args .self;
       slice = start .args .w .now;
       laid = start .pre .0;
       fits = swap-fits (start .args .i) (start .args .k) (start .pre .1 .1);

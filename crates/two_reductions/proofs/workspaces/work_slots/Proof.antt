@@ -1,9 +1,9 @@
--- `layouts::work_slots` meets its contract.
+-- `workspaces::work_slots` meets its contract.
 use native.Mathlib.Omega.{arith}
 use borrow.Author.Needs.{needs}
 use Rattle.two_reductions.proofs.Room.{slots-below, max-below}
-use Rattle.two_reductions.proofs.layouts.work_slots.Statement.{statement}
-use Rattle.two_reductions.proofs.layouts.work_slots.Tie as tie
+use Rattle.two_reductions.proofs.workspaces.work_slots.Statement.{statement}
+use Rattle.two_reductions.proofs.workspaces.work_slots.Tie as tie
 
 mul-result-2 : tie.Need-mul-result-2
 mul-result-2 c =

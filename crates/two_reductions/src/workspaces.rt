@@ -1,10 +1,10 @@
-// The layouts of the two reductions of a dimension p: `cells` is n_p, `rows` is n_(p-1) and `columns` is n_(p+1). First the matrix, in room for the
+// The workspaces of the two reductions of a dimension p: `cells` is n_p, `rows` is n_(p-1) and `columns` is n_(p+1). First the matrix, in room for the
 // wider of the two; then V by columns and its inverse by rows, of which the second reduction takes the lines from the rank on.
 ghost use mathlib.Core.Path.{_≡_};
 ghost use Prim.Native.Nat.{_+_, _*_, _<_, _≤_, max};
-ghost use Rattle.two_reductions.specs.Layouts.{firstLayout, secondLayout};
+ghost use Rattle.two_reductions.specs.Workspaces.{firstWorkspace, secondWorkspace};
 use lines::matrix::Matrix;
-use operations::layout::Layout;
+use operations::workspace::Workspace;
 
 fn larger(a: usize, b: usize) -> usize
     ensures { λ r. ⌜ r ≡ max a b ⌝ }
@@ -12,7 +12,7 @@ fn larger(a: usize, b: usize) -> usize
     if a < b { b } else { a }
 }
 
-// The slots that both layouts take.
+// The slots that both workspaces take.
 pub fn work_slots(cells: usize, rows: usize, columns: usize) -> usize
     requires { ⌜ (cells < 65536) × (rows < 65536) × (columns < 65536) ⌝ }
     ensures { λ r. ⌜ r ≡ cells * (2 * cells + max rows columns) ⌝ }
@@ -20,13 +20,13 @@ pub fn work_slots(cells: usize, rows: usize, columns: usize) -> usize
     cells * (2 * cells + larger(rows, columns))
 }
 
-// The layout of the first reduction.
-pub fn first_layout(cells: usize, rows: usize, columns: usize) -> Layout
+// The workspace of the first reduction.
+pub fn first_workspace(cells: usize, rows: usize, columns: usize) -> Workspace
     requires { ⌜ (cells < 65536) × (rows < 65536) × (columns < 65536) ⌝ }
-    ensures { λ r. ⌜ r ≡ firstLayout cells rows columns ⌝ }
+    ensures { λ r. ⌜ r ≡ firstWorkspace cells rows columns ⌝ }
 {
     let room = cells * larger(rows, columns);
-    Layout {
+    Workspace {
         matrix: Matrix {
             at: 0,
             lines: rows,
@@ -55,15 +55,15 @@ pub fn first_layout(cells: usize, rows: usize, columns: usize) -> Layout
     }
 }
 
-// The layout of the second reduction, after a first one of this rank.
-pub fn second_layout(cells: usize, rows: usize, columns: usize, rank: usize) -> Layout
+// The workspace of the second reduction, after a first one of this rank.
+pub fn second_workspace(cells: usize, rows: usize, columns: usize, rank: usize) -> Workspace
     requires { ⌜ (cells < 65536) × (rows < 65536) × (columns < 65536) × (rank ≤ cells) ⌝ }
-    ensures { λ r. ⌜ r ≡ secondLayout cells rows columns rank ⌝ }
+    ensures { λ r. ⌜ r ≡ secondWorkspace cells rows columns rank ⌝ }
 {
     let room = cells * larger(rows, columns);
     let end = room + 2 * (cells * cells);
     let kept = cells - rank;
-    Layout {
+    Workspace {
         matrix: Matrix {
             at: 0,
             lines: kept,

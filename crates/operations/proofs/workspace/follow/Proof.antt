@@ -1,4 +1,4 @@
--- `operations::layout::follow` meets its contract, by what `on_lines` ensures of the follower and then of the inverse companion.
+-- `operations::workspace::follow` meets its contract, by what `on_lines` ensures of the follower and then of the inverse companion.
 use mathlib.Core.Path.{_≡_, sym, subst, _∙_}
 use borrow.Author.Needs.{needs}
 use Prim.Native.Nat.{ℕ}
@@ -10,8 +10,8 @@ use Rattle.lines.specs.declared.line.Effect.{Effect}
 use Rattle.lines.specs.declared.line.Effect.the-variants.{Done, TooWide}
 use Rattle.elementary_operations.proofs.Holding.{holds-nothing}
 use Rattle.operations.specs.Laid.{Followed}
-use Rattle.operations.proofs.layout.follow.Statement.{statement}
-use Rattle.operations.proofs.layout.follow.Tie as tie
+use Rattle.operations.proofs.workspace.follow.Statement.{statement}
+use Rattle.operations.proofs.workspace.follow.Tie as tie
 
 inverse-requires : tie.Need-inverse-requires
 inverse-requires c κs = c .before .before .pre .1 .0 .factor
