@@ -8,9 +8,9 @@ use native.Mathlib.Omega.{arith}
 use native.Mathlib.Decide.{decLt, decLe}
 use lib.IntN.{ℤ, natAbs}
 use Rattle.matrices.specs.Matrix as theory
-use Rattle.lines.specs.Slice.{at, lineAt, Under, Bounded, Covered}
-use Rattle.lines.specs.Matrices.{end, Off, everywhere, Holds}
-use Rattle.lines.specs.declared.matrix.Matrix.{Matrix}
+use Rattle.matrix_lines.specs.Slice.{at, lineAt, Under, Bounded, Covered}
+use Rattle.matrix_lines.specs.Matrices.{end, Off, everywhere, Holds}
+use Rattle.matrix_lines.specs.declared.matrix.Matrix.{Matrix}
 use Rattle.boundaries.specs.Filled.{MatrixFilled}
 
 -- every entry of A lies within L

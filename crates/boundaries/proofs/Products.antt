@@ -17,9 +17,9 @@ use Rattle.complexes.specs.Boundary.{sign, boundary}
 use Rattle.complexes.proofs.CoefficientLaws.{natAbs-sign}
 use Rattle.sheet_format.specs.Layout.{top}
 use Rattle.sheet_format.specs.Check.{sectionsOf}
-use Rattle.lines.specs.Slice.{entryLimit, at, lineAt, Small}
-use Rattle.lines.specs.Matrices.{contents, end, Off}
-use Rattle.lines.specs.declared.matrix.Matrix.{Matrix}
+use Rattle.matrix_lines.specs.Slice.{entryLimit, at, lineAt, Small}
+use Rattle.matrix_lines.specs.Matrices.{contents, end, Off}
+use Rattle.matrix_lines.specs.declared.matrix.Matrix.{Matrix}
 use Rattle.faces.specs.Face.{AreFaces}
 use Rattle.faces.proofs.Sums.{sum-places}
 

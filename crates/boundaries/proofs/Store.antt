@@ -9,12 +9,12 @@ use native.Mathlib.Decide.{ℕ-discrete, decLt}
 use lib.ListN.{length, set, length-set}
 use lib.IntN.{ℤ}
 use Rattle.matrices.specs.Matrix as theory
-use Rattle.lines.specs.Slice.{at, lineAt}
-use Rattle.lines.specs.Slice as slice
-use Rattle.lines.specs.Matrices.{Held, contents, Off}
-use Rattle.lines.specs.declared.matrix.Matrix.{Matrix}
-use Rattle.lines.proofs.Store.{at-set-same, at-set-other}
-use Rattle.lines.proofs.Spans.{Span, span-inside, span-off, span-outside}
+use Rattle.matrix_lines.specs.Slice.{at, lineAt}
+use Rattle.matrix_lines.specs.Slice as slice
+use Rattle.matrix_lines.specs.Matrices.{Held, contents, Off}
+use Rattle.matrix_lines.specs.declared.matrix.Matrix.{Matrix}
+use Rattle.matrix_lines.proofs.Store.{at-set-same, at-set-other}
+use Rattle.matrix_lines.proofs.Spans.{Span, span-inside, span-off, span-outside}
 use Rattle.boundaries.specs.Filled.{MatrixFilled, ColumnFilled}
 
 -- the place of entry i, j of M

@@ -8,11 +8,11 @@ use lib.IntN.{ℤ, natAbs, _*ℤ_}
 use Rattle.matrices.specs.Sum.{sum}
 use Rattle.matrices.specs.Matrix as theory
 use Rattle.complexes.specs.Boundary.{sign}
-use Rattle.lines.specs.Slice.{entryLimit, Bounded, Covered}
-use Rattle.lines.specs.Matrices.{contents}
-use Rattle.lines.specs.declared.matrix.Matrix.{Matrix}
-use Rattle.lines.specs.declared.line.Effect.{Effect}
-use Rattle.lines.specs.declared.line.Effect.the-variants.{Done, TooWide}
+use Rattle.matrix_lines.specs.Slice.{entryLimit, Bounded, Covered}
+use Rattle.matrix_lines.specs.Matrices.{contents}
+use Rattle.matrix_lines.specs.declared.matrix.Matrix.{Matrix}
+use Rattle.matrix_lines.specs.declared.line.Effect.{Effect}
+use Rattle.matrix_lines.specs.declared.line.Effect.the-variants.{Done, TooWide}
 use Rattle.boundaries.specs.Filled.{ColumnFilled}
 
 -- the matrix whose every column is that of the slice's matrix q times the column with sign t in row places[t], for t below `faces`, and 0 elsewhere

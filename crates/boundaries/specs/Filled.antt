@@ -7,9 +7,9 @@ use lib.ListN.{length}
 use lib.IntN.{ℤ}
 use Rattle.matrices.specs.Matrix.{Eq}
 use Rattle.matrices.specs.Matrix as theory
-use Rattle.lines.specs.Slice.{at}
-use Rattle.lines.specs.Matrices.{contents, Off}
-use Rattle.lines.specs.declared.matrix.Matrix.{Matrix}
+use Rattle.matrix_lines.specs.Slice.{at}
+use Rattle.matrix_lines.specs.Matrices.{contents, Off}
+use Rattle.matrix_lines.specs.declared.matrix.Matrix.{Matrix}
 
 -- w′ holds A where the matrix stands, and is w elsewhere
 pub record MatrixFilled (M : Matrix) (w : List ℤ) (A : theory.Matrix) (w′ : List ℤ) : Type 0 where

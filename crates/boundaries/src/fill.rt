@@ -7,13 +7,13 @@ ghost use Rattle.complexes.specs.Complex.{count};
 ghost use Rattle.complexes.specs.Boundary.{boundary};
 ghost use Rattle.sheet_format.specs.Layout.{top};
 ghost use Rattle.sheet_format.specs.Check.{sectionsOf};
-ghost use Rattle.lines.specs.Matrices.{Held, contents};
+ghost use Rattle.matrix_lines.specs.Matrices.{Held, contents};
 ghost use Rattle.faces.specs.Face.{Accepted};
 ghost use Rattle.boundaries.specs.Filled.{MatrixFilled, ColumnFilled};
 use cells::face::FACES;
 use faces::face::face_places;
 use faces::face::sign;
-use lines::matrix::Matrix;
+use matrix_lines::matrix::Matrix;
 
 // Writes column j of the boundary matrix of dimension p + 1. The search for the faces of cell j starts at `places`, which become theirs.
 fn fill_column(s: &[u8], p: usize, m: Matrix, w: &mut [i32], j: usize, places: &mut [usize; FACES])

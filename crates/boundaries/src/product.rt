@@ -10,15 +10,15 @@ ghost use Rattle.complexes.specs.Boundary as spec;
 ghost use Rattle.complexes.specs.Boundary.{boundary};
 ghost use Rattle.sheet_format.specs.Layout.{top};
 ghost use Rattle.sheet_format.specs.Check.{sectionsOf};
-ghost use Rattle.lines.specs.Slice.{Small, Bounded, at, Under};
-ghost use Rattle.lines.specs.Matrices.{Held, contents, end, Became, everywhere};
+ghost use Rattle.matrix_lines.specs.Slice.{Small, Bounded, at, Under};
+ghost use Rattle.matrix_lines.specs.Matrices.{Held, contents, end, Became, everywhere};
 ghost use Rattle.faces.specs.Face.{Accepted};
 ghost use Rattle.boundaries.specs.Column.{atPlaces, ColumnBecame};
 use cells::face::FACES;
 use faces::face::face_places;
 use faces::face::sign;
-use lines::line::Effect;
-use lines::matrix::Matrix;
+use matrix_lines::line::Effect;
+use matrix_lines::matrix::Matrix;
 use numbers::absolute::absolute;
 
 // The sum of sign t times the entry at places[t] of a line, over t below `faces`. The loop has a constant length, so that the compiler

@@ -14,8 +14,8 @@ use Rattle.requests.specs.Call.{workSlots}
 use Rattle.reports.specs.Reductions.{noTransforms, reductionsOf}
 use Rattle.limits.specs.Limits.{entryLimit, coefficientLimit, libraryLimit}
 use Rattle.answers.proofs.TwoReductions.{Right, reductions-right}
-use Rattle.lines.specs.Slice.{at}
-use Rattle.lines.proofs.Peaks.{under-small}
+use Rattle.matrix_lines.specs.Slice.{at}
+use Rattle.matrix_lines.proofs.Peaks.{under-small}
 use Rattle.operations.specs.Laid.{Laid}
 use Rattle.writers.specs.Written.{Kinds, CanReport, CanCount, CanCoordinate}
 use Rattle.two_reductions.specs.declared.reduced.Reduced.{Reduced}

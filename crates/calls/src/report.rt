@@ -9,7 +9,7 @@ use crate::admission::Admission;
 use crate::admission::Request;
 use crate::admission::admit;
 use crate::answer::Answer;
-use lines::line::clear;
+use matrix_lines::line::clear;
 use refusal::Refusal;
 use sheet::reader::Sheet;
 use two_reductions::reductions::Reductions;

@@ -9,13 +9,13 @@ use native.Mathlib.Nat as NatL
 use native.Mathlib.Omega.{arith}
 use lib.IntN.{ℤ, negℤ, natAbs, _-ℤ_, _*ℤ_}
 use Rattle.matrices.specs.Matrix as theory
-use Rattle.lines.specs.Slice.{entryLimit, at, lineAt, Bounded, OneOf, Off, difference, LineSet, Beyond, Subtracted, Negated, LinesSwapped}
-use Rattle.lines.specs.Matrices.{contents, Entries, EntryOf, Holds, Exceeds, Became}
-use Rattle.lines.specs.declared.matrix.Matrix.{Matrix}
-use Rattle.lines.specs.declared.line.Effect.{Effect}
-use Rattle.lines.specs.declared.line.Effect.the-variants.{Done, TooWide}
-use Rattle.lines.proofs.Peaks.{covered-same, covered-trans}
-use Rattle.lines.proofs.Spans.{Span, On, on-or-off, span-at, span-off, span-outside}
+use Rattle.matrix_lines.specs.Slice.{entryLimit, at, lineAt, Bounded, OneOf, Off, difference, LineSet, Beyond, Subtracted, Negated, LinesSwapped}
+use Rattle.matrix_lines.specs.Matrices.{contents, Entries, EntryOf, Holds, Exceeds, Became}
+use Rattle.matrix_lines.specs.declared.matrix.Matrix.{Matrix}
+use Rattle.matrix_lines.specs.declared.line.Effect.{Effect}
+use Rattle.matrix_lines.specs.declared.line.Effect.the-variants.{Done, TooWide}
+use Rattle.matrix_lines.proofs.Peaks.{covered-same, covered-trans}
+use Rattle.matrix_lines.proofs.Spans.{Span, On, on-or-off, span-at, span-off, span-outside}
 
 -- one change after another: an entry that the first wrote stays
 pub holds-trans :

@@ -10,14 +10,14 @@ use Rattle.matrices.specs.Operation as definitions
 use Rattle.matrices.specs.Operation.{subtract, swap, negate, onRows, inverse}
 use Rattle.matrices.proofs.OperationLaws.{onRows-subtract-at, onRows-subtract-other, onRows-swap-first, onRows-swap-second, onRows-swap-other, onRows-negate-at, onRows-negate-other}
 use Rattle.matrices.specs.Within.{Within-inverse}
-use Rattle.lines.specs.Slice.{Subtracted, Negated, LinesSwapped}
-use Rattle.lines.specs.Matrices.{contents}
+use Rattle.matrix_lines.specs.Slice.{Subtracted, Negated, LinesSwapped}
+use Rattle.matrix_lines.specs.Matrices.{contents}
 use Rattle.elementary_operations.specs.Operations.{operationOf, FactorWithin, Fits, Writes, OnLines}
-use Rattle.lines.specs.declared.matrix.Matrix.{Matrix}
-use Rattle.lines.specs.declared.line.Effect.{Effect}
-use Rattle.lines.specs.declared.line.Effect.the-variants.{Done}
+use Rattle.matrix_lines.specs.declared.matrix.Matrix.{Matrix}
+use Rattle.matrix_lines.specs.declared.line.Effect.{Effect}
+use Rattle.matrix_lines.specs.declared.line.Effect.the-variants.{Done}
 use Rattle.elementary_operations.specs.declared.operation.Operation.{Operation}
-use Rattle.lines.proofs.Spans.{Span, off-line}
+use Rattle.matrix_lines.proofs.Spans.{Span, off-line}
 use Rattle.elementary_operations.proofs.Holding.{subtracted-became, negated-holds, swapped-holds}
 
 -- ---- whole lines

@@ -15,20 +15,20 @@ use Rattle.matrices.specs.Matrix as theory
 use Rattle.matrices.specs.Operation.{Operation, subtract, swap, negate, onRows, onColumns}
 use Rattle.matrices.proofs.OperationLaws.{onRows-ext-at, onRows-subtract-at, onRows-subtract-other}
 use Rattle.matrices.specs.Within.{Within}
-use Rattle.lines.specs.Slice.{entryLimit, at, lineAt, Bounded, LinesSwapped, Negated}
-use Rattle.lines.specs.Slice as slice
-use Rattle.lines.specs.Matrices.{Held, contents, Off, Entries, EntryOf, Holds, Exceeds, placesOf}
+use Rattle.matrix_lines.specs.Slice.{entryLimit, at, lineAt, Bounded, LinesSwapped, Negated}
+use Rattle.matrix_lines.specs.Slice as slice
+use Rattle.matrix_lines.specs.Matrices.{Held, contents, Off, Entries, EntryOf, Holds, Exceeds, placesOf}
 use Rattle.elementary_operations.specs.Operations.{operationOf, Fits, Writes, OnLines, OnPlaces, AloneAt, Alone}
-use Rattle.lines.specs.declared.matrix.Matrix.{Matrix}
-use Rattle.lines.specs.declared.line.Effect.{Effect}
-use Rattle.lines.specs.declared.line.Effect.the-variants.{Done, TooWide}
+use Rattle.matrix_lines.specs.declared.matrix.Matrix.{Matrix}
+use Rattle.matrix_lines.specs.declared.line.Effect.{Effect}
+use Rattle.matrix_lines.specs.declared.line.Effect.the-variants.{Done, TooWide}
 use Rattle.elementary_operations.specs.declared.operation.Operation as code
 use Rattle.elementary_operations.specs.declared.operation.Operation.the-variants.{Subtract}
-use Rattle.lines.proofs.Spans.{Span, line-span, span-inside, span-off, span-outside}
+use Rattle.matrix_lines.proofs.Spans.{Span, line-span, span-inside, span-off, span-outside}
 use Rattle.elementary_operations.proofs.Holding.{holds-trans}
-use Rattle.lines.proofs.UpTo.{upTo, upTo-below, upTo-from}
+use Rattle.matrix_lines.proofs.UpTo.{upTo, upTo-below, upTo-from}
 use Rattle.elementary_operations.proofs.Operations.{swap-lines, negate-line, fits-case}
-use Rattle.lines.proofs.Peaks.{covered-same}
+use Rattle.matrix_lines.proofs.Peaks.{covered-same}
 
 -- ---- the places of a line
 

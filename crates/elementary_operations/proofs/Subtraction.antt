@@ -7,15 +7,15 @@ use lib.ListN.{length}
 use lib.IntN.{ℤ, natAbs}
 use mir.Syntax.{w64}
 use Rattle.matrices.specs.Operation.{subtract}
-use Rattle.lines.specs.Slice.{entryLimit, lineAt, Bounded, Apart, Subtracted}
-use Rattle.lines.specs.Matrices.{Held}
+use Rattle.matrix_lines.specs.Slice.{entryLimit, lineAt, Bounded, Apart, Subtracted}
+use Rattle.matrix_lines.specs.Matrices.{Held}
 use Rattle.elementary_operations.specs.Operations.{operationOf, Fits, OnLines}
-use Rattle.lines.specs.declared.matrix.Matrix.{Matrix}
-use Rattle.lines.specs.declared.line.Effect.{Effect}
+use Rattle.matrix_lines.specs.declared.matrix.Matrix.{Matrix}
+use Rattle.matrix_lines.specs.declared.line.Effect.{Effect}
 use Rattle.elementary_operations.specs.declared.operation.Operation.{Operation}
 use Rattle.elementary_operations.specs.declared.operation.Operation.the-variants.{Subtract}
-use Rattle.words.specs.Read.{read, read-wide}
-use Rattle.lines.proofs.Spans.{Span, line-span, span-inside, spans-apart}
+use Rattle.machine_words.specs.Read.{read, read-wide}
+use Rattle.matrix_lines.proofs.Spans.{Span, line-span, span-inside, spans-apart}
 use Rattle.elementary_operations.proofs.Operations.{subtract-lines, fits-case, became-case}
 
 module _ {op : Operation} {i k : ℕ} {q : ℤ} (e : op ≡ Subtract i k q) (M : Matrix) (fits : Fits (M .lines) (operationOf op)) where

@@ -6,10 +6,10 @@ use Prim.Native.Nat.{ℕ, _<_, _≤_}
 use lib.IntN.{ℤ, pos, natAbs}
 use Rattle.matrices.specs.Operation as theory
 use Rattle.matrices.specs.Within.{Within}
-use Rattle.lines.specs.Slice.{entryLimit}
-use Rattle.lines.specs.Matrices.{contents, Became}
-use Rattle.lines.specs.declared.matrix.Matrix.{Matrix}
-use Rattle.lines.specs.declared.line.Effect.{Effect}
+use Rattle.matrix_lines.specs.Slice.{entryLimit}
+use Rattle.matrix_lines.specs.Matrices.{contents, Became}
+use Rattle.matrix_lines.specs.declared.matrix.Matrix.{Matrix}
+use Rattle.matrix_lines.specs.declared.line.Effect.{Effect}
 use Rattle.elementary_operations.specs.declared.operation.Operation.{Operation}
 use Rattle.elementary_operations.specs.declared.operation.Operation.the-variants.{Subtract, Swap, Negate}
 

@@ -3,14 +3,14 @@
 ghost use Prim.Native.Nat.{_<_};
 ghost use lib.ListN.{length};
 ghost use Rattle.matrices.specs.Operation.{swap, negate};
-ghost use Rattle.lines.specs.Slice.{Bounded};
-ghost use Rattle.lines.specs.Matrices.{Held};
-ghost use Rattle.lines.specs.declared.line.Effect.the-variants.{Done};
+ghost use Rattle.matrix_lines.specs.Slice.{Bounded};
+ghost use Rattle.matrix_lines.specs.Matrices.{Held};
+ghost use Rattle.matrix_lines.specs.declared.line.Effect.the-variants.{Done};
 ghost use Rattle.elementary_operations.specs.Operations.{operationOf, Fits, Alone, OnLines, OnPlaces};
 use crate::operation::Operation;
-use lines::line;
-use lines::line::Effect;
-use lines::matrix::Matrix;
+use matrix_lines::line;
+use matrix_lines::line::Effect;
+use matrix_lines::matrix::Matrix;
 
 // Does the operation to the lines, block by block.
 fn on_wide_lines(m: Matrix, w: &mut [i32], op: Operation, before: u64) -> Effect

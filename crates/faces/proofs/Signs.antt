@@ -7,8 +7,8 @@ use mir.Syntax.{w32, w64}
 use mir.Val.{SFits}
 use Rattle.complexes.specs.Boundary.{sign}
 use Rattle.complexes.proofs.CoefficientLaws.{natAbs-sign}
-use Rattle.lines.specs.Slice.{entryLimit}
-use Rattle.words.specs.Read.{read, read-entry, read-wide, entry-fits}
+use Rattle.matrix_lines.specs.Slice.{entryLimit}
+use Rattle.machine_words.specs.Read.{read, read-entry, read-wide, entry-fits}
 
 -- the sign of an even and of an odd number
 pub record Signs (t : ℕ) : Type 0 where

@@ -18,14 +18,14 @@ use Rattle.matrices.specs.Within.{Within, Within-inverse}
 use Rattle.reduction_steps.specs.Table.{Table, entry, table, tableLargest}
 use Rattle.reduction_steps.specs.State.{State, made, tooWide, largest, noted, within, checked}
 use Rattle.reduction_laws.specs.Tables.{entry-table, table-ext, Eq-table, tableLargest-table}
-use Rattle.lines.specs.Slice.{entryLimit, at, lineAt, Small, Under, Bounded, Covered}
-use Rattle.lines.specs.Matrices.{Held, contents, Entries, EntryOf, Exceeds, Became}
+use Rattle.matrix_lines.specs.Slice.{entryLimit, at, lineAt, Small, Under, Bounded, Covered}
+use Rattle.matrix_lines.specs.Matrices.{Held, contents, Entries, EntryOf, Exceeds, Became}
 use Rattle.elementary_operations.specs.Operations.{Fits, Writes, OnLines}
-use Rattle.lines.proofs.Peaks.{covered-trans, under-covered, small-bounded}
+use Rattle.matrix_lines.proofs.Peaks.{covered-trans, under-covered, small-bounded}
 use Rattle.reduction_laws.specs.Shape.{linesAnew}
-use Rattle.lines.specs.declared.matrix.Matrix.{Matrix}
-use Rattle.lines.specs.declared.line.Effect.{Effect}
-use Rattle.lines.specs.declared.line.Effect.the-variants.{Done, TooWide}
+use Rattle.matrix_lines.specs.declared.matrix.Matrix.{Matrix}
+use Rattle.matrix_lines.specs.declared.line.Effect.{Effect}
+use Rattle.matrix_lines.specs.declared.line.Effect.the-variants.{Done, TooWide}
 use Rattle.operations.specs.Laid.{Laid, linesOf, stateOf, Operated, Followed}
 use Rattle.operations.specs.declared.workspace.Workspace.{Workspace}
 use Rattle.operations.proofs.Regions.{disjoint-sym, Kept, kept-refl, kept-trans, contents-off, lines-off, lines-on, shaped}

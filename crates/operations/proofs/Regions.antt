@@ -12,9 +12,9 @@ use Rattle.matrices.specs.Matrix.{Eq}
 use Rattle.matrices.specs.Matrix as theory
 use Rattle.reduction_steps.specs.Table.{Table, table}
 use Rattle.reduction_laws.specs.Tables.{table-ext}
-use Rattle.lines.specs.Slice.{at, lineAt}
-use Rattle.lines.specs.Matrices.{end, contents, Off, Entries, Holds}
-use Rattle.lines.specs.declared.matrix.Matrix.{Matrix}
+use Rattle.matrix_lines.specs.Slice.{at, lineAt}
+use Rattle.matrix_lines.specs.Matrices.{end, contents, Off, Entries, Holds}
+use Rattle.matrix_lines.specs.declared.matrix.Matrix.{Matrix}
 use Rattle.operations.specs.Laid.{linesOf}
 
 -- place p belongs to the matrix

@@ -12,10 +12,10 @@ use Rattle.reduction_steps.specs.Table.{Table, entry, table, tableLargest}
 use Rattle.reduction_steps.specs.State.{State, Outcome, largest, noted, checked, onRow, onColumn}
 use Rattle.reduction_laws.specs.Tables.{table-entry}
 use Rattle.reduction_laws.specs.Shape.{Shaped, linesAnew, rows-anew, columns-anew}
-use Rattle.lines.specs.Slice.{entryLimit}
-use Rattle.lines.specs.Matrices.{end, Held, contents, Entries, EntryOf}
+use Rattle.matrix_lines.specs.Slice.{entryLimit}
+use Rattle.matrix_lines.specs.Matrices.{end, Held, contents, Entries, EntryOf}
 use Rattle.elementary_operations.specs.Operations.{Fits, Writes}
-use Rattle.lines.specs.declared.matrix.Matrix.{Matrix}
+use Rattle.matrix_lines.specs.declared.matrix.Matrix.{Matrix}
 use Rattle.elementary_operations.proofs.Operations.{Fits-inverse}
 use Rattle.operations.specs.Laid.{Laid, sizesOf, linesOf, stateOf}
 use Rattle.operations.specs.declared.workspace.Workspace.{Workspace}

@@ -14,12 +14,12 @@ use Rattle.matrices.specs.Operation.{Operation, subtract, swap, negate, onRows,
 use Rattle.matrices.proofs.OperationLaws.{onRows-subtract-at, onRows-subtract-other, onRows-swap-first, onRows-swap-other}
 use lib.ListN.{length}
 use Rattle.reduction_steps.specs.State.{made, onRow, onColumn}
-use Rattle.lines.specs.Slice.{entryLimit, Small, Under, Bounded}
-use Rattle.lines.specs.Matrices.{contents, Entries, Holds}
+use Rattle.matrix_lines.specs.Slice.{entryLimit, Small, Under, Bounded}
+use Rattle.matrix_lines.specs.Matrices.{contents, Entries, Holds}
 use Rattle.elementary_operations.specs.Operations.{Fits, Writes}
-use Rattle.lines.proofs.Peaks.{under-small, small-bounded, covered-same}
-use Rattle.lines.specs.declared.matrix.Matrix.{Matrix}
-use Rattle.lines.specs.declared.line.Effect.the-variants.{Done}
+use Rattle.matrix_lines.proofs.Peaks.{under-small, small-bounded, covered-same}
+use Rattle.matrix_lines.specs.declared.matrix.Matrix.{Matrix}
+use Rattle.matrix_lines.specs.declared.line.Effect.the-variants.{Done}
 use Rattle.operations.specs.Laid.{Laid, sizesOf, stateOf}
 use Rattle.operations.specs.declared.workspace.Workspace.{Workspace}
 use Rattle.operations.proofs.Side.{Side, rows, columns, follower, undone, onSide, written}

@@ -7,12 +7,12 @@ use lib.IntN.{ℤ}
 use Rattle.matrices.specs.Operation.{Operation, inverse}
 use Rattle.reduction_steps.specs.Table.{Table, table}
 use Rattle.reduction_steps.specs.State.{Sizes, State, Outcome, made, tooWide, onRow, onColumn}
-use Rattle.lines.specs.Slice.{entryLimit, Under, Bounded, Covered}
-use Rattle.lines.specs.Matrices.{end, contents, EntryOf}
+use Rattle.matrix_lines.specs.Slice.{entryLimit, Under, Bounded, Covered}
+use Rattle.matrix_lines.specs.Matrices.{end, contents, EntryOf}
 use Rattle.elementary_operations.specs.Operations.{Writes, OnLines}
-use Rattle.lines.specs.declared.matrix.Matrix.{Matrix}
-use Rattle.lines.specs.declared.line.Effect.{Effect}
-use Rattle.lines.specs.declared.line.Effect.the-variants.{Done, TooWide}
+use Rattle.matrix_lines.specs.declared.matrix.Matrix.{Matrix}
+use Rattle.matrix_lines.specs.declared.line.Effect.{Effect}
+use Rattle.matrix_lines.specs.declared.line.Effect.the-variants.{Done, TooWide}
 use Rattle.operations.specs.declared.workspace.Workspace.{Workspace}
 
 -- The five matrices follow one another in a slice of length n, gaps allowed. The companions of the row operations have a line for each row of

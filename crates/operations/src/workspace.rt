@@ -2,15 +2,15 @@
 ghost use Prim.Native.Nat.{_<_};
 ghost use lib.ListN.{length};
 ghost use Rattle.matrices.specs.Operation.{swap, inverse as undoing};
-ghost use Rattle.lines.specs.Slice.{Small, Bounded};
+ghost use Rattle.matrix_lines.specs.Slice.{Small, Bounded};
 ghost use Rattle.elementary_operations.specs.Operations.{operationOf, Fits, Alone};
-ghost use Rattle.lines.specs.Matrices.{Held};
+ghost use Rattle.matrix_lines.specs.Matrices.{Held};
 ghost use Rattle.operations.specs.Laid.{Laid, RowsOperated, ColumnsOperated, Followed};
 use elementary_operations::apply::on_lines;
 use elementary_operations::apply::on_places;
 use elementary_operations::operation::Operation;
-use lines::line::Effect;
-use lines::matrix::Matrix;
+use matrix_lines::line::Effect;
+use matrix_lines::matrix::Matrix;
 
 // The companions undergo the row operations, by rows, their inverses, by columns, the column operations, by columns, and their inverses, by rows.
 pub struct Workspace {

@@ -12,9 +12,9 @@ use Rattle.matrices.specs.Operation.{swap, negate}
 use Rattle.reduction_steps.specs.Table.{entry}
 use Rattle.reduction_steps.specs.State.{Sizes, State, tooWide, made, andThen, onRow, onColumn}
 use Rattle.reduction_steps.specs.Step.{positive, bring}
-use Rattle.lines.specs.Slice.{Under}
-use Rattle.lines.specs.Matrices.{contents}
-use Rattle.words.specs.Read.{read}
+use Rattle.matrix_lines.specs.Slice.{Under}
+use Rattle.matrix_lines.specs.Matrices.{contents}
+use Rattle.machine_words.specs.Read.{read}
 use Rattle.operations.specs.Laid.{stateOf}
 use Rattle.operations.specs.declared.workspace.Workspace.{Workspace}
 use Rattle.passes.proofs.States.{entry-state}

@@ -20,8 +20,8 @@ use Rattle.reduction_steps.specs.State.{Sizes, State, Outcome, tooWide, made, a
 use Rattle.reduction_steps.specs.Step.{quotient, rowPass, columnPass}
 use Rattle.reduction_laws.specs.Letters.{ReadyC}
 use Rattle.reduction_laws.specs.Led.{Led, led-row, led-column}
-use Rattle.lines.specs.Slice.{entryLimit, at, lineAt, Under, FirstNonzero}
-use Rattle.lines.specs.Matrices.{contents}
+use Rattle.matrix_lines.specs.Slice.{entryLimit, at, lineAt, Under, FirstNonzero}
+use Rattle.matrix_lines.specs.Matrices.{contents}
 use Rattle.operations.specs.Laid.{Laid, sizesOf, stateOf}
 use Rattle.operations.specs.declared.workspace.Workspace.{Workspace}
 use Rattle.integers.proofs.Floor.{floor-zero}
@@ -29,7 +29,7 @@ use Rattle.operations.proofs.Unchanged.{columns-unchanged}
 use Rattle.operations.proofs.Side.{shaped-state}
 use Rattle.refusal.specs.declared.Refusal.the-variants as Refusal
 use Rattle.passes.specs.PassAnswers.{Placed, ColumnClear, rowPassOf, columnPassOf, PassMade, PassRefused}
-use Rattle.lines.proofs.Spans.{line-span, span-inside}
+use Rattle.matrix_lines.proofs.Spans.{line-span, span-inside}
 use Rattle.passes.proofs.States.{held-matrix, entry-state, rowsDone-moves}
 
 -- ---- one operation of a pass

@@ -13,12 +13,12 @@ use Rattle.reduction_laws.specs.Tables.{entry-table}
 use Rattle.reduction_laws.specs.Shape.{Shaped, shaped-rows, shaped-columns, matrix-rows, matrix-columns}
 use Rattle.reduction_laws.specs.Moves.{Moves, Keeps, moves-keep}
 use Rattle.reduction_laws.specs.StageLaws as stage-laws
-use Rattle.lines.specs.Slice.{Under}
-use Rattle.lines.specs.Matrices.{Held, contents}
-use Rattle.lines.specs.declared.line.Effect.{Effect}
-use Rattle.lines.specs.declared.line.Effect.the-variants.{Done, TooWide}
+use Rattle.matrix_lines.specs.Slice.{Under}
+use Rattle.matrix_lines.specs.Matrices.{Held, contents}
+use Rattle.matrix_lines.specs.declared.line.Effect.{Effect}
+use Rattle.matrix_lines.specs.declared.line.Effect.the-variants.{Done, TooWide}
 use Rattle.operations.specs.Laid.{Laid, sizesOf, linesOf, stateOf, outcomeOf, Wrote, Answered, Operated}
-use Rattle.lines.proofs.Peaks.{under-covered}
+use Rattle.matrix_lines.proofs.Peaks.{under-covered}
 use Rattle.operations.specs.declared.workspace.Workspace.{Workspace}
 
 -- ---- the state of a slice

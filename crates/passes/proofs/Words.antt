@@ -8,10 +8,10 @@ use lib.Signed.{_<ℤ_}
 use mir.Syntax.{w64}
 use Rattle.integers.specs.Division.{floor}
 use Rattle.reduction_laws.specs.Letters.{ReadyC}
-use Rattle.lines.specs.Slice.{entryLimit, lineAt, Under}
-use Rattle.lines.specs.Matrices.{contents}
-use Rattle.lines.specs.declared.matrix.Matrix.{Matrix}
-use Rattle.words.specs.Read.{read, read-wide}
+use Rattle.matrix_lines.specs.Slice.{entryLimit, lineAt, Under}
+use Rattle.matrix_lines.specs.Matrices.{contents}
+use Rattle.matrix_lines.specs.declared.matrix.Matrix.{Matrix}
+use Rattle.machine_words.specs.Read.{read, read-wide}
 use Rattle.operations.specs.Laid.{sizesOf, stateOf}
 use Rattle.operations.specs.declared.workspace.Workspace.{Workspace}
 use Rattle.passes.proofs.States.{entry-state}

@@ -10,7 +10,7 @@ use Rattle.reduction_steps.specs.State.{Outcome, made, tooWide}
 use Rattle.reduction_steps.specs.Step.{bring, rowPass, columnPass}
 use Rattle.reduction_laws.specs.StageLaws as stage-laws
 use Rattle.reduction_laws.specs.Letters.{ReadyC, ReadyD}
-use Rattle.lines.specs.Slice.{entryLimit, Under}
+use Rattle.matrix_lines.specs.Slice.{entryLimit, Under}
 use Rattle.refusal.specs.Number.{numberOf}
 use Rattle.refusal.specs.declared.Refusal.{Refusal}
 use Rattle.operations.specs.Laid.{Laid, sizesOf, linesOf, stateOf}

@@ -1,13 +1,13 @@
 // Step b. An operation that goes too wide ends the call there: the slice is cleared.
 ghost use Prim.Native.Nat.{_<_};
 ghost use lib.ListN.{length};
-ghost use Rattle.lines.specs.Slice.{Under};
+ghost use Rattle.matrix_lines.specs.Slice.{Under};
 ghost use Rattle.operations.specs.Laid.{Laid};
 ghost use Rattle.passes.specs.PassAnswers.{bringOf, Passed};
 use crate::pass::Pass;
 use elementary_operations::operation::Operation;
-use lines::line::Effect;
-use lines::line::clear;
+use matrix_lines::line::Effect;
+use matrix_lines::line::clear;
 use numbers::absolute::larger;
 use operations::workspace::Workspace;
 use refusal::Refusal;

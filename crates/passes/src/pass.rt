@@ -3,9 +3,9 @@
 ghost use lib.ListN.{length};
 ghost use Rattle.passes.specs.PassAnswers.{Placed, ColumnClear, rowPassOf, columnPassOf, Passed};
 use elementary_operations::operation::Operation;
-use lines::line::Effect;
-use lines::line::clear;
-use lines::zero::first_nonzero;
+use matrix_lines::line::Effect;
+use matrix_lines::line::clear;
+use matrix_lines::zero::first_nonzero;
 use numbers::absolute::larger;
 use numbers::quotient::quotient;
 use operations::workspace::Workspace;

@@ -11,7 +11,7 @@ use Rattle.reduction_steps.specs.Pivot.{Choice, none, place, Rule, IsRule}
 use Rattle.reduction_steps.specs.Step.{Letter, Machine, at, Ended}
 use Rattle.reduction_laws.proofs.Run.{reaches-refl, reaches-trans}
 use Rattle.reduction_laws.proofs.Ends.{reaches-reduce}
-use Rattle.lines.specs.Slice.{entryLimit, Under}
+use Rattle.matrix_lines.specs.Slice.{entryLimit, Under}
 use Rattle.refusal.specs.declared.Refusal.{Refusal}
 use Rattle.operations.specs.Laid.{Laid, sizesOf, stateOf}
 use Rattle.operations.specs.declared.workspace.Workspace.{Workspace}

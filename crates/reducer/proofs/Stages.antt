@@ -21,8 +21,8 @@ use Rattle.reduction_laws.specs.Shape.{Shaped}
 use Rattle.reduction_laws.specs.Steps.{step-a-none, step-a-wide, step-a-made, step-c-wide, step-c-made, step-d-wide, step-d-made, step-e-none, step-e-wide, step-e-made}
 use Rattle.reduction_laws.specs.Scans.{FirstRow, firstIndivisible-row}
 use Rattle.reduction_laws.specs.Letters.{ReadyC, ReadyE, AfterA, after-a, AfterC, after-c, after-c-keeps, after-c-clear, AfterD, after-d, after-d-keeps, after-d-clear, AfterE, after-e}
-use Rattle.lines.specs.Slice.{entryLimit, Under}
-use Rattle.lines.specs.Matrices.{contents}
+use Rattle.matrix_lines.specs.Slice.{entryLimit, Under}
+use Rattle.matrix_lines.specs.Matrices.{contents}
 use Rattle.refusal.specs.declared.Refusal.{Refusal}
 use Rattle.refusal.specs.declared.Refusal.the-variants as refusal
 use Rattle.operations.specs.Laid.{Laid, sizesOf, stateOf}

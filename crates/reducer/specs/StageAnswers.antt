@@ -8,7 +8,7 @@ use lib.IntN.{ℤ, natAbs}
 use Rattle.matrices.specs.Matrix.{Matrix}
 use Rattle.reduction_steps.specs.Pivot.{Choice, none, place, Rule}
 use Rattle.reduction_steps.specs.Step.{Letter, Machine, at, done, wide, a, reduce, Reaches}
-use Rattle.lines.specs.Slice.{entryLimit, Under}
+use Rattle.matrix_lines.specs.Slice.{entryLimit, Under}
 use Rattle.refusal.specs.declared.Refusal.{Refusal}
 use Rattle.operations.specs.Laid.{Laid, sizesOf, stateOf}
 use Rattle.operations.specs.declared.workspace.Workspace.{Workspace}

@@ -1,7 +1,7 @@
 // The reduction from stage 0 to its rank.
 ghost use lib.ListN.{length};
 ghost use Rattle.reduction_steps.specs.Pivot.{pivotRule};
-ghost use Rattle.lines.specs.Slice.{Under};
+ghost use Rattle.matrix_lines.specs.Slice.{Under};
 ghost use Rattle.operations.specs.Laid.{Laid};
 ghost use Rattle.reducer.specs.StageAnswers.{reductionOf, Reduces};
 use crate::stage::ROUNDS;

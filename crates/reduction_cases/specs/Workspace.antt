@@ -1,7 +1,7 @@
 -- How the matrix of a case and its companions lie in a slice: 64 slots for each.
 use mathlib.Core.Path.{_≡_}
 use Prim.Native.Nat.{ℕ, _+_, _≤_}
-use Rattle.lines.specs.declared.matrix.Matrix.{Matrix}
+use Rattle.matrix_lines.specs.declared.matrix.Matrix.{Matrix}
 use Rattle.operations.specs.declared.workspace.Workspace.{Workspace}
 use Rattle.operations.specs.Laid.{Laid}
 

@@ -2,9 +2,9 @@
 ghost use mathlib.Core.Path.{_≡_};
 ghost use Prim.Native.Nat.{_+_, _*_, _<_, _≤_};
 ghost use lib.ListN.{length};
-ghost use Rattle.lines.specs.Slice.{Small};
+ghost use Rattle.matrix_lines.specs.Slice.{Small};
 ghost use Rattle.reduction_cases.specs.Workspace.{slots, Slotted, LaidOut};
-use lines::matrix::Matrix;
+use matrix_lines::matrix::Matrix;
 use operations::workspace::Workspace;
 
 fn byte(s: &[u8], i: usize) -> u32

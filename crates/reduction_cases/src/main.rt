@@ -17,7 +17,7 @@ use crate::workspace::asked_for;
 use crate::workspace::lay_out;
 use libc::STDIN_FILENO;
 use libc::STDOUT_FILENO;
-use lines::matrix::Matrix;
+use matrix_lines::matrix::Matrix;
 use reducer::reduction::Reduction;
 use reducer::reduction::reduce_matrix;
 

@@ -5,7 +5,7 @@ ghost use lib.ListN.{length};
 ghost use Rattle.reduction_cases.specs.Workspace.{side, slots, Slotted, LaidOut};
 use crate::workspace::Asked;
 use libc::STDOUT_FILENO;
-use lines::matrix::Matrix;
+use matrix_lines::matrix::Matrix;
 use operations::workspace::Workspace;
 
 // Writes a space and x.

@@ -1,7 +1,7 @@
 // Where a matrix and its companions stand: each has 64 slots.
 ghost use Prim.Native.Nat.{_≤_};
 ghost use Rattle.reduction_cases.specs.Workspace.{side, Companion, LaidOut};
-use lines::matrix::Matrix;
+use matrix_lines::matrix::Matrix;
 use operations::workspace::Workspace;
 
 // The most rows or columns.

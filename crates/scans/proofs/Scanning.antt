@@ -11,9 +11,9 @@ use lib.IntN.{ℤ, pos, natAbs}
 use Rattle.matrices.specs.Matrix.{Matrix}
 use Rattle.reduction_steps.specs.Pivot.{Choice, none, place, better, alongRow, downRows}
 use Rattle.reduction_steps.proofs.PivotLaws.{alongRow-one, downRows-one}
-use Rattle.lines.specs.Slice.{at, lineAt, FirstNonzero}
-use Rattle.lines.specs.Matrices.{contents}
-use Rattle.lines.specs.declared.matrix.Matrix as lines
+use Rattle.matrix_lines.specs.Slice.{at, lineAt, FirstNonzero}
+use Rattle.matrix_lines.specs.Matrices.{contents}
+use Rattle.matrix_lines.specs.declared.matrix.Matrix as lines
 use Rattle.scans.proofs.Choosing.{better-zero, choice-some, size-is}
 use Rattle.scans.specs.Scan.{noBest, choiceOf, IsBest}
 use Rattle.scans.specs.declared.pivot.Best.{Best}

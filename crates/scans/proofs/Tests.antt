@@ -20,11 +20,11 @@ use Rattle.integers.proofs.Order.{natAbs-zero}
 use Rattle.integers.specs.Division.{divides}
 use Rattle.integers.proofs.Truncate.{natAbs-remZ}
 use Rattle.matrices.specs.Matrix.{Matrix}
-use Rattle.lines.specs.Slice.{at, lineAt, FirstNonzero}
-use Rattle.lines.specs.Matrices.{contents}
-use Rattle.lines.specs.declared.matrix.Matrix as lines
-use Rattle.words.specs.Read.{read, of-bits}
-use Rattle.words.proofs.Division.{remainder-zero, zero-remainder}
+use Rattle.matrix_lines.specs.Slice.{at, lineAt, FirstNonzero}
+use Rattle.matrix_lines.specs.Matrices.{contents}
+use Rattle.matrix_lines.specs.declared.matrix.Matrix as lines
+use Rattle.machine_words.specs.Read.{read, of-bits}
+use Rattle.machine_words.proofs.Division.{remainder-zero, zero-remainder}
 use Rattle.scans.specs.Scan.{ColumnReduced}
 use Rattle.reduction_steps.specs.Step.{columnKeeps, rowKeeps, rowIndivisible, noRow, row, firstIndivisible}
 

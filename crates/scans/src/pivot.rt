@@ -4,11 +4,11 @@ ghost use mathlib.Core.Path.{_≡_};
 ghost use Prim.Native.Nat.{_+_, _-_, _<_, _≤_};
 ghost use lib.ListN.{length};
 ghost use Rattle.reduction_steps.specs.Pivot as steps;
-ghost use Rattle.lines.specs.Slice.{Small};
-ghost use Rattle.lines.specs.Matrices.{Held, contents};
+ghost use Rattle.matrix_lines.specs.Slice.{Small};
+ghost use Rattle.matrix_lines.specs.Matrices.{Held, contents};
 ghost use Rattle.scans.specs.Scan.{noBest, IsBest, choiceOf, pivotChoice};
-use lines::matrix::Matrix;
-use lines::zero::first_nonzero;
+use matrix_lines::matrix::Matrix;
+use matrix_lines::zero::first_nonzero;
 use numbers::absolute::absolute;
 
 // The entry chosen so far: its absolute value, 0 where there is none, and its place.

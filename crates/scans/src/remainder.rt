@@ -5,11 +5,11 @@ ghost use lib.Signed.{_<ℤ_};
 ghost use Prim.Native.Nat.{suc, _+_, _-_, _<_, _≤_};
 ghost use lib.ListN.{length};
 ghost use Rattle.reduction_steps.specs.Step.{columnKeeps, rowKeeps, rowIndivisible, firstIndivisible};
-ghost use Rattle.lines.specs.Slice.{Small};
-ghost use Rattle.lines.specs.Matrices.{Held, contents};
+ghost use Rattle.matrix_lines.specs.Slice.{Small};
+ghost use Rattle.matrix_lines.specs.Matrices.{Held, contents};
 ghost use Rattle.scans.specs.Scan.{ColumnReduced, indivisibleRow};
-use lines::matrix::Matrix;
-use lines::zero::first_nonzero;
+use matrix_lines::matrix::Matrix;
+use matrix_lines::zero::first_nonzero;
 
 // Step c: whether column k keeps a nonzero entry below row k, each of which is a remainder by the pivot. By 1 all remainders are 0.
 pub fn column_keeps(m: Matrix, w: &[i32], k: usize) -> bool

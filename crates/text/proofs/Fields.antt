@@ -11,7 +11,7 @@ use lib.IntN.{ℤ, pos}
 use lib.Signed.{mag}
 use mir.Syntax.{w64}
 use mir.Facts.{toZ-ofZ}
-use Rattle.words.specs.Read.{read}
+use Rattle.machine_words.specs.Read.{read}
 use Rattle.program_text.specs.Text.{decimal, spaced}
 use Rattle.program_text.proofs.TextLaws.{spaced-suc}
 use Rattle.text.specs.Put.{Puts, PutsWithin}

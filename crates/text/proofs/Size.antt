@@ -11,8 +11,8 @@ use borrow.Author.Tests.{ltb-true}
 use mir.Syntax.{w64}
 use mir.Val.{Fits, SFits}
 use mir.Facts.{toZ-ofZ}
-use Rattle.words.specs.Read.{read}
-use Rattle.words.specs.Negate.{raised, mirrored, raised-fits, mirrored-fits, mirrored-read}
+use Rattle.machine_words.specs.Read.{read}
+use Rattle.machine_words.specs.Negate.{raised, mirrored, raised-fits, mirrored-fits, mirrored-read}
 use Rattle.program_text.specs.Text.{digits, decimal}
 
 abbrev pub size : ℤ → ℕ

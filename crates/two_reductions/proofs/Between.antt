@@ -23,10 +23,10 @@ use Rattle.reports.specs.Reductions.{noTransforms, firstSizes, secondSizes, sec
 use Rattle.requests.specs.Call.{workSlots}
 use Rattle.limits.specs.Limits.{entryLimit}
 use Rattle.answers.proofs.Starts.{second-shaped, entry-drop}
-use Rattle.lines.specs.Slice.{lineAt, Under}
-use Rattle.lines.specs.Matrices.{contents, everywhere, EntryOf, Holds, Exceeds}
-use Rattle.lines.proofs.Peaks.{under-covered}
-use Rattle.lines.specs.declared.matrix.Matrix.{Matrix}
+use Rattle.matrix_lines.specs.Slice.{lineAt, Under}
+use Rattle.matrix_lines.specs.Matrices.{contents, everywhere, EntryOf, Holds, Exceeds}
+use Rattle.matrix_lines.proofs.Peaks.{under-covered}
+use Rattle.matrix_lines.specs.declared.matrix.Matrix.{Matrix}
 use Rattle.operations.specs.Laid.{Laid, linesOf, stateOf}
 use Rattle.operations.proofs.Regions.{lines-off, lines-on}
 use Rattle.operations.proofs.Operate.{largest-under}

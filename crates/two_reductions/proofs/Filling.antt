@@ -17,9 +17,9 @@ use Rattle.reduction_steps.specs.State.{State, largest}
 use Rattle.reduction_laws.specs.Tables.{table-ext, tableLargest-table}
 use Rattle.reports.specs.Reductions.{noTransforms, firstStart, absent}
 use Rattle.requests.specs.Call.{workSlots}
-use Rattle.lines.specs.Slice.{entryLimit, lineAt, Under}
-use Rattle.lines.specs.Matrices.{contents, Held, everywhere, Holds}
-use Rattle.lines.specs.declared.matrix.Matrix.{Matrix}
+use Rattle.matrix_lines.specs.Slice.{entryLimit, lineAt, Under}
+use Rattle.matrix_lines.specs.Matrices.{contents, Held, everywhere, Holds}
+use Rattle.matrix_lines.specs.declared.matrix.Matrix.{Matrix}
 use Rattle.operations.specs.Laid.{Laid, linesOf, stateOf}
 use Rattle.operations.specs.declared.workspace.Workspace.{Workspace}
 use Rattle.operations.proofs.Regions.{disjoint-sym, contents-apart, lines-off, lines-on}

@@ -25,11 +25,11 @@ use Rattle.requests.specs.Call.{workSlots}
 use Rattle.reports.specs.Reductions.{reductionsOf}
 use Rattle.limits.specs.Limits.{entryLimit, libraryLimit}
 use Rattle.answers.proofs.TwoReductions.{first-reduced, reductions-right}
-use Rattle.lines.specs.Matrices.{contents, Held, Holds, Exceeds, Became, everywhere}
-use Rattle.lines.proofs.Peaks.{under-covered}
-use Rattle.lines.specs.declared.matrix.Matrix.{Matrix}
-use Rattle.lines.specs.declared.line.Effect.{Effect}
-use Rattle.lines.specs.declared.line.Effect.the-variants as effect
+use Rattle.matrix_lines.specs.Matrices.{contents, Held, Holds, Exceeds, Became, everywhere}
+use Rattle.matrix_lines.proofs.Peaks.{under-covered}
+use Rattle.matrix_lines.specs.declared.matrix.Matrix.{Matrix}
+use Rattle.matrix_lines.specs.declared.line.Effect.{Effect}
+use Rattle.matrix_lines.specs.declared.line.Effect.the-variants as effect
 use Rattle.refusal.specs.declared.Refusal.{Refusal}
 use Rattle.refusal.specs.declared.Refusal.the-variants as refusal
 use Rattle.operations.specs.Laid.{Laid, stateOf}

@@ -9,8 +9,8 @@ use lib.ListN.{length, take, drop, replicate, length-append, length-replicate, r
 use Rattle.complexes.specs.Complex.{Sections}
 use Rattle.reduction_laws.specs.Tables.{table-ext}
 use Rattle.reports.specs.Reductions as reports
-use Rattle.lines.specs.Slice.{at, lineAt, Under}
-use Rattle.lines.specs.declared.matrix.Matrix.{Matrix}
+use Rattle.matrix_lines.specs.Slice.{at, lineAt, Under}
+use Rattle.matrix_lines.specs.declared.matrix.Matrix.{Matrix}
 use Rattle.operations.specs.Laid.{linesOf, stateOf}
 use Rattle.operations.specs.declared.workspace.Workspace.{Workspace}
 use Rattle.two_reductions.specs.Slices.{TwiceReduced, ZeroFrom}

@@ -3,7 +3,7 @@ use mathlib.Core.Path.{_≡_, refl, sym, _∙_, ap}
 use Prim.Native.Nat.{ℕ, _+_, _*_, _-_, _≤_, max}
 use native.Mathlib.Nat.{mul-comm, mul-zero, mul-add, add-mul, mul-le-mul, le-refl, le-max-left, le-max-right}
 use native.Mathlib.Omega.{arith}
-use Rattle.lines.specs.Matrices.{Held}
+use Rattle.matrix_lines.specs.Matrices.{Held}
 use Rattle.operations.specs.Laid.{Laid}
 use Rattle.operations.specs.declared.workspace.Workspace.{Workspace}
 use Rattle.operations.proofs.Regions.{Disjoint}

@@ -8,7 +8,7 @@ use Rattle.complexes.specs.Boundary.{countBelow}
 use Rattle.reduction_steps.specs.State.{State}
 use Rattle.reports.specs.Reductions as reports
 use Rattle.reports.specs.Reductions.{noTransforms, firstStart}
-use Rattle.lines.specs.Slice.{at}
+use Rattle.matrix_lines.specs.Slice.{at}
 use Rattle.operations.specs.Laid.{stateOf}
 use Rattle.two_reductions.specs.Workspaces.{firstWorkspace, secondWorkspace}
 use Rattle.operations.specs.declared.workspace.Workspace.{Workspace}

@@ -1,7 +1,7 @@
 -- Where the matrices of the two reductions of a dimension stand in the work slice. In dimension p, `cells` is n_p, `rows` is n_(p-1) and `columns`
 -- is n_(p+1).
 use Prim.Native.Nat.{ℕ, _+_, _*_, _-_, max}
-use Rattle.lines.specs.declared.matrix.Matrix.{Matrix}
+use Rattle.matrix_lines.specs.declared.matrix.Matrix.{Matrix}
 use Rattle.operations.specs.declared.workspace.Workspace.{Workspace}
 
 abbrev pub matrixAt : ℕ → ℕ → ℕ → Matrix

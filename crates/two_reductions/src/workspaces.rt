@@ -3,7 +3,7 @@
 ghost use mathlib.Core.Path.{_≡_};
 ghost use Prim.Native.Nat.{_+_, _*_, _<_, _≤_, max};
 ghost use Rattle.two_reductions.specs.Workspaces.{firstWorkspace, secondWorkspace};
-use lines::matrix::Matrix;
+use matrix_lines::matrix::Matrix;
 use operations::workspace::Workspace;
 
 fn larger(a: usize, b: usize) -> usize

@@ -5,8 +5,8 @@ use Prim.Native.Nat.{ℕ, _<_, _≤_}
 use lib.IntN.{ℤ, pos}
 use Rattle.reduction_steps.specs.Table.{entry}
 use Rattle.reduction_laws.specs.Tables.{entry-table, entry-table-right}
-use Rattle.lines.specs.Matrices.{contents}
-use Rattle.lines.specs.declared.matrix.Matrix.{Matrix}
+use Rattle.matrix_lines.specs.Matrices.{contents}
+use Rattle.matrix_lines.specs.declared.matrix.Matrix.{Matrix}
 use Rattle.operations.specs.Laid.{linesOf}
 
 module _ (M : Matrix) (w : List ℤ) (i j : ℕ) where

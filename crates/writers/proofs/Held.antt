@@ -1,7 +1,7 @@
 -- The matrices of a workspace lie within the slice: `matrix-held`, `row-inverse-held`, `row-follower-held`.
 use Prim.Native.Nat.{ℕ}
 use native.Mathlib.Omega.{arith}
-use Rattle.lines.specs.Matrices.{Held}
+use Rattle.matrix_lines.specs.Matrices.{Held}
 use Rattle.operations.specs.Laid.{Laid}
 use Rattle.operations.specs.declared.workspace.Workspace.{Workspace}
 

@@ -14,9 +14,9 @@ use Rattle.reports.specs.Report.{countsOf, reportList, coordinateList}
 use Rattle.lists.specs.Splice.{written}
 use Rattle.requests.specs.Chains.{chainAt}
 use Rattle.limits.specs.Limits.{libraryLimit, coefficientLimit}
-use Rattle.lines.specs.Slice.{at, Small}
-use Rattle.lines.specs.Matrices.{contents}
-use Rattle.lines.specs.declared.matrix.Matrix.{Matrix}
+use Rattle.matrix_lines.specs.Slice.{at, Small}
+use Rattle.matrix_lines.specs.Matrices.{contents}
+use Rattle.matrix_lines.specs.declared.matrix.Matrix.{Matrix}
 use Rattle.operations.specs.Laid.{Laid, linesOf, stateOf}
 use Rattle.two_reductions.specs.Slices.{stateIn}
 use Rattle.two_reductions.specs.declared.reduced.Reduced.{Reduced}

@@ -7,13 +7,13 @@ ghost use Rattle.lists.specs.Splice.{splices};
 ghost use Rattle.requests.specs.Chains.{chainAt};
 ghost use Rattle.matrices.specs.Vector.{apply};
 ghost use Rattle.reduction_steps.specs.Table.{entry};
-ghost use Rattle.lines.specs.Slice.{Small, at};
-ghost use Rattle.lines.specs.Matrices.{Held};
+ghost use Rattle.matrix_lines.specs.Slice.{Small, at};
+ghost use Rattle.matrix_lines.specs.Matrices.{Held};
 ghost use Rattle.operations.specs.Laid.{linesOf};
 ghost use Rattle.limits.specs.Limits.{libraryLimit, coefficientLimit};
 ghost use Rattle.writers.specs.Written.{WrittenFrom, CanCoordinate, coordinatesOf, CanList};
 use crate::kind::kind;
-use lines::matrix::Matrix;
+use matrix_lines::matrix::Matrix;
 use numbers::residue::residue;
 use two_reductions::reduced::Reduced;
 

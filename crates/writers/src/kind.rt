@@ -2,12 +2,12 @@
 ghost use mathlib.Core.Path.{_≡_};
 ghost use Prim.Native.Nat.{_<_, _≤_};
 ghost use lib.ListN.{length};
-ghost use Rattle.lines.specs.Matrices.{Held};
+ghost use Rattle.matrix_lines.specs.Matrices.{Held};
 ghost use Rattle.reports.specs.Report.{reported};
 ghost use Rattle.writers.specs.Written.{kindIn, Kinds, CanCount, Counted};
 use crate::counts::Counts;
 use crate::headroom::bits;
-use lines::matrix::Matrix;
+use matrix_lines::matrix::Matrix;
 use two_reductions::reduced::Reduced;
 
 // The kind of row i.

@@ -3,14 +3,14 @@ ghost use mathlib.Core.Path.{_≡_};
 ghost use mathlib.Core.List.{map};
 ghost use Prim.Native.Nat.{_+_, _*_, _<_, _≤_};
 ghost use lib.ListN.{length};
-ghost use Rattle.lines.specs.Matrices.{Held};
+ghost use Rattle.matrix_lines.specs.Matrices.{Held};
 ghost use Rattle.reports.specs.Report.{reported, columnsOf};
 ghost use Rattle.operations.specs.Laid.{linesOf};
 ghost use Rattle.writers.specs.Written.{kindIn, Kinds, WrittenFrom, CopiedLine, CanReport, WroteReport};
 use crate::counts::Counts;
 use crate::kind::counts;
 use crate::kind::kind;
-use lines::matrix::Matrix;
+use matrix_lines::matrix::Matrix;
 use two_reductions::reduced::Reduced;
 
 // Writes the orders among the first n rows' kinds from slot `from` on, and answers the slot after them.

@@ -13,8 +13,8 @@ use lib.IntN.{ℤ, pos, negsuc, negℤ, _-ℤ_, -ℤ-one}
 use mir.Syntax.{w32}
 use mir.Val.{SFits, toZ, sel}
 use mir.Facts.{toZ-ofZ}
-use Rattle.words.specs.Read.{read}
-use Rattle.words.specs.Negate.{opposite-fits, opposite-read}
+use Rattle.machine_words.specs.Read.{read}
+use Rattle.machine_words.specs.Negate.{opposite-fits, opposite-read}
 use Rattle.sheet_format.specs.Check.{fieldAt}
 use Rattle.host_calls.specs.Bytes.{coefficientAt}
 use Rattle.little_endian.proofs.read_coefficient.Statement.{statement}

@@ -10,8 +10,8 @@ use lib.Signed.{ltZ, nonNeg}
 use mir.Syntax.{w64}
 use mir.Val.{Fits, SFits}
 use mir.Facts.{toZ-ofZ}
-use Rattle.words.specs.Read.{read}
-use Rattle.words.specs.Negate.{raised, mirrored, raised-fits, mirrored-fits, mirrored-read}
+use Rattle.machine_words.specs.Read.{read}
+use Rattle.machine_words.specs.Negate.{raised, mirrored, raised-fits, mirrored-fits, mirrored-read}
 use Rattle.little_endian.specs.Bytes.{SameBits}
 use Rattle.little_endian.proofs.unsigned.Statement.{statement}
 use Rattle.little_endian.proofs.unsigned.Tie as tie

@@ -6,8 +6,8 @@ use native.Mathlib.Omega.{arith}
 use lib.ListN.{length, replicate}
 use lib.IntN.{ℤ, pos, natAbs}
 use borrow.Author.Needs.{needs}
-use Rattle.lines.specs.Slice.{entryLimit, at, Small}
-use Rattle.lines.proofs.Peaks.{small-under}
+use Rattle.matrix_lines.specs.Slice.{entryLimit, at, Small}
+use Rattle.matrix_lines.proofs.Peaks.{small-under}
 use Rattle.operations.specs.Laid.{Laid}
 use Rattle.reduction_cases.specs.Workspace.{slots}
 use Rattle.reduction_cases.proofs.answer.Statement.{statement}

@@ -8,7 +8,7 @@ use Rattle.matrices.specs.Matrix as theory
 use Rattle.complexes.specs.Boundary.{boundary}
 use Rattle.sheet_format.specs.Layout.{top}
 use Rattle.sheet_format.specs.Check.{sectionsOf}
-use Rattle.lines.specs.Matrices.{contents}
+use Rattle.matrix_lines.specs.Matrices.{contents}
 use Rattle.boundaries.specs.Filled.{MatrixFilled}
 use Rattle.boundaries.proofs.Columns.{leftOf, columns-none, columns-next, columns-more, columns-all}
 use Rattle.boundaries.proofs.fill.fill_boundary.Statement.{statement}

@@ -14,9 +14,9 @@ use Rattle.complexes.specs.Boundary.{sign, boundary}
 use Rattle.sheet_format.specs.Layout.{top}
 use Rattle.sheet_format.specs.Check.{sectionsOf}
 use Rattle.limits.specs.Limits.{libraryLimit}
-use Rattle.lines.specs.Slice.{lineAt}
-use Rattle.lines.specs.Matrices.{Held, contents}
-use Rattle.lines.specs.declared.matrix.Matrix.{Matrix}
+use Rattle.matrix_lines.specs.Slice.{lineAt}
+use Rattle.matrix_lines.specs.Matrices.{Held, contents}
+use Rattle.matrix_lines.specs.declared.matrix.Matrix.{Matrix}
 use Rattle.faces.specs.Face.{IsFace}
 use Rattle.boundaries.specs.Filled.{ColumnFilled}
 use Rattle.faces.proofs.Sheet.{complex}

@@ -9,9 +9,9 @@ use lib.ListN.{length, set}
 use lib.IntN.{ℤ, pos}
 use Rattle.matrices.specs.Matrix.{Eq, identity, null}
 use Rattle.matrices.proofs.Product.{identity-at, identity-other}
-use Rattle.lines.specs.Matrices.{contents}
-use Rattle.lines.specs.declared.matrix.Matrix.{Matrix}
-use Rattle.lines.proofs.UpTo.{upTo, upTo-below, upTo-from}
+use Rattle.matrix_lines.specs.Matrices.{contents}
+use Rattle.matrix_lines.specs.declared.matrix.Matrix.{Matrix}
+use Rattle.matrix_lines.proofs.UpTo.{upTo, upTo-below, upTo-from}
 use Rattle.boundaries.specs.Filled.{MatrixFilled}
 use Rattle.boundaries.proofs.Store.{Place, place-inside, entry-set, matrix-set}
 use Rattle.boundaries.proofs.fill.fill_identity.Statement.{statement}

@@ -13,9 +13,9 @@ use mir.Val.{SFits, toZ}
 use Rattle.sheet_format.specs.Layout.{top}
 use Rattle.matrices.specs.Sum.{sum}
 use Rattle.complexes.specs.Boundary.{sign}
-use Rattle.lines.specs.Slice.{entryLimit, at, Small}
-use Rattle.words.specs.Read.{read, read-entry, entry-fits, cast-fits}
-use Rattle.words.proofs.Sum.{term-fits, sum-fits, sum-is}
+use Rattle.matrix_lines.specs.Slice.{entryLimit, at, Small}
+use Rattle.machine_words.specs.Read.{read, read-entry, entry-fits, cast-fits}
+use Rattle.machine_words.proofs.Sum.{term-fits, sum-fits, sum-is}
 use Rattle.faces.proofs.Signs.{sign-unit}
 use Rattle.boundaries.proofs.Products.{signed, signed-sum-small}
 use Rattle.boundaries.proofs.product.line_product.Statement.{statement}

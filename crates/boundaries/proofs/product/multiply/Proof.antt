@@ -14,12 +14,12 @@ use Rattle.complexes.specs.Boundary.{boundary}
 use Rattle.sheet_format.specs.Layout.{top}
 use Rattle.sheet_format.specs.Check.{sectionsOf}
 use Rattle.sheet_format.specs.SheetLaws.{count-sectionsOf, countField-below}
-use Rattle.lines.specs.Slice.{entryLimit, Small, Bounded, Covered, Under}
-use Rattle.lines.specs.Matrices.{contents, end, everywhere, Holds, Exceeds}
-use Rattle.lines.specs.declared.matrix.Matrix.{Matrix}
-use Rattle.lines.specs.declared.line.Effect.{Effect}
-use Rattle.lines.specs.declared.line.Effect.the-variants.{Done, TooWide}
-use Rattle.lines.proofs.Peaks.{small-bounded, covered-same, covered-trans}
+use Rattle.matrix_lines.specs.Slice.{entryLimit, Small, Bounded, Covered, Under}
+use Rattle.matrix_lines.specs.Matrices.{contents, end, everywhere, Holds, Exceeds}
+use Rattle.matrix_lines.specs.declared.matrix.Matrix.{Matrix}
+use Rattle.matrix_lines.specs.declared.line.Effect.{Effect}
+use Rattle.matrix_lines.specs.declared.line.Effect.the-variants.{Done, TooWide}
+use Rattle.matrix_lines.proofs.Peaks.{small-bounded, covered-same, covered-trans}
 use Rattle.limits.specs.Limits.{libraryLimit}
 use Rattle.faces.specs.Face.{AreFaces}
 use Rattle.faces.proofs.Sheet.{complex}

@@ -16,14 +16,14 @@ use Rattle.matrices.proofs.SumLaws.{sum-ext}
 use Rattle.matrices.specs.Matrix as theory
 use Rattle.complexes.specs.Boundary.{sign}
 use Rattle.sheet_format.specs.Layout.{top}
-use Rattle.words.specs.Read.{read, read-entry, entry-fits}
-use Rattle.lines.specs.Slice.{entryLimit, lineAt, Bounded, Covered}
-use Rattle.lines.specs.Matrices.{Held, contents, end}
-use Rattle.lines.specs.declared.matrix.Matrix.{Matrix}
-use Rattle.lines.proofs.Peaks.{bounded-small, bounded-larger, covered-same, covered-trans, Raised, raised-by, raised-small}
-use Rattle.lines.proofs.Store.{bounded-set, covered-set}
-use Rattle.lines.proofs.Spans.{line-span, span-inside}
-use Rattle.lines.proofs.UpTo.{upTo, upTo-below, upTo-from}
+use Rattle.machine_words.specs.Read.{read, read-entry, entry-fits}
+use Rattle.matrix_lines.specs.Slice.{entryLimit, lineAt, Bounded, Covered}
+use Rattle.matrix_lines.specs.Matrices.{Held, contents, end}
+use Rattle.matrix_lines.specs.declared.matrix.Matrix.{Matrix}
+use Rattle.matrix_lines.proofs.Peaks.{bounded-small, bounded-larger, covered-same, covered-trans, Raised, raised-by, raised-small}
+use Rattle.matrix_lines.proofs.Store.{bounded-set, covered-set}
+use Rattle.matrix_lines.proofs.Spans.{line-span, span-inside}
+use Rattle.matrix_lines.proofs.UpTo.{upTo, upTo-below, upTo-from}
 use Rattle.boundaries.specs.Filled.{ColumnFilled}
 use Rattle.boundaries.specs.Column.{atPlaces, ColumnHolds, ColumnExceeds}
 use Rattle.boundaries.proofs.Store.{Place, place-inside, entry-set, column-set}

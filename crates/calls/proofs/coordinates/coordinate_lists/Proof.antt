@@ -21,7 +21,7 @@ use Rattle.requests.specs.Chains.{chainAt, cyclesChecks}
 use Rattle.requests.specs.Chains.{nonempty}
 use Rattle.requests.proofs.ListsLaws.{nonempty-size, nonempty-lists}
 use Rattle.limits.specs.Limits.{libraryLimit, coefficientLimit}
-use Rattle.chains.specs.Check.{checkNumber}
+use Rattle.chain_checks.specs.Check.{checkNumber}
 use Rattle.writers.specs.Written.{coordinatesOf}
 use Rattle.calls.specs.Admission.{Admits}
 use Rattle.calls.specs.CallAnswers.{CallAnswers}

@@ -1,7 +1,7 @@
 -- `apply::on_lines` meets its contract: a matrix whose lines are empty holds nothing that an operation changes.
 use borrow.Author.Needs.{needs}
 use Rattle.matrices.specs.Operation.{onRows}
-use Rattle.lines.specs.Matrices.{contents}
+use Rattle.matrix_lines.specs.Matrices.{contents}
 use Rattle.elementary_operations.specs.Operations.{operationOf, Writes}
 use Rattle.elementary_operations.proofs.Holding.{holds-nothing}
 use Rattle.elementary_operations.proofs.apply.on_lines.Statement.{statement}

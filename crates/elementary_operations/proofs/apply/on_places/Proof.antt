@@ -6,10 +6,10 @@ use borrow.Author.Needs.{needs}
 use lib.ListN.{length}
 use Rattle.matrices.specs.Operation.{subtract}
 use Rattle.matrices.specs.Within.{Within}
-use Rattle.lines.specs.Slice.{lineAt}
-use Rattle.lines.specs.Matrices.{placesOf}
+use Rattle.matrix_lines.specs.Slice.{lineAt}
+use Rattle.matrix_lines.specs.Matrices.{placesOf}
 use Rattle.elementary_operations.specs.Operations.{operationOf, AloneAt, OnPlaces}
-use Rattle.lines.specs.declared.line.Effect.the-variants.{Done}
+use Rattle.matrix_lines.specs.declared.line.Effect.the-variants.{Done}
 use Rattle.elementary_operations.specs.declared.operation.Operation.{Operation}
 use Rattle.elementary_operations.proofs.Operations.{fits-case}
 use Rattle.elementary_operations.proofs.Places.{places-held, place-is, place-inside, alone-line, subtract-became}

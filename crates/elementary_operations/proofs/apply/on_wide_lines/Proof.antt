@@ -3,8 +3,8 @@ use mathlib.Core.Path.{refl}
 use mathlib.Core.Logic.{inl}
 use Rattle.matrices.specs.Operation.{swap, negate}
 use Rattle.elementary_operations.specs.Operations.{Fits}
-use Rattle.lines.specs.declared.line.Effect.the-variants.{Done}
-use Rattle.lines.proofs.Spans.{Span, line-span, span-inside, spans-one-or-apart}
+use Rattle.matrix_lines.specs.declared.line.Effect.the-variants.{Done}
+use Rattle.matrix_lines.proofs.Spans.{Span, line-span, span-inside, spans-one-or-apart}
 use Rattle.elementary_operations.proofs.Operations.{swap-lines, negate-line, fits-case, became-case}
 use Rattle.elementary_operations.proofs.Subtraction.{changed-below, taken-below, subtraction-asks, subtraction-came}
 use borrow.Author.Needs.{needs}

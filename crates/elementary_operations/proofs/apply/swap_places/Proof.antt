@@ -5,7 +5,7 @@ use native.Mathlib.Omega.{arith}
 use borrow.Author.Needs.{needs}
 use lib.ListN.{length}
 use Rattle.matrices.specs.Operation.{swap}
-use Rattle.lines.specs.Matrices.{Held}
+use Rattle.matrix_lines.specs.Matrices.{Held}
 use Rattle.elementary_operations.proofs.Places.{Passed, none-passed, one-passed, all-passed, passed-held, place-inside, swapped-places}
 use Rattle.elementary_operations.proofs.apply.swap_places.Statement.{statement}
 use Rattle.elementary_operations.proofs.apply.swap_places.Tie as tie

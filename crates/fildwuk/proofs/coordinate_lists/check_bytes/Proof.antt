@@ -14,7 +14,7 @@ use Rattle.requests.specs.Chains.{cycleChecks, chainAt}
 use Rattle.host_calls.specs.Bytes.{chainFrom}
 use Rattle.requests.proofs.ChainsLaws.{fault, passed-next, cycles-zero, cycles-told}
 use Rattle.limits.specs.Limits.{hostLimit, coefficientLimit}
-use Rattle.chains.specs.Check.{checkNumber}
+use Rattle.chain_checks.specs.Check.{checkNumber}
 use Rattle.fildwuk.specs.Lists.{chainOf}
 use Rattle.fildwuk.proofs.ChainBytes.{chain-stands, chain-read, chain-length}
 use Rattle.fildwuk.proofs.coordinate_lists.check_bytes.Statement.{statement}

@@ -19,7 +19,7 @@ use Rattle.requests.specs.Chains.{nonempty}
 use Rattle.requests.proofs.ListsLaws.{nonempty-size}
 use Rattle.host_calls.specs.HostListsLaws.{nonempty-host-lists}
 use Rattle.limits.specs.Limits.{hostLimit, coefficientLimit}
-use Rattle.chains.specs.Check.{checkNumber}
+use Rattle.chain_checks.specs.Check.{checkNumber}
 use Rattle.calls.specs.Admission.{Admits}
 use Rattle.two_reductions.specs.declared.cell_counts.CellCounts.{CellCounts}
 use Rattle.calls.specs.declared.admission.Request.the-variants.{Coordinates}

@@ -1,7 +1,7 @@
 -- `absolute::absolute` meets its contract.
 use mir.Syntax.{w64}
-use Rattle.words.specs.Negate.{opposite-fits}
-use Rattle.words.proofs.Absolute.{absolute-below, absolute-above, unsigned-fits, unsigned-is}
+use Rattle.machine_words.specs.Negate.{opposite-fits}
+use Rattle.machine_words.proofs.Absolute.{absolute-below, absolute-above, unsigned-fits, unsigned-is}
 use Rattle.numbers.proofs.absolute.absolute.Statement.{statement}
 use Rattle.numbers.proofs.absolute.absolute.Tie as tie
 

@@ -6,8 +6,8 @@ use mir.Facts.{toZ-ofZ}
 use Rattle.limits.specs.Limits.{entryLimit}
 use Rattle.integers.specs.Division.{floor}
 use Rattle.integers.proofs.Floor.{floor-zero, floor-one}
-use Rattle.words.specs.Read.{of-bits, positive-bits}
-use Rattle.words.proofs.Division.{quotient-fits, pred-fits, rounded-down, rounded-down-pred, floor-small}
+use Rattle.machine_words.specs.Read.{of-bits, positive-bits}
+use Rattle.machine_words.proofs.Division.{quotient-fits, pred-fits, rounded-down, rounded-down-pred, floor-small}
 use Rattle.numbers.proofs.quotient.quotient.Statement.{statement}
 use Rattle.numbers.proofs.quotient.quotient.Tie as tie
 

@@ -11,8 +11,8 @@ use mir.Val.{SFits}
 use mir.Facts.{toZ-ofZ}
 use Rattle.integers.proofs.Floor.{natAbs-modulo}
 use Rattle.integers.specs.Division.{modulo}
-use Rattle.words.specs.Read.{read, fits-below, positive-bits}
-use Rattle.words.proofs.Division.{quotient-fits, remainder-read}
+use Rattle.machine_words.specs.Read.{read, fits-below, positive-bits}
+use Rattle.machine_words.proofs.Division.{quotient-fits, remainder-read}
 use Rattle.numbers.proofs.Remainder.{modulo-remZ, modulo-remZ-add}
 use Rattle.numbers.proofs.residue.modulo.Statement.{statement}
 use Rattle.numbers.proofs.residue.modulo.Tie as tie

@@ -11,7 +11,7 @@ use Rattle.integers.proofs.Order.{lt-pos}
 use Rattle.integers.proofs.Residue.{residue-zero}
 use Rattle.integers.proofs.ResidueRemainder.{residue-lowered, residue-kept, natAbs-lack, natAbs-lowered}
 use Rattle.integers.specs.Division.{modulo, residue}
-use Rattle.words.specs.Read.{read, fits-below, zero-of-bits}
+use Rattle.machine_words.specs.Read.{read, fits-below, zero-of-bits}
 use Rattle.numbers.proofs.residue.residue.Statement.{statement}
 use Rattle.numbers.proofs.residue.residue.Tie as tie
 

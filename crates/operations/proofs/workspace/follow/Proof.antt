@@ -4,10 +4,10 @@ use borrow.Author.Needs.{needs}
 use Prim.Native.Nat.{ℕ}
 use lib.ListN.{length}
 use Rattle.matrices.specs.Operation.{Operation, onRows, inverse}
-use Rattle.lines.specs.Matrices.{contents}
+use Rattle.matrix_lines.specs.Matrices.{contents}
 use Rattle.elementary_operations.specs.Operations.{operationOf, Fits, Writes, OnLines}
-use Rattle.lines.specs.declared.line.Effect.{Effect}
-use Rattle.lines.specs.declared.line.Effect.the-variants.{Done, TooWide}
+use Rattle.matrix_lines.specs.declared.line.Effect.{Effect}
+use Rattle.matrix_lines.specs.declared.line.Effect.the-variants.{Done, TooWide}
 use Rattle.elementary_operations.proofs.Holding.{holds-nothing}
 use Rattle.operations.specs.Laid.{Followed}
 use Rattle.operations.proofs.workspace.follow.Statement.{statement}

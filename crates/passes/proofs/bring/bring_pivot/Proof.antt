@@ -5,8 +5,8 @@ use lib.ListN.{length}
 use Rattle.matrices.specs.Operation.{swap, negate}
 use Rattle.reduction_steps.specs.State.{made, onRow}
 use Rattle.reduction_steps.specs.Step.{positive}
-use Rattle.lines.specs.Slice.{entryLimit, Under}
-use Rattle.lines.proofs.Peaks.{under-small}
+use Rattle.matrix_lines.specs.Slice.{entryLimit, Under}
+use Rattle.matrix_lines.proofs.Peaks.{under-small}
 use Rattle.operations.specs.Laid.{Laid, sizesOf, stateOf}
 use Rattle.passes.specs.PassAnswers.{bringOf}
 use Rattle.passes.proofs.States.{laid-kept, held-matrix, operated-done, operated-under, operated-wide}

@@ -7,9 +7,9 @@ use mir.Syntax.{w64}
 use mir.Val.{toZ}
 use Rattle.integers.specs.Division.{floor}
 use Rattle.matrices.specs.Operation.{subtract}
-use Rattle.lines.specs.Matrices.{contents}
-use Rattle.words.specs.Read.{read, wide-small}
-use Rattle.lines.proofs.Peaks.{under-small}
+use Rattle.matrix_lines.specs.Matrices.{contents}
+use Rattle.machine_words.specs.Read.{read, wide-small}
+use Rattle.matrix_lines.proofs.Peaks.{under-small}
 use Rattle.operations.proofs.Unchanged.{rows-unchanged}
 use Rattle.passes.proofs.States.{held-matrix, operated-done, operated-under, operated-wide}
 use Rattle.passes.proofs.Words.{quotient-asks, quotient-read}

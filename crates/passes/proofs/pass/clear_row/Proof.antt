@@ -6,9 +6,9 @@ use native.Mathlib.Omega.{arith}
 use borrow.Author.Needs.{needs}
 use mir.Syntax.{w64}
 use Rattle.integers.specs.Division.{floor}
-use Rattle.lines.specs.Matrices.{contents}
-use Rattle.lines.proofs.Peaks.{under-small}
-use Rattle.words.specs.Read.{read, wide-small}
+use Rattle.matrix_lines.specs.Matrices.{contents}
+use Rattle.matrix_lines.proofs.Peaks.{under-small}
+use Rattle.machine_words.specs.Read.{read, wide-small}
 use Rattle.passes.proofs.States.{held-matrix, operated-done, operated-under, operated-wide}
 use Rattle.passes.proofs.Words.{quotient-asks, quotient-read}
 use Rattle.passes.proofs.Passes.{pass-refused, column-zero, ColumnPassing, columns-start, columns-next, columns-first, row-inside, columns-wide, columns-end}

@@ -12,7 +12,7 @@ use borrow.Fn.PlainCycle.{Measures, is, falls, and}
 use Rattle.reduction_steps.specs.Pivot.{place, pivotRule, Least}
 use Rattle.reduction_steps.proofs.PivotLaws.{pivotRule-is-rule}
 use Rattle.reduction_steps.specs.Step.{Letter, at, row}
-use Rattle.lines.proofs.Peaks.{under-small}
+use Rattle.matrix_lines.proofs.Peaks.{under-small}
 use Rattle.refusal.specs.declared.Refusal.the-variants.{TooWide}
 use Rattle.operations.specs.Laid.{stateOf}
 use Rattle.scans.specs.Scan.{pivotChoice, indivisibleRow}
@@ -31,7 +31,7 @@ use Rattle.reducer.proofs.stage.+choose_pivot+column_pass+row_pass.Lts-
 use Rattle.reducer.proofs.stage.row_pass.Reads as row-pass
 use Rattle.reducer.proofs.stage.row_pass.Kinds as row-pass-kinds
 use Rattle.reducer.proofs.stage.+choose_pivot+column_pass+row_pass.Lts-row_pass as row-pass-lts
-use Rattle.lines.proofs.line.clear.Reads as clear-reads
+use Rattle.matrix_lines.proofs.line.clear.Reads as clear-reads
 use Rattle.passes.proofs.bring.bring_pivot.Reads as bring-pivot-reads
 use Rattle.passes.proofs.pass.clear_column.Reads as clear-column-reads
 use Rattle.passes.proofs.pass.clear_row.Reads as clear-row-reads

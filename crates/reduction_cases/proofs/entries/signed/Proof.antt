@@ -7,7 +7,7 @@ use mir.Val.{SFits}
 use mir.Facts.{toZ-ofZ}
 use borrow.Author.Needs.{needs}
 use Rattle.integers.proofs.Order.{natAbs-sub}
-use Rattle.words.specs.Read.{read, sfits-below}
+use Rattle.machine_words.specs.Read.{read, sfits-below}
 use Rattle.reduction_cases.proofs.entries.signed.Statement.{statement}
 use Rattle.reduction_cases.proofs.entries.signed.Tie as tie
 

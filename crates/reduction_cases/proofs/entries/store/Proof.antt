@@ -3,10 +3,10 @@ use Prim.Native.Nat.{_≤_}
 use lib.IntN.{ℤ, natAbs}
 use mir.Syntax.{w32, w64}
 use borrow.Author.Needs.{needs}
-use Rattle.lines.specs.Slice.{entryLimit}
-use Rattle.words.specs.Read.{read, read-entry, entry-fits}
-use Rattle.words.proofs.Tests.{within}
-use Rattle.lines.proofs.Store.{small-set}
+use Rattle.matrix_lines.specs.Slice.{entryLimit}
+use Rattle.machine_words.specs.Read.{read, read-entry, entry-fits}
+use Rattle.machine_words.proofs.Tests.{within}
+use Rattle.matrix_lines.proofs.Store.{small-set}
 use Rattle.reduction_cases.proofs.entries.store.Statement.{statement}
 use Rattle.reduction_cases.proofs.entries.store.Tie as tie
 

@@ -7,7 +7,7 @@ use native.Mathlib.Omega.{arith}
 use lib.ListN.{length}
 use lib.IntN.{ℤ}
 use borrow.Author.Needs.{needs}
-use Rattle.lines.specs.Slice.{Small}
+use Rattle.matrix_lines.specs.Slice.{Small}
 use Rattle.reduction_cases.proofs.entries.write_identity.Statement.{statement}
 use Rattle.reduction_cases.proofs.entries.write_identity.Tie as tie
 

@@ -13,7 +13,7 @@ use mir.Facts.{toZ-ofZ}
 use borrow.Author.Needs.{needs}
 use borrow.Author.Tests.{ltb-true}
 use Rattle.integers.proofs.Ring.{zero-add}
-use Rattle.words.specs.Read.{read, cast-fits, cast-is}
+use Rattle.machine_words.specs.Read.{read, cast-fits, cast-is}
 use Rattle.reduction_cases.proofs.print.print_number.Statement.{statement}
 use Rattle.reduction_cases.proofs.print.print_number.Tie as tie
 

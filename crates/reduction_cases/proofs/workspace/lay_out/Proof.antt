@@ -4,7 +4,7 @@ use Prim.Native.Nat.{ℕ, _*_, _≤_}
 use native.Mathlib.Nat as NatL
 use native.Mathlib.Omega.{arith}
 use borrow.Author.Needs.{needs}
-use Rattle.lines.specs.declared.matrix.Matrix.{Matrix}
+use Rattle.matrix_lines.specs.declared.matrix.Matrix.{Matrix}
 use Rattle.operations.specs.declared.workspace.Workspace.{Workspace}
 use Rattle.reduction_cases.specs.Workspace.{side, Companion, Slotted, LaidOut}
 use Rattle.reduction_cases.proofs.workspace.lay_out.Statement.{statement}

@@ -3,8 +3,8 @@
 use Prim.Native.Nat.{_-_}
 use native.Mathlib.Omega.{arith}
 use borrow.Author.Needs.{needs}
-use Rattle.lines.specs.Matrices.{contents}
-use Rattle.lines.proofs.Spans.{line-span, span-inside}
+use Rattle.matrix_lines.specs.Matrices.{contents}
+use Rattle.matrix_lines.proofs.Spans.{line-span, span-inside}
 use Rattle.scans.specs.Scan.{choiceOf}
 use Rattle.scans.proofs.Scanning.{Along, along-first, along-next, along-one, along-ends}
 use Rattle.scans.proofs.pivot.along_row.Statement.{statement}

@@ -5,9 +5,9 @@ use native.Mathlib.Omega.{arith}
 use lib.IntN.{ℤ, natAbs}
 use mir.Syntax.{w64}
 use mir.Facts.{toZ-ofZ}
-use Rattle.lines.specs.Slice.{lineAt}
-use Rattle.lines.specs.Matrices.{contents}
-use Rattle.words.specs.Read.{read}
+use Rattle.matrix_lines.specs.Slice.{lineAt}
+use Rattle.matrix_lines.specs.Matrices.{contents}
+use Rattle.machine_words.specs.Read.{read}
 use Rattle.scans.proofs.Choosing.{passed, stayed, took-first, took-less}
 use Rattle.scans.proofs.pivot.better.Statement.{statement}
 use Rattle.scans.proofs.pivot.better.Tie as tie

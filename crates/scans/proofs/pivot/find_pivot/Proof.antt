@@ -5,7 +5,7 @@ use Prim.Native.Nat.{_-_}
 use native.Mathlib.Omega.{arith}
 use borrow.Author.Needs.{needs}
 use Rattle.reduction_steps.specs.Pivot.{release1}
-use Rattle.lines.specs.Matrices.{contents}
+use Rattle.matrix_lines.specs.Matrices.{contents}
 use Rattle.scans.proofs.Choosing.{choice-some, choice-none}
 use Rattle.scans.proofs.Scanning.{Down, down-starts, down-next, down-one, down-ends}
 use Rattle.scans.proofs.pivot.find_pivot.Statement.{statement}

@@ -4,8 +4,8 @@ use mathlib.Core.Path.{sym, _∙_}
 use Prim.Native.Nat.{suc, _-_}
 use native.Mathlib.Omega.{arith}
 use borrow.Author.Needs.{needs}
-use Rattle.lines.specs.Matrices.{contents}
-use Rattle.words.specs.Read.{of-bits}
+use Rattle.matrix_lines.specs.Matrices.{contents}
+use Rattle.machine_words.specs.Read.{of-bits}
 use Rattle.scans.proofs.Tests.{nonzero, Looking, looking-after, looking-found, looking-next, looking-ends, columnKeeps-any, columnKeeps-one, nonzero-true, nonzero-false}
 use Rattle.scans.proofs.remainder.column_keeps.Statement.{statement}
 use Rattle.scans.proofs.remainder.column_keeps.Tie as tie

@@ -8,8 +8,8 @@ use lib.IntN.{ℤ, pos}
 use lib.Signed.{_<ℤ_}
 use mir.Facts.{toZ-ofZ}
 use Rattle.reduction_steps.specs.Step.{firstIndivisible}
-use Rattle.lines.specs.Matrices.{contents}
-use Rattle.words.specs.Read.{of-bits}
+use Rattle.matrix_lines.specs.Matrices.{contents}
+use Rattle.machine_words.specs.Read.{of-bits}
 use Rattle.scans.proofs.Tests.{row-answer, Seeking, seeking-after, seeking-found, seeking-next, seeking-ends, firstIndivisible-one}
 use Rattle.scans.proofs.remainder.first_indivisible.Statement.{statement}
 use Rattle.scans.proofs.remainder.first_indivisible.Tie as tie

@@ -7,9 +7,9 @@ use borrow.Author.Needs.{needs}
 use mir.Syntax.{w64}
 use mir.Val.{toZ}
 use mir.Facts.{toZ-ofZ}
-use Rattle.lines.specs.Matrices.{contents}
-use Rattle.words.specs.Read.{positive-bits}
-use Rattle.words.proofs.Division.{quotient-fits}
+use Rattle.matrix_lines.specs.Matrices.{contents}
+use Rattle.machine_words.specs.Read.{positive-bits}
+use Rattle.machine_words.proofs.Division.{quotient-fits}
 use Rattle.scans.proofs.Tests.{indivisible, Looking, looking-found, looking-next, looking-ends, rowIndivisible-any, indivisible-true, indivisible-false}
 use Rattle.scans.proofs.remainder.row_indivisible.Statement.{statement}
 use Rattle.scans.proofs.remainder.row_indivisible.Tie as tie

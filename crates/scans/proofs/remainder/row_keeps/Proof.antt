@@ -1,7 +1,7 @@
 -- `scans::remainder::row_keeps` meets its contract: the row keeps a nonzero entry exactly where its first one stands before its end.
 use native.Mathlib.Omega.{arith}
 use borrow.Author.Needs.{needs}
-use Rattle.lines.proofs.Spans.{line-span, span-inside}
+use Rattle.matrix_lines.proofs.Spans.{line-span, span-inside}
 use Rattle.scans.proofs.Tests.{rowKeeps-first}
 use Rattle.scans.proofs.remainder.row_keeps.Statement.{statement}
 use Rattle.scans.proofs.remainder.row_keeps.Tie as tie

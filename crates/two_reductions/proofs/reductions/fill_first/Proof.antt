@@ -13,7 +13,7 @@ use Rattle.matrices.specs.Matrix.{Eq, null}
 use Rattle.complexes.specs.Complex.{count}
 use Rattle.complexes.specs.Boundary.{boundary}
 use Rattle.sheet_format.specs.Check.{sectionsOf}
-use Rattle.lines.specs.Matrices.{contents}
+use Rattle.matrix_lines.specs.Matrices.{contents}
 use Rattle.boundaries.specs.Filled.{MatrixFilled}
 use Rattle.two_reductions.proofs.Places.{held-matrix}
 use Rattle.two_reductions.proofs.Sheet.{rows-none, rows-section, sheet-chains}

@@ -15,7 +15,7 @@ use Rattle.two_reductions.specs.CellCounts.{CellCountsRead}
 use Rattle.two_reductions.specs.Slices.{firstWorkspaceOf, secondWorkspaceOf, startPeak}
 use Rattle.two_reductions.proofs.Sheet.{sheet-chains, cells-of, first-of, second-of}
 use Rattle.two_reductions.proofs.Filling.{laid}
-use Rattle.lines.proofs.Peaks.{under-small}
+use Rattle.matrix_lines.proofs.Peaks.{under-small}
 use Rattle.two_reductions.proofs.Outcomes.{cleared-length, reduces-done, reduces-refused, became-done, became-wide, FirstDone, SecondStarted, first-refused, first-done, laid-then, Q-width, product-width, Q-held}
 use Rattle.two_reductions.proofs.Outcomes.{product-refused, second-started, second-refused, second-done}
 use Rattle.two_reductions.proofs.reductions.reduce_part.Statement.{statement}

@@ -20,10 +20,10 @@ use Rattle.matrices.proofs.SumLaws.{sum-ext}
 use Rattle.matrices.specs.Vector.{apply}
 use Rattle.limits.specs.Limits.{libraryLimit, coefficientLimit}
 use Rattle.reduction_steps.specs.Table.{entry}
-use Rattle.lines.specs.Slice.{entryLimit, at, Small}
+use Rattle.matrix_lines.specs.Slice.{entryLimit, at, Small}
 use Rattle.operations.specs.Laid.{linesOf}
-use Rattle.words.specs.Read.{read, sfits-below, entry-fits, cast-fits, cast-is, of-bits}
-use Rattle.lines.proofs.Spans.{line-span, span-inside}
+use Rattle.machine_words.specs.Read.{read, sfits-below, entry-fits, cast-fits, cast-is, of-bits}
+use Rattle.matrix_lines.proofs.Spans.{line-span, span-inside}
 use Rattle.writers.proofs.Entries.{entry-lines}
 use Rattle.writers.proofs.coordinates.row_times_chain.Statement.{statement}
 use Rattle.writers.proofs.coordinates.row_times_chain.Tie as tie

@@ -16,9 +16,9 @@ use Rattle.matrices.specs.Vector.{apply}
 use Rattle.reduction_steps.specs.Table.{entry}
 use Rattle.reports.specs.Report.{reported, coordinateAt, coordinateList}
 use Rattle.limits.specs.Limits.{libraryLimit}
-use Rattle.lines.specs.Slice.{at}
-use Rattle.lines.specs.declared.matrix.Matrix.{Matrix}
-use Rattle.words.specs.Read.{read, of-bits}
+use Rattle.matrix_lines.specs.Slice.{at}
+use Rattle.matrix_lines.specs.declared.matrix.Matrix.{Matrix}
+use Rattle.machine_words.specs.Read.{read, of-bits}
 use Rattle.operations.specs.Laid.{linesOf}
 use Rattle.writers.specs.Written.{kindIn, WrittenFrom}
 use Rattle.writers.proofs.Held.{matrix-held, row-follower-held}

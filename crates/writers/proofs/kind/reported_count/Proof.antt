@@ -12,8 +12,8 @@ use mir.Syntax.{w64}
 use mir.Val.{ofZ}
 use Rattle.reports.specs.Report.{reported}
 use Rattle.reports.proofs.ReportLaws.{length-reported-le}
-use Rattle.lines.specs.declared.matrix.Matrix.{Matrix}
-use Rattle.words.specs.Read.{of-bits}
+use Rattle.matrix_lines.specs.declared.matrix.Matrix.{Matrix}
+use Rattle.machine_words.specs.Read.{of-bits}
 use Rattle.writers.specs.Written.{kindIn}
 use Rattle.writers.proofs.Rows.{reported-one, reported-other}
 use Rattle.writers.proofs.kind.reported_count.Statement.{statement}

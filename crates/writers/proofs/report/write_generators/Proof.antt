@@ -15,10 +15,10 @@ use Rattle.lists.proofs.TabulateLaws.{length-tabulate, tabulate-ext}
 use Rattle.lists.specs.Splice.{splice}
 use Rattle.reduction_steps.specs.Table.{entry}
 use Rattle.reports.specs.Report.{reported}
-use Rattle.lines.specs.Matrices.{contents}
-use Rattle.lines.specs.declared.matrix.Matrix.{Matrix}
+use Rattle.matrix_lines.specs.Matrices.{contents}
+use Rattle.matrix_lines.specs.declared.matrix.Matrix.{Matrix}
 use Rattle.operations.specs.Laid.{linesOf}
-use Rattle.words.specs.Read.{of-bits}
+use Rattle.machine_words.specs.Read.{of-bits}
 use Rattle.writers.specs.Written.{kindIn}
 use Rattle.writers.proofs.Entries.{entry-lines}
 use Rattle.writers.proofs.Rows.{columnsOf-blocks}

@@ -11,9 +11,9 @@ use lib.IntN.{ℤ}
 use Rattle.lists.specs.Tabulate.{tabulate}
 use Rattle.lists.proofs.TabulateLaws.{length-tabulate}
 use Rattle.lists.specs.Splice.{splice}
-use Rattle.lines.specs.Slice.{at}
-use Rattle.words.specs.Read.{cast-fits, cast-is}
-use Rattle.lines.proofs.Spans.{line-span, span-inside}
+use Rattle.matrix_lines.specs.Slice.{at}
+use Rattle.machine_words.specs.Read.{cast-fits, cast-is}
+use Rattle.matrix_lines.proofs.Spans.{line-span, span-inside}
 use Rattle.writers.specs.Written.{WrittenFrom}
 use Rattle.writers.proofs.Writing.{written-none, written-one, written-length}
 use Rattle.writers.proofs.report.write_line.Statement.{statement}

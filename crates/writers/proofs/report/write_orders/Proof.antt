@@ -12,7 +12,7 @@ use mir.Syntax.{w64}
 use mir.Val.{ofZ}
 use mir.Facts.{toZ-ofZ}
 use Rattle.reports.specs.Report.{reported}
-use Rattle.words.specs.Read.{read, of-bits}
+use Rattle.machine_words.specs.Read.{read, of-bits}
 use Rattle.writers.specs.Written.{kindIn}
 use Rattle.writers.proofs.Rows.{map-blocks}
 use Rattle.writers.proofs.Writing.{Progress, progress-none, progress-one, progress-end, progress-room, progress-length, progress-number}

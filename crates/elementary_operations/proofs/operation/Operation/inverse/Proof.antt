@@ -4,10 +4,10 @@ use Prim.Native.Nat.{_≤_}
 use lib.IntN.{ℤ, natAbs}
 use borrow.Author.Needs.{needs}
 use Rattle.matrices.specs.Operation.{subtract, inverse}
-use Rattle.lines.specs.Slice.{entryLimit}
+use Rattle.matrix_lines.specs.Slice.{entryLimit}
 use Rattle.elementary_operations.specs.Operations.{operationOf, FactorWithin}
 use Rattle.elementary_operations.specs.declared.operation.Operation.{Operation}
-use Rattle.words.specs.Negate.{negated-fits, negated-read}
+use Rattle.machine_words.specs.Negate.{negated-fits, negated-read}
 use Rattle.elementary_operations.proofs.operation.Operation.inverse.Statement.{statement}
 use Rattle.elementary_operations.proofs.operation.Operation.inverse.Tie as tie
 

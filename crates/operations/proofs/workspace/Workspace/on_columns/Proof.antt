@@ -2,8 +2,8 @@
 use mathlib.Core.Path.{_∙_}
 use borrow.Author.Needs.{needs}
 use Rattle.elementary_operations.specs.Operations.{operationOf}
-use Rattle.lines.specs.declared.line.Effect.the-variants.{Done, TooWide}
-use Rattle.lines.proofs.Peaks.{small-bounded}
+use Rattle.matrix_lines.specs.declared.line.Effect.the-variants.{Done, TooWide}
+use Rattle.matrix_lines.proofs.Peaks.{small-bounded}
 use Rattle.operations.proofs.Side.{columns, matrix-held}
 use Rattle.operations.proofs.Operate.{Task, MatrixCalled, wide-matrix, companions-ready, operated}
 use Rattle.operations.proofs.workspace.Workspace.on_columns.Statement.{statement}
