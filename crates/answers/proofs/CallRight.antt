@@ -23,7 +23,7 @@ use Rattle.requests.specs.Question.{Question, cells, two}
 use Rattle.requests.specs.Call.{Request, listCount, listSlots, numbersOf, requestChecks, workSlots, earlyChecks, lateChecks, ofReduced, noCounts, callWith, call}
 use Rattle.requests.proofs.CheckLaws.{Passed}
 use Rattle.requests.proofs.CallLaws.{with-done, with-number, early-iff, early-narrow}
-use Rattle.answers.specs.Right.{slot}
+use Rattle.integers.specs.Slot.{slot}
 use Rattle.answers.specs.Outcome.{Outcome, refused-early, too-wide, is-done, TooWide, listWidth}
 use Rattle.answers.proofs.Behind.{Behind, early-chains, two-wide, behind, ends}
 use Rattle.answers.proofs.ListLaws.{numbers-width, width-fits}

@@ -21,7 +21,7 @@ use Rattle.complexes.specs.Complex.{Sections, count}
 use Rattle.requests.specs.Chains.{chainAt, chainChecks, chainLengthDiffers, coefficientExceeds, boundaryNotZero}
 use Rattle.requests.proofs.ChainsLaws.{coefficients-iff, fault}
 use Rattle.answers.specs.Homology.{IsCycle}
-use Rattle.answers.specs.Right.{slot}
+use Rattle.integers.specs.Slot.{slot}
 use Rattle.answers.specs.Outcome.{NoCycle}
 
 -- ---- 12

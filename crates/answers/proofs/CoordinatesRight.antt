@@ -23,7 +23,8 @@ use Rattle.reduction_steps.specs.Table.{entry}
 use Rattle.reduction_steps.specs.State.{State}
 use Rattle.reports.specs.Report.{kind, freeRank, torsionCount, coordinateList}
 use Rattle.answers.specs.Homology.{IsCycle, IsBoundary}
-use Rattle.answers.specs.Right.{slot, orderIn, generatorIn}
+use Rattle.integers.specs.Slot.{slot}
+use Rattle.answers.specs.Right.{orderIn, generatorIn}
 use Rattle.answers.proofs.TwoReductions.{Right}
 use Rattle.answers.proofs.Numbers.{ones, is-ones, total, coordinate-is}
 use Rattle.answers.proofs.ReportRight.{Reads, reads-generator, order-is, order-positive, report-is-right}

@@ -22,7 +22,7 @@ use Rattle.reports.specs.Report.{kind, reported, columnsOf, freeRank, torsionCo
 use Rattle.reports.proofs.ReportLaws.{length-reported-le}
 use Rattle.limits.specs.Limits.{libraryLimit, entryLimit, coefficientLimit}
 use Rattle.host_calls.proofs.BytesLaws.{Word}
-use Rattle.answers.specs.Right.{slot}
+use Rattle.integers.specs.Slot.{slot}
 use Rattle.answers.proofs.TwoReductions.{Right}
 
 -- ---- lists of small numbers

@@ -23,7 +23,7 @@ use Rattle.host_calls.specs.Bytes.{numbersBytes, numberAt}
 use Rattle.host_calls.proofs.BytesLaws.{numbersBytes-small, length-numbersBytes, numberAt-numbersBytes, numberAt-same}
 use Rattle.host_calls.specs.Host.{HostCalled, slotsIn, hostEarly, bytesLeft, hostAnswer, hostCall}
 use Rattle.host_calls.proofs.HostCallLaws.{host-early, host-wide, host-done, host-number, early-same}
-use Rattle.answers.specs.Right.{slot}
+use Rattle.integers.specs.Slot.{slot}
 use Rattle.answers.specs.Outcome.{listWidth, Carries}
 use Rattle.answers.proofs.Behind.{Behind, early-chains, behind, same-behind}
 use Rattle.answers.proofs.ListLaws.{numbers-width, width-fits, numbers-word}

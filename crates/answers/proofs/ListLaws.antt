@@ -17,7 +17,7 @@ use Rattle.requests.specs.Chains.{chainAt}
 use Rattle.requests.proofs.ChainsLaws.{chains-zero, fault-small}
 use Rattle.requests.specs.Call.{Request, report, coordinates, lists, listCount, listSlots, numbersOf, requestChecks}
 use Rattle.host_calls.proofs.BytesLaws.{Word}
-use Rattle.answers.specs.Right.{slot}
+use Rattle.integers.specs.Slot.{slot}
 use Rattle.answers.proofs.TwoReductions.{Right}
 use Rattle.answers.proofs.Numbers.{report-length, coordinates-length}
 use Rattle.answers.proofs.ChainChecks.{chain-passes}

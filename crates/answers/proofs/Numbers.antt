@@ -13,7 +13,7 @@ use Rattle.reduction_steps.specs.Table.{entry}
 use Rattle.reduction_steps.specs.State.{State}
 use Rattle.reports.specs.Report.{kind, freeRank, torsionCount, reportList, coordinateAt, coordinateList}
 use Rattle.reports.proofs.ReportLaws.{length-reportList, getD-report-order, getD-report-generator, length-coordinateList, getD-coordinateList}
-use Rattle.answers.specs.Right.{slot}
+use Rattle.integers.specs.Slot.{slot}
 use Rattle.answers.proofs.ReportedPlaces.{Places, reported-places}
 use Rattle.answers.proofs.TwoReductions.{Right}
 

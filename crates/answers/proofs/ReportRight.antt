@@ -25,7 +25,8 @@ use Rattle.reduction_steps.specs.State.{State}
 use Rattle.reports.specs.Report.{kind, freeRank, torsionCount, reportList}
 use Rattle.reports.proofs.ReportLaws.{getD-report-free, getD-report-torsion}
 use Rattle.answers.specs.Homology.{Presents}
-use Rattle.answers.specs.Right.{slot, orderIn, generatorIn, IsRight, HasCounts, reportLength}
+use Rattle.integers.specs.Slot.{slot}
+use Rattle.answers.specs.Right.{orderIn, generatorIn, IsRight, HasCounts, reportLength}
 use Rattle.answers.proofs.TwoReductions.{Right}
 use Rattle.answers.proofs.Numbers.{ones, is-ones, ones-bound, torsion-is, total, report-order, report-generator}
 

@@ -21,7 +21,8 @@ use Rattle.requests.specs.Call.{Request, report, coordinates, lists, listCount,
 use Rattle.host_calls.specs.Bytes.{numberAt}
 use Rattle.host_calls.specs.Host.{HostCalled}
 use Rattle.answers.specs.Homology.{IsCycle}
-use Rattle.answers.specs.Right.{slot, reportLength}
+use Rattle.integers.specs.Slot.{slot}
+use Rattle.answers.specs.Right.{reportLength}
 use Rattle.answers.specs.Wide.{FirstReaches, SecondReaches, GoesWide}
 
 -- the reductions of document 01 make an entry beyond its limit

@@ -7,14 +7,11 @@ use lib.Dec.{ltb}
 use lib.ListN.{getD}
 use lib.IntN.{ℤ, pos}
 use lib.Signed.{_<ℤ_}
+use Rattle.integers.specs.Slot.{slot}
 use Rattle.complexes.specs.Complex.{Sections, count}
 use Rattle.homology_groups.specs.Chain.{Chain}
 use Rattle.homology_groups.specs.Presentation.{SameOrders}
 use Rattle.answers.specs.Homology.{Presents}
-
--- number i of a slice, 0 past its end; a slice of n_p numbers is a chain
-abbrev pub slot : List ℤ → ℕ → ℤ
-slot slice i = getD slice i (pos 0)
 
 -- ---- of the numbers of a report with t orders, for n cells
 

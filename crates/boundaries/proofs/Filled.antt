@@ -8,7 +8,8 @@ use native.Mathlib.Omega.{arith}
 use native.Mathlib.Decide.{decLt, decLe}
 use lib.IntN.{ℤ, natAbs}
 use Rattle.matrices.specs.Matrix as theory
-use Rattle.matrix_lines.specs.Slice.{at, lineAt, Under, Bounded, Covered}
+use Rattle.integers.specs.Slot.{slot}
+use Rattle.matrix_lines.specs.Slice.{lineAt, Under, Bounded, Covered}
 use Rattle.matrix_lines.specs.Matrices.{end, Off, everywhere, Holds}
 use Rattle.matrix_lines.specs.declared.matrix.Matrix.{Matrix}
 use Rattle.boundaries.specs.Filled.{MatrixFilled}
@@ -47,10 +48,10 @@ entry-or-off M k = pick (decLt k (M .at)) (decLe (end M) k)
         line = NatL.lt-of-not-le (λ h. omega (arith, parts, NatL.mul-le-mul-right (M .width) h))
 
 module _ {M : Matrix} {w w′ : List ℤ} {A : theory.Matrix} (f : MatrixFilled M w A w′) where
-  filled-bound : (L : ℕ) → ((k : ℕ) → natAbs (at w k) ≤ L) → EntriesWithin M A L → (k : ℕ) → natAbs (at w′ k) ≤ L
+  filled-bound : (L : ℕ) → ((k : ℕ) → natAbs (slot w k) ≤ L) → EntriesWithin M A L → (k : ℕ) → natAbs (slot w′ k) ≤ L
   filled-bound L old new k =
       ⊎-elim
-      (λ e. subst (λ (z : ℤ). natAbs z ≤ L) (sym (ap (at w′) (e .is) ∙ f .on .at (e .i) (e .j) (e .line) (e .column))) (new (e .i) (e .j) (e .line) (e .column)))
+      (λ e. subst (λ (z : ℤ). natAbs z ≤ L) (sym (ap (slot w′) (e .is) ∙ f .on .at (e .i) (e .j) (e .line) (e .column))) (new (e .i) (e .j) (e .line) (e .column)))
       (λ o. subst (λ (z : ℤ). natAbs z ≤ L) (sym (f .off k o)) (old k))
       (entry-or-off M k)
 

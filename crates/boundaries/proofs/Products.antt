@@ -17,7 +17,8 @@ use Rattle.complexes.specs.Boundary.{sign, boundary}
 use Rattle.complexes.proofs.CoefficientLaws.{natAbs-sign}
 use Rattle.sheet_format.specs.Layout.{top}
 use Rattle.sheet_format.specs.Check.{sectionsOf}
-use Rattle.matrix_lines.specs.Slice.{entryLimit, at, lineAt, Small}
+use Rattle.integers.specs.Slot.{slot}
+use Rattle.matrix_lines.specs.Slice.{entryLimit, lineAt, Small}
 use Rattle.matrix_lines.specs.Matrices.{contents, end, Off}
 use Rattle.matrix_lines.specs.declared.matrix.Matrix.{Matrix}
 use Rattle.faces.specs.Face.{AreFaces}
@@ -25,19 +26,19 @@ use Rattle.faces.proofs.Sums.{sum-places}
 
 -- the entry at places[t] of a line, times sign t
 abbrev pub signed : List ℤ → ℕ → List ℕ → ℕ → ℤ
-signed w line places t = at w (line + getD places t 0) *ℤ sign t
+signed w line places t = slot w (line + getD places t 0) *ℤ sign t
 
 pub signed-sum-small : (w : List ℤ) (line : ℕ) (places : List ℕ) (n : ℕ) → Small w → n ≤ suc top → natAbs (sum n (signed w line places)) ≤ 2 ^ 33
 signed-sum-small w line places n small few = omega (arith, natAbs-sum n (signed w line places) entryLimit (λ k l. term k))
   where
     term : (k : ℕ) → natAbs (signed w line places k) ≤ entryLimit
-    term k = rw (natAbs-mul (at w (line + getD places k 0)) (sign k), natAbs-sign k) (omega (arith, small .bound (line + getD places k 0)))
+    term k = rw (natAbs-mul (slot w (line + getD places k 0)) (sign k), natAbs-sign k) (omega (arith, small .bound (line + getD places k 0)))
 
 -- the matrix q of a slice times the boundary matrix of dimension p + 1 of the cells K
 abbrev pub product : Sections → ℕ → Matrix → List ℤ → theory.Matrix
 product K p q w = mul (q .width) (contents q w) (boundary K (suc p))
 
-pub contents-kept : (q m : Matrix) (w w′ : List ℤ) → end m ≤ q .at → ((i : ℕ) → Off m i → at w′ i ≡ at w i)
+pub contents-kept : (q m : Matrix) (w w′ : List ℤ) → end m ≤ q .at → ((i : ℕ) → Off m i → slot w′ i ≡ slot w i)
     → (i k : ℕ) → contents q w′ i k ≡ contents q w i k
 contents-kept q m w w′ l off i k = off (lineAt (q .at) (q .width) i + k) (inr (omega arith))
 

@@ -9,11 +9,12 @@ use native.Mathlib.Decide.{ℕ-discrete, decLt}
 use lib.ListN.{length, set, length-set}
 use lib.IntN.{ℤ}
 use Rattle.matrices.specs.Matrix as theory
-use Rattle.matrix_lines.specs.Slice.{at, lineAt}
+use Rattle.integers.specs.Slot.{slot}
+use Rattle.matrix_lines.specs.Slice.{lineAt}
 use Rattle.matrix_lines.specs.Slice as slice
 use Rattle.matrix_lines.specs.Matrices.{Held, contents, Off}
 use Rattle.matrix_lines.specs.declared.matrix.Matrix.{Matrix}
-use Rattle.matrix_lines.proofs.Store.{at-set-same, at-set-other}
+use Rattle.matrix_lines.proofs.Store.{slot-set-same, slot-set-other}
 use Rattle.matrix_lines.proofs.Spans.{Span, span-inside, span-off, span-outside}
 use Rattle.boundaries.specs.Filled.{MatrixFilled, ColumnFilled}
 
@@ -29,7 +30,7 @@ pub record EntrySet (M : Matrix) (w : List ℤ) (i j : ℕ) (v : ℤ) (w′ : Li
   pub same-length : length w′ ≡ length w
   pub on : contents M w′ i j ≡ v
   pub beside : (a b : ℕ) → b < M .width → (a ≢ i) ⊎ (b ≢ j) → contents M w′ a b ≡ contents M w a b
-  pub off : (k : ℕ) → Off M k → at w′ k ≡ at w k
+  pub off : (k : ℕ) → Off M k → slot w′ k ≡ slot w k
 
 module _ {M : Matrix} {n i j place : ℕ} (e : Place M n i j place) where
   span : Span M place i j 1
@@ -41,9 +42,9 @@ module _ {M : Matrix} {n i j place : ℕ} (e : Place M n i j place) where
   pub entry-set : (w : List ℤ) (v : ℤ) → length w ≡ n → EntrySet M w i j v (set w place v)
   entry-set w v s = record {
     same-length = length-set w place v;
-    on = ap (at (set w place v)) (sym (e .is)) ∙ at-set-same w place v inside;
-    beside = λ a b k o. at-set-other w place v inside (lineAt (M .at) (M .width) a + b) (apart (span-off span a b k (⊎-elim inl (λ d. inr (other d (decLt b j))) o)));
-    off = λ k o. at-set-other w place v inside k (apart (span-outside span k o));
+    on = ap (slot (set w place v)) (sym (e .is)) ∙ slot-set-same w place v inside;
+    beside = λ a b k o. slot-set-other w place v inside (lineAt (M .at) (M .width) a + b) (apart (span-off span a b k (⊎-elim inl (λ d. inr (other d (decLt b j))) o)));
+    off = λ k o. slot-set-other w place v inside k (apart (span-outside span k o));
   }
     where
       inside : place < length w

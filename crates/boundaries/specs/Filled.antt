@@ -7,7 +7,7 @@ use lib.ListN.{length}
 use lib.IntN.{ℤ}
 use Rattle.matrices.specs.Matrix.{Eq}
 use Rattle.matrices.specs.Matrix as theory
-use Rattle.matrix_lines.specs.Slice.{at}
+use Rattle.integers.specs.Slot.{slot}
 use Rattle.matrix_lines.specs.Matrices.{contents, Off}
 use Rattle.matrix_lines.specs.declared.matrix.Matrix.{Matrix}
 
@@ -15,11 +15,11 @@ use Rattle.matrix_lines.specs.declared.matrix.Matrix.{Matrix}
 pub record MatrixFilled (M : Matrix) (w : List ℤ) (A : theory.Matrix) (w′ : List ℤ) : Type 0 where
   pub same-length : length w′ ≡ length w
   pub on : Eq (M .lines) (M .width) (contents M w′) A
-  pub off : (i : ℕ) → Off M i → at w′ i ≡ at w i
+  pub off : (i : ℕ) → Off M i → slot w′ i ≡ slot w i
 
 -- w′ is w but for column j of the matrix M, which holds column j of A
 pub record ColumnFilled (M : Matrix) (w : List ℤ) (A : theory.Matrix) (j : ℕ) (w′ : List ℤ) : Type 0 where
   pub same-length : length w′ ≡ length w
   pub on : (i : ℕ) → i < M .lines → contents M w′ i j ≡ A i j
   pub beside : (i k : ℕ) → i < M .lines → k < M .width → k ≢ j → contents M w′ i k ≡ contents M w i k
-  pub off : (i : ℕ) → Off M i → at w′ i ≡ at w i
+  pub off : (i : ℕ) → Off M i → slot w′ i ≡ slot w i

@@ -10,7 +10,8 @@ ghost use Rattle.complexes.specs.Boundary as spec;
 ghost use Rattle.complexes.specs.Boundary.{boundary};
 ghost use Rattle.sheet_format.specs.Layout.{top};
 ghost use Rattle.sheet_format.specs.Check.{sectionsOf};
-ghost use Rattle.matrix_lines.specs.Slice.{Small, Bounded, at, Under};
+ghost use Rattle.integers.specs.Slot.{slot};
+ghost use Rattle.matrix_lines.specs.Slice.{Small, Bounded, Under};
 ghost use Rattle.matrix_lines.specs.Matrices.{Held, contents, end, Became, everywhere};
 ghost use Rattle.faces.specs.Face.{Accepted};
 ghost use Rattle.boundaries.specs.Column.{atPlaces, ColumnBecame};
@@ -26,7 +27,7 @@ use numbers::absolute::absolute;
 fn line_product(w: &[i32], line: usize, width: usize, places: [usize; FACES], faces: usize) -> i64
     requires { ⌜ (line + width ≤ length (now w)) × Small (now w) × (faces ≤ suc top) ⌝ }
     requires { ⌜ ((t : ℕ) → t < faces → getD places t 0 < width) ⌝ }
-    ensures { λ r. ⌜ r ≡ sum faces (λ t. at (now (w .entry)) (line + getD places t 0) *ℤ spec.sign t) ⌝ }
+    ensures { λ r. ⌜ r ≡ sum faces (λ t. slot (now (w .entry)) (line + getD places t 0) *ℤ spec.sign t) ⌝ }
 {
     let mut total: i64 = 0;
     let mut t: usize = 0;

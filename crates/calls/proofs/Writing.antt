@@ -14,7 +14,7 @@ use Rattle.requests.specs.Call.{workSlots}
 use Rattle.reports.specs.Reductions.{noTransforms, reductionsOf}
 use Rattle.limits.specs.Limits.{entryLimit, coefficientLimit, libraryLimit}
 use Rattle.answers.proofs.TwoReductions.{Right, reductions-right}
-use Rattle.matrix_lines.specs.Slice.{at}
+use Rattle.integers.specs.Slot.{slot}
 use Rattle.matrix_lines.proofs.Peaks.{under-small}
 use Rattle.operations.specs.Laid.{Laid}
 use Rattle.writers.specs.Written.{Kinds, CanReport, CanCount, CanCoordinate}
@@ -62,7 +62,7 @@ module _ {rule : Rule} (is : IsRule rule) {K : Sections} {p n : ℕ} {x : Reduce
   can-count = record { laid = laid; kinds = kinds; rank-below = h .rank-below }
 
   pub can-coordinate : {z : List ℤ} {from m : ℕ} → from + count K p ≤ m → length z ≡ count K p
-      → ((j : ℕ) → natAbs (at z j) ≤ coefficientLimit) → CanCoordinate x w z from m
+      → ((j : ℕ) → natAbs (slot z j) ≤ coefficientLimit) → CanCoordinate x w z from m
   can-coordinate {z} {from} {m} room size small = record {
     laid = laid;
     small = under-small (h .kept .under);

@@ -13,7 +13,8 @@ use Rattle.reports.specs.Report.{Counts, freeRank, torsionCount, countsOf}
 use Rattle.requests.specs.Question.{Question, cells, cellCount}
 use Rattle.requests.specs.Call.{call}
 use Rattle.answers.specs.Homology.{IsBoundary}
-use Rattle.answers.specs.Right.{slot, orderIn, generatorIn, IsRight, reportLength}
+use Rattle.integers.specs.Slot.{slot}
+use Rattle.answers.specs.Right.{orderIn, generatorIn, IsRight, reportLength}
 use Rattle.answers.proofs.ReportRight.{Reads, report-is-right, has-counts, counts-unique}
 use Rattle.answers.proofs.CoordinatesRight.{ReadsCoordinates, coordinates-decide, coordinates-combine, coordinates-nearest}
 use Rattle.answers.proofs.Behind.{Behind, same-behind}

@@ -19,7 +19,7 @@ use Rattle.host_calls.specs.Bytes.{coefficientIn, chainFrom, numberAt}
 use Rattle.host_calls.proofs.HostChainsLaws.{given-coefficient, chainFrom-size, chainAt-coefficient}
 use Rattle.host_calls.specs.Host.{hostCall, coordinatesIn, listsIn}
 use Rattle.answers.specs.Homology.{IsCycle}
-use Rattle.answers.specs.Right.{slot}
+use Rattle.integers.specs.Slot.{slot}
 use Rattle.answers.proofs.ReportRight.{Reads}
 use Rattle.answers.proofs.CoordinatesRight.{ReadsCoordinates}
 use Rattle.answers.proofs.ChainChecks.{ChainPasses, chain-passes, chain-told}

@@ -18,7 +18,7 @@ use Rattle.requests.proofs.ChainsLaws.{length-chainAt, fault, cycles-told, chai
 use Rattle.requests.specs.Call.{coordinates, lists, listSlots, workSlots, callChecks, earlyChecks, call}
 use Rattle.requests.proofs.CheckLaws.{call-passed}
 use Rattle.requests.proofs.CallLaws.{early-iff}
-use Rattle.answers.specs.Right.{slot}
+use Rattle.integers.specs.Slot.{slot}
 use Rattle.answers.proofs.ChainChecks.{chain-told, not-a-cycle-iff}
 use Rattle.answers.proofs.Behind.{Behind, same-behind}
 use Rattle.answers.proofs.CallRight.{Answered, done-number, call-outcome, call-earlier, counts-behind, answered, passed-done, list-reads}

@@ -10,7 +10,8 @@ use Rattle.sheet_format.specs.Sheet.{Bytes}
 use Rattle.reports.specs.Report.{Counts}
 use Rattle.requests.specs.Call.{coordinates, call}
 use Rattle.requests.specs.Call as request
-use Rattle.answers.specs.Right.{slot, orderIn}
+use Rattle.integers.specs.Slot.{slot}
+use Rattle.answers.specs.Right.{orderIn}
 use Rattle.projective_plane.specs.Plane.{sheet, loop, twice, backwards}
 use Rattle.projective_plane.specs.Examples.{loops, nines, counts, plane-calls}
 use Rattle.demands.specs.Answers.{ReportOf, CoordinatesOf, CountsAnswered}

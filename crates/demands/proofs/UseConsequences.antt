@@ -15,7 +15,8 @@ use Rattle.homology_groups.specs.Chain.{Chain, combination}
 use Rattle.reports.specs.Report.{Counts}
 use Rattle.requests.specs.Question.{Question, cells, cellCount}
 use Rattle.answers.specs.Homology.{IsBoundary}
-use Rattle.answers.specs.Right.{slot, orderIn, generatorIn}
+use Rattle.integers.specs.Slot.{slot}
+use Rattle.answers.specs.Right.{orderIn, generatorIn}
 use Rattle.projective_plane.specs.Plane.{report, twice, backwards}
 use Rattle.projective_plane.specs.Examples.{loops, nines, plane-calls}
 use Rattle.demands.specs.Answers.{ReportOf, CoordinatesOf, Counted}

@@ -7,7 +7,8 @@ use lib.Signed.{_≤ℤ_, _<ℤ_}
 use Rattle.homology_groups.specs.Chain.{Chain, combination}
 use Rattle.requests.specs.Question.{cells, cellCount}
 use Rattle.answers.specs.Homology.{IsBoundary}
-use Rattle.answers.specs.Right.{slot, generatorIn}
+use Rattle.integers.specs.Slot.{slot}
+use Rattle.answers.specs.Right.{generatorIn}
 use Rattle.projective_plane.specs.Plane.{loop, twice, backwards}
 use Rattle.projective_plane.specs.Examples.{loops, plane-calls}
 use Rattle.demands.specs.Answers.{CoordinatesOf, Counted, CoordinatesDecide, CoordinatesCombine, CoordinatesNearestZero}

@@ -17,7 +17,7 @@ use Rattle.requests.specs.Question.{asked, cells}
 use Rattle.requests.specs.Call.{report, lists, call}
 use Rattle.host_calls.specs.Bytes.{numberAt}
 use Rattle.host_calls.specs.Host.{hostCall}
-use Rattle.answers.specs.Right.{slot}
+use Rattle.integers.specs.Slot.{slot}
 use Rattle.answers.specs.Outcome.{Carries}
 use Rattle.demands.specs.Calls.{Calls}
 use Rattle.demands.specs.Host.{HostCalls}

@@ -20,7 +20,7 @@ use Rattle.requests.specs.Question.{cells}
 use Rattle.requests.specs.Chains.{chainAt, coefficientExceeds, boundaryNotZero, chainChecks, FirstFault}
 use Rattle.requests.specs.Call.{coordinates, lists, callChecks, call}
 use Rattle.answers.specs.Homology.{IsCycle}
-use Rattle.answers.specs.Right.{slot}
+use Rattle.integers.specs.Slot.{slot}
 use Rattle.answers.specs.Outcome.{NoCycle}
 use Rattle.demands.specs.Calls.{Calls, NotACycle, FirstFaultyChain, ListSingle, ListsSingle}
 use Rattle.demands.proofs.Hollow.{hollow, hollow-bytes, nines, minus}

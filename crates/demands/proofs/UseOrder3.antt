@@ -16,7 +16,8 @@ use Rattle.reports.specs.Report.{Counts}
 use Rattle.requests.specs.Question.{cells}
 use Rattle.requests.specs.Call.{coordinates, call}
 use Rattle.requests.specs.Call as request
-use Rattle.answers.specs.Right.{slot, orderIn, generatorIn}
+use Rattle.integers.specs.Slot.{slot}
+use Rattle.answers.specs.Right.{orderIn, generatorIn}
 use Rattle.moore_space.specs.Space.{sheet, report, backwards}
 use Rattle.moore_space.specs.Examples.{loops, nines, counts, space-calls}
 use Rattle.demands.specs.Answers.{CoordinatesOf, ReportOf, Counted}

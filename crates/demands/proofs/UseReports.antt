@@ -18,7 +18,8 @@ use Rattle.requests.specs.Call.{report, call}
 use Rattle.host_calls.specs.Bytes.{numberAt}
 use Rattle.host_calls.specs.Host.{hostCall}
 use Rattle.answers.specs.Homology.{IsCycle, IsBoundary, Presents}
-use Rattle.answers.specs.Right.{slot, orderIn, generatorIn, IsRight}
+use Rattle.integers.specs.Slot.{slot}
+use Rattle.answers.specs.Right.{orderIn, generatorIn, IsRight}
 use Rattle.projective_plane.specs.Examples.{loops, counts, plane-calls}
 use Rattle.demands.specs.Calls.{Calls}
 use Rattle.demands.specs.Host.{HostCalls}

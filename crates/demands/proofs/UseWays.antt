@@ -20,7 +20,7 @@ use Rattle.requests.specs.Call.{coordinates, lists, callChecks, earlyChecks, ca
 use Rattle.host_calls.specs.Bytes.{coefficientAt, coefficientIn, chainFrom, numberAt}
 use Rattle.host_calls.specs.Host.{hostCall, coordinatesIn, listsIn}
 use Rattle.answers.specs.Homology.{IsBoundary}
-use Rattle.answers.specs.Right.{slot}
+use Rattle.integers.specs.Slot.{slot}
 use Rattle.demands.specs.Calls.{Calls}
 use Rattle.demands.specs.Answers.{CoordinatesOf, Counted, CoordinatesDecide}
 use Rattle.demands.specs.Answers as claims

@@ -15,7 +15,8 @@ use Rattle.requests.specs.Call.{Request, report, coordinates, lists, call}
 use Rattle.host_calls.specs.Bytes.{coefficientIn, numberAt}
 use Rattle.host_calls.specs.Host.{hostCall, coordinatesIn, listsIn}
 use Rattle.answers.specs.Homology.{IsBoundary}
-use Rattle.answers.specs.Right.{slot, orderIn, generatorIn, IsRight, reportLength, HasCounts}
+use Rattle.integers.specs.Slot.{slot}
+use Rattle.answers.specs.Right.{orderIn, generatorIn, IsRight, reportLength, HasCounts}
 
 -- the numbers of a report that is done, as a caller reads them
 pub data ReportOf (q : Question) : (ℕ → ℤ) → Type 0 where

@@ -16,7 +16,7 @@ use Rattle.reports.specs.Report.{Counts}
 use Rattle.requests.specs.Question.{Question, cells, cellCount}
 use Rattle.requests.specs.Chains.{chainAt, chainChecks, FirstFault}
 use Rattle.requests.specs.Call.{Request, coordinates, lists, workSlots, callChecks, call}
-use Rattle.answers.specs.Right.{slot}
+use Rattle.integers.specs.Slot.{slot}
 use Rattle.answers.specs.Outcome.{Outcome, NoCycle}
 
 -- "each fault gets its number from document 01 in 01's order, and a refusal leaves report and coordinate slices untouched"; demand 2, ""Too wide" is

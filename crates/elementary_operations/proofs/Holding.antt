@@ -9,7 +9,8 @@ use native.Mathlib.Nat as NatL
 use native.Mathlib.Omega.{arith}
 use lib.IntN.{ℤ, negℤ, natAbs, _-ℤ_, _*ℤ_}
 use Rattle.matrices.specs.Matrix as theory
-use Rattle.matrix_lines.specs.Slice.{entryLimit, at, lineAt, Bounded, OneOf, Off, difference, LineSet, Beyond, Subtracted, Negated, LinesSwapped}
+use Rattle.integers.specs.Slot.{slot}
+use Rattle.matrix_lines.specs.Slice.{entryLimit, lineAt, Bounded, OneOf, Off, difference, LineSet, Beyond, Subtracted, Negated, LinesSwapped}
 use Rattle.matrix_lines.specs.Matrices.{contents, Entries, EntryOf, Holds, Exceeds, Became}
 use Rattle.matrix_lines.specs.declared.matrix.Matrix.{Matrix}
 use Rattle.matrix_lines.specs.declared.line.Effect.{Effect}
@@ -112,7 +113,7 @@ pub negated-holds : {M : Matrix} {target i j n : ℕ} → Span M target i j n �
     → (among : Entries) → ((t : ℕ) → among i t) → {before x : ℕ} → Negated w target n before x w′ → Holds M w among A before x w′
 negated-holds {M} {target} {i} {j} {n} s w w′ A on same among all h = lineSet-holds s A on′ h same all
   where
-    on′ : (t : ℕ) → t < n → A i (j + t) ≡ negℤ (at w (target + t))
+    on′ : (t : ℕ) → t < n → A i (j + t) ≡ negℤ (slot w (target + t))
     on′ t h = rw (span-at s w t) (on t h)
 
 -- A has the entries of w off both spans

@@ -15,7 +15,8 @@ use Rattle.matrices.specs.Matrix as theory
 use Rattle.matrices.specs.Operation.{Operation, subtract, swap, negate, onRows, onColumns}
 use Rattle.matrices.proofs.OperationLaws.{onRows-ext-at, onRows-subtract-at, onRows-subtract-other}
 use Rattle.matrices.specs.Within.{Within}
-use Rattle.matrix_lines.specs.Slice.{entryLimit, at, lineAt, Bounded, LinesSwapped, Negated}
+use Rattle.integers.specs.Slot.{slot}
+use Rattle.matrix_lines.specs.Slice.{entryLimit, lineAt, Bounded, LinesSwapped, Negated}
 use Rattle.matrix_lines.specs.Slice as slice
 use Rattle.matrix_lines.specs.Matrices.{Held, contents, Off, Entries, EntryOf, Holds, Exceeds, placesOf}
 use Rattle.elementary_operations.specs.Operations.{operationOf, Fits, Writes, OnLines, OnPlaces, AloneAt, Alone}
@@ -35,7 +36,7 @@ use Rattle.matrix_lines.proofs.Peaks.{covered-same}
 module _ (M : Matrix) (i : ℕ) where
   -- their entries are the line's
   place-at : (w : List ℤ) (j : ℕ) → contents (placesOf M i) w j 0 ≡ contents M w i j
-  place-at w j = ap (at w) (omega arith)
+  place-at w j = ap (slot w) (omega arith)
 
   module _ (below : i < M .lines) where
     line : Span M (lineAt (M .at) (M .width) i) i 0 (M .width)

@@ -8,7 +8,8 @@ use native.Mathlib.Nat as NatL
 use mir.Syntax.{w64}
 use lib.ListN.{length}
 use lib.IntN.{ℤ, natAbs}
-use Rattle.matrix_lines.specs.Slice.{entryLimit, at, Bounded, Apart, LineSet, Beyond, Subtracted, difference}
+use Rattle.integers.specs.Slot.{slot}
+use Rattle.matrix_lines.specs.Slice.{entryLimit, Bounded, Apart, LineSet, Beyond, Subtracted, difference}
 use Rattle.matrix_lines.specs.declared.line.Effect.{Effect}
 use Rattle.matrix_lines.specs.declared.line.Effect.the-variants.{Done, TooWide}
 use Rattle.matrix_lines.proofs.Parts.{lineSet-part}
@@ -60,12 +61,12 @@ module _ {w₀ : List ℤ} {target source width : ℕ} {q : ℤ} {before t x : �
   next-same : (s : ℕ) → s < n → difference w (target + t) (source + t) q s ≡ difference w₀ target source q (t + s)
   next-same s l = rw (target-same, source-same)
     where
-      target-same : at w (target + t + s) ≡ at w₀ (target + (t + s))
-      target-same = so-far .off (target + t + s) (inr (omega arith)) ∙ ap (at w₀) (omega arith)
+      target-same : slot w (target + t + s) ≡ slot w₀ (target + (t + s))
+      target-same = so-far .off (target + t + s) (inr (omega arith)) ∙ ap (slot w₀) (omega arith)
 
-      source-same : at w (source + t + s) ≡ at w₀ (source + (t + s))
+      source-same : slot w (source + t + s) ≡ slot w₀ (source + (t + s))
       source-same =
-          so-far .off (source + t + s) (⊎-elim (λ h. inr (omega arith)) (λ h. inl (omega arith)) (partly .apart)) ∙ ap (at w₀) (omega arith)
+          so-far .off (source + t + s) (⊎-elim (λ h. inr (omega arith)) (λ h. inl (omega arith)) (partly .apart)) ∙ ap (slot w₀) (omega arith)
 
   part-set :
       {y : ℕ} {w′ : List ℤ} → LineSet w (target + t) n (difference w (target + t) (source + t) q) x y w′

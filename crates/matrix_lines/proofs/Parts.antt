@@ -8,7 +8,8 @@ use native.Mathlib.Omega.{arith}
 use native.Mathlib.Decide.{decLt}
 use native.Mathlib.Nat as NatL
 use lib.IntN.{ℤ, natAbs}
-use Rattle.matrix_lines.specs.Slice.{at, Apart, Off, OneOf, LineSet, LinesSwapped}
+use Rattle.integers.specs.Slot.{slot}
+use Rattle.matrix_lines.specs.Slice.{Apart, Off, OneOf, LineSet, LinesSwapped}
 use Rattle.matrix_lines.proofs.Peaks.{covered-trans}
 
 -- ---- a line that is set
@@ -27,9 +28,9 @@ lineSet-part {w} {w₁} {w₂} {target} {t} {n} {line} {next} {before} {x} {y} s
   wrote = pick-wrote (h .wrote) (so-far .wrote);
 }
   where
-    pick : (s : ℕ) → s < t + n → Dec (s < t) → at w₂ (target + s) ≡ line s
+    pick : (s : ℕ) → s < t + n → Dec (s < t) → slot w₂ (target + s) ≡ line s
     pick s l (yes k) = h .off (target + s) (inl (omega arith)) ∙ so-far .on s k
-    pick s l (no k) = ap (at w₂) (omega arith) ∙ h .on (s - t) (omega arith) ∙ same (s - t) (omega arith) ∙ ap line (omega arith)
+    pick s l (no k) = ap (slot w₂) (omega arith) ∙ h .on (s - t) (omega arith) ∙ same (s - t) (omega arith) ∙ ap line (omega arith)
 
     pick-wrote : (y ≡ x) ⊎ OneOf n next y → (x ≡ before) ⊎ OneOf t line x → (y ≡ before) ⊎ OneOf (t + n) line y
     pick-wrote (inr o) p = inr (record { place = t + o .place; below = omega (arith, o .below); is = o .is ∙ ap natAbs (same (o .place) (o .below)) })
@@ -48,10 +49,10 @@ module _ (w w₁ : List ℤ) (first second width t n : ℕ) {before x : ℕ} (in
   part-one-or-apart = one-or-apart (λ e. inl (omega arith)) (λ l. inr (inl (omega arith))) (λ l. inr (inr (omega arith)))
 
   -- and as they were
-  first-same : (s : ℕ) → t ≤ s → s < width → at w₁ (first + s) ≡ at w (first + s)
+  first-same : (s : ℕ) → t ≤ s → s < width → slot w₁ (first + s) ≡ slot w (first + s)
   first-same s k l = so-far .off (first + s) (inr (omega arith)) (one-or-apart (λ e. inr (omega arith)) (λ h. inl (omega arith)) (λ h. inr (omega arith)))
 
-  second-same : (s : ℕ) → t ≤ s → s < width → at w₁ (second + s) ≡ at w (second + s)
+  second-same : (s : ℕ) → t ≤ s → s < width → slot w₁ (second + s) ≡ slot w (second + s)
   second-same s k l =
       so-far .off (second + s) (one-or-apart (λ e. inr (omega arith)) (λ h. inr (omega arith)) (λ h. inl (omega arith))) (inr (omega arith))
 
@@ -76,32 +77,32 @@ module _ (w w₁ : List ℤ) (first second width t n : ℕ) {before x : ℕ} (in
     wrote = pick-wrote (h .wrote) (so-far .wrote);
   }
     where
-      pick-first : (s : ℕ) → s < t + n → Dec (s < t) → at w₂ (first + s) ≡ at w (second + s)
+      pick-first : (s : ℕ) → s < t + n → Dec (s < t) → slot w₂ (first + s) ≡ slot w (second + s)
       pick-first s l (yes k) = h .off (first + s) (first-off s k .0) (first-off s k .1) ∙ so-far .on-first s k
       pick-first s l (no k) =
-          ap (at w₂) (omega arith) ∙ h .on-first (s - t) (omega arith) ∙ ap (at w₁) (omega arith) ∙ second-same s (omega arith) (omega arith)
+          ap (slot w₂) (omega arith) ∙ h .on-first (s - t) (omega arith) ∙ ap (slot w₁) (omega arith) ∙ second-same s (omega arith) (omega arith)
 
-      pick-second : (s : ℕ) → s < t + n → Dec (s < t) → at w₂ (second + s) ≡ at w (first + s)
+      pick-second : (s : ℕ) → s < t + n → Dec (s < t) → slot w₂ (second + s) ≡ slot w (first + s)
       pick-second s l (yes k) = h .off (second + s) (second-off s k .0) (second-off s k .1) ∙ so-far .on-second s k
       pick-second s l (no k) =
-          ap (at w₂) (omega arith) ∙ h .on-second (s - t) (omega arith) ∙ ap (at w₁) (omega arith) ∙ first-same s (omega arith) (omega arith)
+          ap (slot w₂) (omega arith) ∙ h .on-second (s - t) (omega arith) ∙ ap (slot w₁) (omega arith) ∙ first-same s (omega arith) (omega arith)
 
       Wrote : ℕ → ℕ → Type 0
-      Wrote width m = (m ≡ before) ⊎ (OneOf width (λ s. at w (first + s)) m ⊎ OneOf width (λ s. at w (second + s)) m)
+      Wrote width m = (m ≡ before) ⊎ (OneOf width (λ s. slot w (first + s)) m ⊎ OneOf width (λ s. slot w (second + s)) m)
 
       pick-wrote :
-          (y ≡ x) ⊎ (OneOf n (λ s. at w₁ (first + t + s)) y ⊎ OneOf n (λ s. at w₁ (second + t + s)) y) → Wrote t x → Wrote (t + n) y
+          (y ≡ x) ⊎ (OneOf n (λ s. slot w₁ (first + t + s)) y ⊎ OneOf n (λ s. slot w₁ (second + t + s)) y) → Wrote t x → Wrote (t + n) y
       pick-wrote (inr (inl o)) p =
           inr (inl (record {
             place = t + o .place;
             below = omega (arith, o .below);
-            is = o .is ∙ ap natAbs (ap (at w₁) (omega arith) ∙ first-same (t + o .place) (omega arith) (omega (arith, o .below)));
+            is = o .is ∙ ap natAbs (ap (slot w₁) (omega arith) ∙ first-same (t + o .place) (omega arith) (omega (arith, o .below)));
           }))
       pick-wrote (inr (inr o)) p =
           inr (inr (record {
             place = t + o .place;
             below = omega (arith, o .below);
-            is = o .is ∙ ap natAbs (ap (at w₁) (omega arith) ∙ second-same (t + o .place) (omega arith) (omega (arith, o .below)));
+            is = o .is ∙ ap natAbs (ap (slot w₁) (omega arith) ∙ second-same (t + o .place) (omega arith) (omega (arith, o .below)));
           }))
       pick-wrote (inl e) (inl p) = inl (e ∙ p)
       pick-wrote (inl e) (inr (inl p)) = inr (inl (record { place = p .place; below = omega (arith, p .below); is = e ∙ p .is }))

@@ -9,12 +9,13 @@ use native.Mathlib.Nat as NatL
 use native.Mathlib.Omega.{arith}
 use native.Mathlib.Decide.{decLt}
 use lib.IntN.{ℤ, natAbs}
-use Rattle.matrix_lines.specs.Slice.{entryLimit, at, Small, Under, Bounded, Covered}
+use Rattle.integers.specs.Slot.{slot}
+use Rattle.matrix_lines.specs.Slice.{entryLimit, Small, Under, Bounded, Covered}
 
 -- ---- the peak
 
 module _ {peak : ℕ} {w : List ℤ} (u : Under peak w) where
-  pub under-entry : (i : ℕ) → natAbs (at w i) ≤ entryLimit
+  pub under-entry : (i : ℕ) → natAbs (slot w i) ≤ entryLimit
   under-entry i = NatL.le-trans (u .bound i) (u .limit)
 
   pub under-small : Small w
@@ -27,7 +28,7 @@ small-under s = record { bound = s .bound; limit = NatL.le-refl entryLimit }
 pub under-covered : {peak n : ℕ} {w w′ : List ℤ} → Under peak w → Covered w w′ n → Bounded n w′ → Under (max peak n) w′
 under-covered {peak} {n} {w} {w′} u c b = record { bound = λ i. pick i (c .entry i); limit = NatL.max-le (u .limit) (b .limit) }
   where
-    pick : (i : ℕ) → (at w′ i ≡ at w i) ⊎ (natAbs (at w′ i) ≤ n) → natAbs (at w′ i) ≤ max peak n
+    pick : (i : ℕ) → (slot w′ i ≡ slot w i) ⊎ (natAbs (slot w′ i) ≤ n) → natAbs (slot w′ i) ≤ max peak n
     pick i (inl e) = subst (λ (z : ℤ). natAbs z ≤ max peak n) (sym e) (NatL.le-trans (u .bound i) (NatL.le-max-left peak n))
     pick i (inr l) = NatL.le-trans l (NatL.le-max-right peak n)
 
@@ -49,8 +50,8 @@ covered-same w = record { entry = λ i. inl refl }
 pub covered-trans : {w w₁ w₂ : List ℤ} {x y : ℕ} → Covered w w₁ x → Covered w₁ w₂ y → x ≤ y → Covered w w₂ y
 covered-trans {w} {w₁} {w₂} {x} {y} h k l = record { entry = λ i. step i (h .entry i) (k .entry i) }
   where
-    step : (i : ℕ) → (at w₁ i ≡ at w i) ⊎ (natAbs (at w₁ i) ≤ x) → (at w₂ i ≡ at w₁ i) ⊎ (natAbs (at w₂ i) ≤ y)
-        → (at w₂ i ≡ at w i) ⊎ (natAbs (at w₂ i) ≤ y)
+    step : (i : ℕ) → (slot w₁ i ≡ slot w i) ⊎ (natAbs (slot w₁ i) ≤ x) → (slot w₂ i ≡ slot w₁ i) ⊎ (natAbs (slot w₂ i) ≤ y)
+        → (slot w₂ i ≡ slot w i) ⊎ (natAbs (slot w₂ i) ≤ y)
     step i p (inr b) = inr b
     step i (inl e) (inl f) = inl (f ∙ e)
     step i (inr b) (inl f) = inr (subst (λ (z : ℤ). natAbs z ≤ y) (sym f) (NatL.le-trans b l))

@@ -8,7 +8,8 @@ use native.Mathlib.Nat as NatL
 use native.Mathlib.Omega.{arith}
 use native.Mathlib.Decide.{ℕ-discrete, decLt, decLe}
 use lib.IntN.{ℤ}
-use Rattle.matrix_lines.specs.Slice.{at, lineAt, Apart, Off}
+use Rattle.integers.specs.Slot.{slot}
+use Rattle.matrix_lines.specs.Slice.{lineAt, Apart, Off}
 use Rattle.matrix_lines.specs.Matrices.{Held, contents}
 use Rattle.matrix_lines.specs.Matrices as matrices
 use Rattle.matrix_lines.specs.declared.matrix.Matrix.{Matrix}
@@ -40,8 +41,8 @@ module _ {M : Matrix} {start i j n : ℕ} (s : Span M start i j n) where
   span-inside h = NatL.le-trans span-before-end (h .ends)
 
   -- its entries are the matrix's
-  pub span-at : (w : List ℤ) (t : ℕ) → at w (start + t) ≡ contents M w i (j + t)
-  span-at w t = ap (at w) (omega (arith, s .is))
+  pub span-at : (w : List ℤ) (t : ℕ) → slot w (start + t) ≡ contents M w i (j + t)
+  span-at w t = ap (slot w) (omega (arith, s .is))
 
   -- a place outside the matrix
   pub span-outside : (p : ℕ) → matrices.Off M p → Off start n p

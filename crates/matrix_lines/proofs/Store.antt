@@ -9,25 +9,26 @@ use native.Mathlib.Decide.{ℕ-discrete, decLt}
 use lib.ListN.{length, set, length-set}
 use lib.Seq.{getD-set-same, getD-set-other}
 use lib.IntN.{ℤ, pos, natAbs}
-use Rattle.matrix_lines.specs.Slice.{entryLimit, at, Small, Bounded, Covered, OneOf, Apart, LineSet, LinesSwapped}
+use Rattle.integers.specs.Slot.{slot}
+use Rattle.matrix_lines.specs.Slice.{entryLimit, Small, Bounded, Covered, OneOf, Apart, LineSet, LinesSwapped}
 use Rattle.matrix_lines.proofs.Peaks.{Raised, raised-small, max-one, covered-same, covered-trans, bounded-larger}
 
 -- ---- one store
 
 module _ (w : List ℤ) (i : ℕ) (x : ℤ) (inside : i < length w) where
-  pub at-set-same : at (set w i x) i ≡ x
-  at-set-same = getD-set-same w i x (pos 0) inside
+  pub slot-set-same : slot (set w i x) i ≡ x
+  slot-set-same = getD-set-same w i x (pos 0) inside
 
-  pub at-set-other : (j : ℕ) → j ≢ i → at (set w i x) j ≡ at w j
-  at-set-other j n = getD-set-other w i j x (pos 0) n
+  pub slot-set-other : (j : ℕ) → j ≢ i → slot (set w i x) j ≡ slot w j
+  slot-set-other j n = getD-set-other w i j x (pos 0) n
 
   -- a bound of the entries is kept
-  bound-set : {m : ℕ} → ((j : ℕ) → natAbs (at w j) ≤ m) → natAbs x ≤ m → (j : ℕ) → natAbs (at (set w i x) j) ≤ m
+  bound-set : {m : ℕ} → ((j : ℕ) → natAbs (slot w j) ≤ m) → natAbs x ≤ m → (j : ℕ) → natAbs (slot (set w i x) j) ≤ m
   bound-set {m} s l j = pick (ℕ-discrete j i)
     where
-      pick : Dec (j ≡ i) → natAbs (at (set w i x) j) ≤ m
-      pick (yes e) = subst (λ (k : ℕ). natAbs (at (set w i x) k) ≤ m) (sym e) (subst (λ (z : ℤ). natAbs z ≤ m) (sym at-set-same) l)
-      pick (no n) = subst (λ (z : ℤ). natAbs z ≤ m) (sym (at-set-other j n)) (s j)
+      pick : Dec (j ≡ i) → natAbs (slot (set w i x) j) ≤ m
+      pick (yes e) = subst (λ (k : ℕ). natAbs (slot (set w i x) k) ≤ m) (sym e) (subst (λ (z : ℤ). natAbs z ≤ m) (sym slot-set-same) l)
+      pick (no n) = subst (λ (z : ℤ). natAbs z ≤ m) (sym (slot-set-other j n)) (s j)
 
   pub small-set : Small w → natAbs x ≤ entryLimit → Small (set w i x)
   small-set s l = record { bound = bound-set (s .bound) l }
@@ -38,13 +39,13 @@ module _ (w : List ℤ) (i : ℕ) (x : ℤ) (inside : i < length w) where
   pub covered-set : {n : ℕ} → natAbs x ≤ n → Covered w (set w i x) n
   covered-set {n} l = record { entry = λ j. pick j (ℕ-discrete j i) }
     where
-      pick : (j : ℕ) → Dec (j ≡ i) → (at (set w i x) j ≡ at w j) ⊎ (natAbs (at (set w i x) j) ≤ n)
-      pick j (yes e) = inr (subst (λ (k : ℕ). natAbs (at (set w i x) k) ≤ n) (sym e) (subst (λ (z : ℤ). natAbs z ≤ n) (sym at-set-same) l))
-      pick j (no d) = inl (at-set-other j d)
+      pick : (j : ℕ) → Dec (j ≡ i) → (slot (set w i x) j ≡ slot w j) ⊎ (natAbs (slot (set w i x) j) ≤ n)
+      pick j (yes e) = inr (subst (λ (k : ℕ). natAbs (slot (set w i x) k) ≤ n) (sym e) (subst (λ (z : ℤ). natAbs z ≤ n) (sym slot-set-same) l))
+      pick j (no d) = inl (slot-set-other j d)
 
 -- ---- a line that is set place by place
 
-pub lineSet-same : (w : List ℤ) (target width : ℕ) (line : ℕ → ℤ) {before : ℕ} → Bounded before w → ((t : ℕ) → t < width → at w (target + t) ≡ line t)
+pub lineSet-same : (w : List ℤ) (target width : ℕ) (line : ℕ → ℤ) {before : ℕ} → Bounded before w → ((t : ℕ) → t < width → slot w (target + t) ≡ line t)
     → LineSet w target width line before before w
 lineSet-same w target width line {before} b e = record {
   same-length = refl;
@@ -65,14 +66,14 @@ module _ (w w′ : List ℤ) (target t : ℕ) (line : ℕ → ℤ) {before x : �
   inside′ = rw (set-so-far .same-length) inside
 
   -- what the next place holds before it is set
-  pub lineSet-next : at w′ (target + t) ≡ at w (target + t)
+  pub lineSet-next : slot w′ (target + t) ≡ slot w (target + t)
   lineSet-next = set-so-far .off (target + t) (inr (omega arith))
 
   pub lineSet-more : {n : ℕ} → Raised x (line t) n → LineSet w target (t + 1) line before n (set w′ (target + t) (line t))
   lineSet-more {n} raised = record {
     same-length = simp length-set (set-so-far .same-length);
     on = λ s h. pick-on s h (ℕ-discrete s t);
-    off = λ i o. at-set-other w′ (target + t) (line t) inside′ i (⊎-elim (λ h. λ e. omega arith) (λ h. λ e. omega arith) o)
+    off = λ i o. slot-set-other w′ (target + t) (line t) inside′ i (⊎-elim (λ h. λ e. omega arith) (λ h. λ e. omega arith) o)
         ∙ set-so-far .off i (⊎-elim (λ h. inl h) (λ h. inr (omega arith)) o);
     bounded = bounded-set w′ (target + t) (line t) inside′ (bounded-larger (set-so-far .bounded) (raised .limit)) (raised-small raised);
     above = NatL.le-trans (set-so-far .above) (raised .above);
@@ -85,43 +86,43 @@ module _ (w w′ : List ℤ) (target t : ℕ) (line : ℕ → ℤ) {before x : �
       pick-wrote (inl e) (inl o) = inl (e ∙ o)
       pick-wrote (inl e) (inr o) = inr (record { place = o .place; below = omega (arith, o .below); is = e ∙ o .is })
 
-      pick-on : (s : ℕ) → s < t + 1 → Dec (s ≡ t) → at (set w′ (target + t) (line t)) (target + s) ≡ line s
-      pick-on s h (yes e) = rw e (at-set-same w′ (target + t) (line t) inside′)
+      pick-on : (s : ℕ) → s < t + 1 → Dec (s ≡ t) → slot (set w′ (target + t) (line t)) (target + s) ≡ line s
+      pick-on s h (yes e) = rw e (slot-set-same w′ (target + t) (line t) inside′)
       pick-on s h (no n) =
-          at-set-other w′ (target + t) (line t) inside′ (target + s) (λ e. n (omega arith)) ∙ set-so-far .on s (omega arith)
+          slot-set-other w′ (target + t) (line t) inside′ (target + s) (λ e. n (omega arith)) ∙ set-so-far .on s (omega arith)
 
 -- ---- two lines that are exchanged place by place
 
 -- the exchange of the entries at a and b
 abbrev pub exchange : List ℤ → ℕ → ℕ → List ℤ
-exchange w a b = set (set w a (at w b)) b (at w a)
+exchange w a b = set (set w a (slot w b)) b (slot w a)
 
 module _ (w : List ℤ) (a b : ℕ) (a-inside : a < length w) (b-inside : b < length w) where
-  b-inside′ : b < length (set w a (at w b))
+  b-inside′ : b < length (set w a (slot w b))
   b-inside′ = simp length-set b-inside
 
-  pub at-exchange-first : at (exchange w a b) a ≡ at w b
-  at-exchange-first = pick (ℕ-discrete a b)
+  pub slot-exchange-first : slot (exchange w a b) a ≡ slot w b
+  slot-exchange-first = pick (ℕ-discrete a b)
     where
-      pick : Dec (a ≡ b) → at (exchange w a b) a ≡ at w b
-      pick (yes e) = ap (at (exchange w a b)) e ∙ at-set-same (set w a (at w b)) b (at w a) b-inside′ ∙ ap (at w) e
-      pick (no n) = at-set-other (set w a (at w b)) b (at w a) b-inside′ a n ∙ at-set-same w a (at w b) a-inside
+      pick : Dec (a ≡ b) → slot (exchange w a b) a ≡ slot w b
+      pick (yes e) = ap (slot (exchange w a b)) e ∙ slot-set-same (set w a (slot w b)) b (slot w a) b-inside′ ∙ ap (slot w) e
+      pick (no n) = slot-set-other (set w a (slot w b)) b (slot w a) b-inside′ a n ∙ slot-set-same w a (slot w b) a-inside
 
-  pub at-exchange-second : at (exchange w a b) b ≡ at w a
-  at-exchange-second = at-set-same (set w a (at w b)) b (at w a) b-inside′
+  pub slot-exchange-second : slot (exchange w a b) b ≡ slot w a
+  slot-exchange-second = slot-set-same (set w a (slot w b)) b (slot w a) b-inside′
 
-  pub at-exchange-other : (i : ℕ) → i ≢ a → i ≢ b → at (exchange w a b) i ≡ at w i
-  at-exchange-other i n m = at-set-other (set w a (at w b)) b (at w a) b-inside′ i m ∙ at-set-other w a (at w b) a-inside i n
+  pub slot-exchange-other : (i : ℕ) → i ≢ a → i ≢ b → slot (exchange w a b) i ≡ slot w i
+  slot-exchange-other i n m = slot-set-other (set w a (slot w b)) b (slot w a) b-inside′ i m ∙ slot-set-other w a (slot w b) a-inside i n
 
   pub bounded-exchange : {n : ℕ} → Bounded n w → Bounded n (exchange w a b)
-  bounded-exchange u = bounded-set (set w a (at w b)) b (at w a) b-inside′ (bounded-set w a (at w b) a-inside u (u .bound b)) (u .bound a)
+  bounded-exchange u = bounded-set (set w a (slot w b)) b (slot w a) b-inside′ (bounded-set w a (slot w b) a-inside u (u .bound b)) (u .bound a)
 
-  pub covered-exchange : {n : ℕ} → natAbs (at w a) ≤ n → natAbs (at w b) ≤ n → Covered w (exchange w a b) n
+  pub covered-exchange : {n : ℕ} → natAbs (slot w a) ≤ n → natAbs (slot w b) ≤ n → Covered w (exchange w a b) n
   covered-exchange {n} l h =
-      covered-trans (covered-set w a (at w b) a-inside h) (covered-set (set w a (at w b)) b (at w a) b-inside′ l) (NatL.le-refl n)
+      covered-trans (covered-set w a (slot w b) a-inside h) (covered-set (set w a (slot w b)) b (slot w a) b-inside′ l) (NatL.le-refl n)
 
 pub swapped-same : (w : List ℤ) (first second width : ℕ) {before : ℕ} → Bounded before w
-    → ((t : ℕ) → t < width → at w (first + t) ≡ at w (second + t)) → LinesSwapped w first second width before before w
+    → ((t : ℕ) → t < width → slot w (first + t) ≡ slot w (second + t)) → LinesSwapped w first second width before before w
 swapped-same w first second width {before} b e = record {
   same-length = refl;
   on-first = e;
@@ -174,21 +175,21 @@ module _ (w w′ : List ℤ) (first second width t : ℕ) {before x : ℕ} (belo
   b-inside″ = omega (arith, so-far .same-length)
 
   -- what the next places hold before they are exchanged
-  pub swapped-first : at w′ (first + t) ≡ at w (first + t)
+  pub swapped-first : slot w′ (first + t) ≡ slot w (first + t)
   swapped-first = so-far .off (first + t) (inr (omega arith)) (one-or-apart (λ e. inr (omega arith)) (λ l. inl (omega arith)) (λ l. inr (omega arith)))
 
-  pub swapped-second : at w′ (second + t) ≡ at w (second + t)
+  pub swapped-second : slot w′ (second + t) ≡ slot w (second + t)
   swapped-second = so-far .off (second + t) (one-or-apart (λ e. inr (omega arith)) (λ l. inr (omega arith)) (λ l. inl (omega arith))) (inr (omega arith))
 
   pub swapped-more :
-      {n : ℕ} → RaisedTwice x (at w′ (first + t)) (at w′ (second + t)) n
+      {n : ℕ} → RaisedTwice x (slot w′ (first + t)) (slot w′ (second + t)) n
       → LinesSwapped w first second (t + 1) before n (exchange w′ (first + t) (second + t))
   swapped-more {n} raised = record {
     same-length = simp length-set (so-far .same-length);
     on-first = λ s h. pick-first s h (ℕ-discrete s t);
     on-second = λ s h. pick-second s h (ℕ-discrete s t);
     off = λ i o p.
-        at-exchange-other w′ (first + t) (second + t) a-inside′ b-inside″ i
+        slot-exchange-other w′ (first + t) (second + t) a-inside′ b-inside″ i
         (⊎-elim (λ h. λ e. omega arith) (λ h. λ e. omega arith) o) (⊎-elim (λ h. λ e. omega arith) (λ h. λ e. omega arith) p)
         ∙ so-far .off i (⊎-elim (λ h. inl h) (λ h. inr (omega arith)) o) (⊎-elim (λ h. inl h) (λ h. inr (omega arith)) p);
     bounded = bounded-exchange w′ (first + t) (second + t) a-inside′ b-inside″ (bounded-larger (so-far .bounded) (raised .limit));
@@ -199,31 +200,31 @@ module _ (w w′ : List ℤ) (first second width t : ℕ) {before x : ℕ} (belo
   }
     where
       Wrote : ℕ → ℕ → Type 0
-      Wrote width m = (m ≡ before) ⊎ (OneOf width (λ s. at w (first + s)) m ⊎ OneOf width (λ s. at w (second + s)) m)
+      Wrote width m = (m ≡ before) ⊎ (OneOf width (λ s. slot w (first + s)) m ⊎ OneOf width (λ s. slot w (second + s)) m)
 
-      pick-wrote : (n ≡ x) ⊎ ((n ≡ natAbs (at w′ (first + t))) ⊎ (n ≡ natAbs (at w′ (second + t)))) → Wrote t x → Wrote (t + 1) n
+      pick-wrote : (n ≡ x) ⊎ ((n ≡ natAbs (slot w′ (first + t))) ⊎ (n ≡ natAbs (slot w′ (second + t)))) → Wrote t x → Wrote (t + 1) n
       pick-wrote (inr (inl e)) o = inr (inl (record { place = t; below = omega arith; is = e ∙ ap natAbs swapped-first }))
       pick-wrote (inr (inr e)) o = inr (inr (record { place = t; below = omega arith; is = e ∙ ap natAbs swapped-second }))
       pick-wrote (inl e) (inl o) = inl (e ∙ o)
       pick-wrote (inl e) (inr (inl o)) = inr (inl (record { place = o .place; below = omega (arith, o .below); is = e ∙ o .is }))
       pick-wrote (inl e) (inr (inr o)) = inr (inr (record { place = o .place; below = omega (arith, o .below); is = e ∙ o .is }))
 
-      pick-first : (s : ℕ) → s < t + 1 → Dec (s ≡ t) → at (exchange w′ (first + t) (second + t)) (first + s) ≡ at w (second + s)
-      pick-first s h (yes e) = rw e (at-exchange-first w′ (first + t) (second + t) a-inside′ b-inside″ ∙ swapped-second)
+      pick-first : (s : ℕ) → s < t + 1 → Dec (s ≡ t) → slot (exchange w′ (first + t) (second + t)) (first + s) ≡ slot w (second + s)
+      pick-first s h (yes e) = rw e (slot-exchange-first w′ (first + t) (second + t) a-inside′ b-inside″ ∙ swapped-second)
       pick-first s h (no n) =
-          at-exchange-other w′ (first + t) (second + t) a-inside′ b-inside″ (first + s) (λ e. n (omega arith))
+          slot-exchange-other w′ (first + t) (second + t) a-inside′ b-inside″ (first + s) (λ e. n (omega arith))
           (λ e. one-or-apart (λ u. n (omega arith)) (λ l. omega arith) (λ l. omega arith))
           ∙ so-far .on-first s (omega arith)
 
-      pick-second : (s : ℕ) → s < t + 1 → Dec (s ≡ t) → at (exchange w′ (first + t) (second + t)) (second + s) ≡ at w (first + s)
-      pick-second s h (yes e) = rw e (at-exchange-second w′ (first + t) (second + t) a-inside′ b-inside″ ∙ swapped-first)
+      pick-second : (s : ℕ) → s < t + 1 → Dec (s ≡ t) → slot (exchange w′ (first + t) (second + t)) (second + s) ≡ slot w (first + s)
+      pick-second s h (yes e) = rw e (slot-exchange-second w′ (first + t) (second + t) a-inside′ b-inside″ ∙ swapped-first)
       pick-second s h (no n) =
-          at-exchange-other w′ (first + t) (second + t) a-inside′ b-inside″ (second + s)
+          slot-exchange-other w′ (first + t) (second + t) a-inside′ b-inside″ (second + s)
           (λ e. one-or-apart (λ u. n (omega arith)) (λ l. omega arith) (λ l. omega arith)) (λ e. n (omega arith))
           ∙ so-far .on-second s (omega arith)
 
 -- two entries
-pub exchanged : (w : List ℤ) (a b : ℕ) {before n : ℕ} → a < length w → b < length w → Bounded before w → RaisedTwice before (at w a) (at w b) n
+pub exchanged : (w : List ℤ) (a b : ℕ) {before n : ℕ} → a < length w → b < length w → Bounded before w → RaisedTwice before (slot w a) (slot w b) n
     → LinesSwapped w a b 1 before n (exchange w a b)
 exchanged w a b {before} {n} l h bounded raised = there
   where
@@ -244,8 +245,8 @@ exchanged w a b {before} {n} l h bounded raised = there
     here : LinesSwapped w a b (0 + 1) before n (exchange w (a + 0) (b + 0))
     here =
         swapped-more w w a b 1 0 (omega arith) (omega arith) (omega arith) (either a b) (swapped-none w a b bounded)
-        (subst (λ (j : ℕ). RaisedTwice before (at w j) (at w (b + 0)) n) (sym first-is)
-        (subst (λ (k : ℕ). RaisedTwice before (at w a) (at w k) n) (sym second-is) raised))
+        (subst (λ (j : ℕ). RaisedTwice before (slot w j) (slot w (b + 0)) n) (sym first-is)
+        (subst (λ (k : ℕ). RaisedTwice before (slot w a) (slot w k) n) (sym second-is) raised))
 
     there : LinesSwapped w a b 1 before n (exchange w a b)
     there =

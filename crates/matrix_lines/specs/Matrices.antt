@@ -7,7 +7,8 @@ use lib.ListN.{length}
 use lib.IntN.{ℤ, natAbs}
 use Rattle.matrices.specs.Matrix.{Eq}
 use Rattle.matrices.specs.Matrix as theory
-use Rattle.matrix_lines.specs.Slice.{entryLimit, at, lineAt, Bounded, Covered}
+use Rattle.integers.specs.Slot.{slot}
+use Rattle.matrix_lines.specs.Slice.{entryLimit, lineAt, Bounded, Covered}
 use Rattle.matrix_lines.specs.declared.matrix.Matrix.{Matrix}
 use Rattle.matrix_lines.specs.declared.line.Effect.{Effect}
 use Rattle.matrix_lines.specs.declared.line.Effect.the-variants.{Done, TooWide}
@@ -22,7 +23,7 @@ pub record Held (n : ℕ) (M : Matrix) : Type 0 where
 
 -- its entries
 abbrev pub contents : Matrix → List ℤ → theory.Matrix
-contents M w i j = at w (lineAt (M .at) (M .width) i + j)
+contents M w i j = slot w (lineAt (M .at) (M .width) i + j)
 
 -- a place that is not the matrix's
 abbrev pub Off : Matrix → ℕ → Type 0
@@ -50,7 +51,7 @@ pub record EntryOf (M : Matrix) (among : Entries) (A : theory.Matrix) (n : ℕ) 
 pub record Holds (M : Matrix) (w : List ℤ) (among : Entries) (A : theory.Matrix) (before x : ℕ) (w′ : List ℤ) : Type 0 where
   pub same-length : length w′ ≡ length w
   pub on : Eq (M .lines) (M .width) (contents M w′) A
-  pub off : (i : ℕ) → Off M i → at w′ i ≡ at w i
+  pub off : (i : ℕ) → Off M i → slot w′ i ≡ slot w i
   pub bounded : Bounded x w′
   pub above : before ≤ x
   pub covered : Covered w w′ x

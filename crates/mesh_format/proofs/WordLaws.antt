@@ -127,10 +127,10 @@ pub record WordAt (Sort : List ℕ → Type 0) (s : List ℕ) (at next : ℕ) : 
 -- the byte at a position does not go on with a word: past its end a text counts as spaces
 stops-iff : (s : List ℕ) (i : ℕ) → not (inWord (getD s i 32)) ≡ true ↔ run inWord (drop i s) ≡ 0
 unfolding run
-stops-iff s i = rw at-front (pick (drop i s))
+stops-iff s i = rw slot-front (pick (drop i s))
   where
-    at-front : getD s i 32 ≡ getD (drop i s) 0 32
-    at-front = ap (λ (k : ℕ). getD s k 32) (sym (add-zero i)) ∙ sym (getD-drop i s 0 32)
+    slot-front : getD s i 32 ≡ getD (drop i s) 0 32
+    slot-front = ap (λ (k : ℕ). getD s k 32) (sym (add-zero i)) ∙ sym (getD-drop i s 0 32)
 
     pick : (u : List ℕ) → not (inWord (getD u 0 32)) ≡ true ↔ run inWord u ≡ 0
     pick [] = (λ e. refl, λ e. refl)

@@ -18,7 +18,8 @@ use Rattle.matrices.specs.Within.{Within, Within-inverse}
 use Rattle.reduction_steps.specs.Table.{Table, entry, table, tableLargest}
 use Rattle.reduction_steps.specs.State.{State, made, tooWide, largest, noted, within, checked}
 use Rattle.reduction_laws.specs.Tables.{entry-table, table-ext, Eq-table, tableLargest-table}
-use Rattle.matrix_lines.specs.Slice.{entryLimit, at, lineAt, Small, Under, Bounded, Covered}
+use Rattle.integers.specs.Slot.{slot}
+use Rattle.matrix_lines.specs.Slice.{entryLimit, lineAt, Small, Under, Bounded, Covered}
 use Rattle.matrix_lines.specs.Matrices.{Held, contents, Entries, EntryOf, Exceeds, Became}
 use Rattle.elementary_operations.specs.Operations.{Fits, Writes, OnLines}
 use Rattle.matrix_lines.proofs.Peaks.{covered-trans, under-covered, small-bounded}

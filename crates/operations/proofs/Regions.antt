@@ -12,7 +12,8 @@ use Rattle.matrices.specs.Matrix.{Eq}
 use Rattle.matrices.specs.Matrix as theory
 use Rattle.reduction_steps.specs.Table.{Table, table}
 use Rattle.reduction_laws.specs.Tables.{table-ext}
-use Rattle.matrix_lines.specs.Slice.{at, lineAt}
+use Rattle.integers.specs.Slot.{slot}
+use Rattle.matrix_lines.specs.Slice.{lineAt}
 use Rattle.matrix_lines.specs.Matrices.{end, contents, Off, Entries, Holds}
 use Rattle.matrix_lines.specs.declared.matrix.Matrix.{Matrix}
 use Rattle.operations.specs.Laid.{linesOf}
@@ -48,7 +49,7 @@ module _ {M N : Matrix} (apart : Disjoint M N) where
       go (no a) (yes b) = inr b
       go (no a) (no b) = absurd (apart .none p (record { from = omega arith; below = omega arith }) here)
 
-  pub contents-apart : (w w′ : List ℤ) → ((p : ℕ) → Off M p → at w′ p ≡ at w p) → Kept N w w′
+  pub contents-apart : (w w′ : List ℤ) → ((p : ℕ) → Off M p → slot w′ p ≡ slot w p) → Kept N w w′
   contents-apart w w′ kept =
       record { same = record { at = λ i j a b. kept (lineAt (N .at) (N .width) i + j) (off (lineAt (N .at) (N .width) i + j) (entry-inside N i j a b)) } }
 

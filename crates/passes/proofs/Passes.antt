@@ -20,7 +20,8 @@ use Rattle.reduction_steps.specs.State.{Sizes, State, Outcome, tooWide, made, a
 use Rattle.reduction_steps.specs.Step.{quotient, rowPass, columnPass}
 use Rattle.reduction_laws.specs.Letters.{ReadyC}
 use Rattle.reduction_laws.specs.Led.{Led, led-row, led-column}
-use Rattle.matrix_lines.specs.Slice.{entryLimit, at, lineAt, Under, FirstNonzero}
+use Rattle.integers.specs.Slot.{slot}
+use Rattle.matrix_lines.specs.Slice.{entryLimit, lineAt, Under, FirstNonzero}
 use Rattle.matrix_lines.specs.Matrices.{contents}
 use Rattle.operations.specs.Laid.{Laid, sizesOf, stateOf}
 use Rattle.operations.specs.declared.workspace.Workspace.{Workspace}
@@ -261,7 +262,7 @@ pub columns-first :
 columns-first {W} {k} {peak₀} {w₀} {j} {peak} {w} h {a} {r} e first =
     subst (λ (x : ℕ). ColumnPassing W k peak₀ w₀ x peak w) (omega (arith, first .passed .begins))
     (columns-zeros h (r - j) (omega (arith, first .passed .begins, first .passed .ends))
-    (λ s l. ap (λ (x : ℕ). at w (x + (j + s))) (sym e) ∙ first .passed .zeros (j + s) (omega arith) (omega arith)))
+    (λ s l. ap (λ (x : ℕ). slot w (x + (j + s))) (sym e) ∙ first .passed .zeros (j + s) (omega arith) (omega arith)))
 
 -- after the last column
 pub columns-end : {W : Workspace} {k peak₀ : ℕ} {w₀ : List ℤ} {j peak : ℕ} {w : List ℤ} → ColumnPassing W k peak₀ w₀ j peak w → W .matrix .width ≤ j → PassMade W (columnPassOf W k peak₀ w₀) (length w₀) peak w

@@ -11,7 +11,8 @@ use lib.IntN.{ℤ, pos, natAbs}
 use Rattle.matrices.specs.Matrix.{Matrix}
 use Rattle.reduction_steps.specs.Pivot.{Choice, none, place, better, alongRow, downRows}
 use Rattle.reduction_steps.proofs.PivotLaws.{alongRow-one, downRows-one}
-use Rattle.matrix_lines.specs.Slice.{at, lineAt, FirstNonzero}
+use Rattle.integers.specs.Slot.{slot}
+use Rattle.matrix_lines.specs.Slice.{lineAt, FirstNonzero}
 use Rattle.matrix_lines.specs.Matrices.{contents}
 use Rattle.matrix_lines.specs.declared.matrix.Matrix as lines
 use Rattle.scans.proofs.Choosing.{better-zero, choice-some, size-is}
@@ -82,7 +83,7 @@ pub along-first :
 along-first m w {i} {k} {a} {j} {b} h e first =
     subst (λ (x : ℕ). Along (contents m w) i k (m .width) (choiceOf b) x b) (omega (arith, first .passed .begins))
     (along-zeros (along-starts (contents m w) i k (m .width) h) (j - k) (omega (arith, first .passed .begins, first .passed .ends))
-    (λ s l. ap (λ (x : ℕ). at w (x + (k + s))) (sym e) ∙ first .passed .zeros (k + s) (omega arith) (omega arith)))
+    (λ s l. ap (λ (x : ℕ). slot w (x + (k + s))) (sym e) ∙ first .passed .zeros (k + s) (omega arith) (omega arith)))
 
 -- ---- down the rows
 

@@ -20,7 +20,8 @@ use Rattle.integers.proofs.Order.{natAbs-zero}
 use Rattle.integers.specs.Division.{divides}
 use Rattle.integers.proofs.Truncate.{natAbs-remZ}
 use Rattle.matrices.specs.Matrix.{Matrix}
-use Rattle.matrix_lines.specs.Slice.{at, lineAt, FirstNonzero}
+use Rattle.integers.specs.Slot.{slot}
+use Rattle.matrix_lines.specs.Slice.{lineAt, FirstNonzero}
 use Rattle.matrix_lines.specs.Matrices.{contents}
 use Rattle.matrix_lines.specs.declared.matrix.Matrix as lines
 use Rattle.machine_words.specs.Read.{read, of-bits}
@@ -127,8 +128,8 @@ rowKeeps-first m w k a r below e first = pick (decLt r (m .width)) ∙ sym (rowK
     test : ℕ → Bool
     test b = nonzero (contents m w k b)
 
-    entry-is : (b : ℕ) → contents m w k b ≡ at w (a + b)
-    entry-is b = ap (λ (x : ℕ). at w (x + b)) (sym e)
+    entry-is : (b : ℕ) → contents m w k b ≡ slot w (a + b)
+    entry-is b = ap (λ (x : ℕ). slot w (x + b)) (sym e)
 
     there : Looking test (suc k) (m .width) r
     there =

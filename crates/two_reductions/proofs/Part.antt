@@ -9,7 +9,8 @@ use lib.ListN.{length, take, drop, replicate, length-append, length-replicate, r
 use Rattle.complexes.specs.Complex.{Sections}
 use Rattle.reduction_laws.specs.Tables.{table-ext}
 use Rattle.reports.specs.Reductions as reports
-use Rattle.matrix_lines.specs.Slice.{at, lineAt, Under}
+use Rattle.integers.specs.Slot.{slot}
+use Rattle.matrix_lines.specs.Slice.{lineAt, Under}
 use Rattle.matrix_lines.specs.declared.matrix.Matrix.{Matrix}
 use Rattle.operations.specs.Laid.{linesOf, stateOf}
 use Rattle.operations.specs.declared.workspace.Workspace.{Workspace}
@@ -32,20 +33,20 @@ rest-zeros (suc m) zero = let none : 0 ≡ 0 - suc m = omega arith in ap zeros n
 rest-zeros (suc m) (suc n) = let fewer : n - m ≡ suc n - suc m = omega arith in rest-zeros m n ∙ ap zeros fewer
 
 -- zeros behind a slice are not seen: past its end it reads 0 too
-at-front : (w : List ℤ) (k i : ℕ) → at (w ++ zeros k) i ≡ at w i
-at-front [] zero i = refl
-at-front [] (suc k) zero = refl
-at-front [] (suc k) (suc i) = at-front [] k i
-at-front (x ∷ w) k zero = refl
-at-front (x ∷ w) k (suc i) = at-front w k i
+slot-front : (w : List ℤ) (k i : ℕ) → slot (w ++ zeros k) i ≡ slot w i
+slot-front [] zero i = refl
+slot-front [] (suc k) zero = refl
+slot-front [] (suc k) (suc i) = slot-front [] k i
+slot-front (x ∷ w) k zero = refl
+slot-front (x ∷ w) k (suc i) = slot-front w k i
 
 module _ (w : List ℤ) (k : ℕ) where
   pub zero-behind : {m : ℕ} → length w ≤ m → ZeroFrom m (w ++ zeros k)
-  zero-behind h = record { zero-at = λ i a. at-front w k i ∙ List·getD-eq-default w (pos 0) {n = i} (omega arith) }
+  zero-behind h = record { zero-at = λ i a. slot-front w k i ∙ List·getD-eq-default w (pos 0) {n = i} (omega arith) }
 
   lines-front : (M : Matrix) → linesOf M (w ++ zeros k) ≡ linesOf M w
   unfolding linesOf
-  lines-front M = table-ext (record { at = λ i j a b. at-front w k (lineAt (M .at) (M .width) i + j) })
+  lines-front M = table-ext (record { at = λ i j a b. slot-front w k (lineAt (M .at) (M .width) i + j) })
 
   state-front : (W : Workspace) (peak : ℕ) → stateOf W peak (w ++ zeros k) ≡ stateOf W peak w
   state-front W peak =
@@ -53,7 +54,7 @@ module _ (w : List ℤ) (k : ℕ) where
       (lines-front (W .«column_inverse»)) refl
 
   under-front : {peak : ℕ} → Under peak w → Under peak (w ++ zeros k)
-  under-front h = record { bound = λ i. rw (at-front w k i) (h .bound i); limit = h .limit }
+  under-front h = record { bound = λ i. rw (slot-front w k i) (h .bound i); limit = h .limit }
 
   pub twice-whole : (K : Sections) (p : ℕ) (y : reports.Reductions) (m n : ℕ) (r : Reductions) → m + k ≡ n → TwiceReduced K p y m r w
       → TwiceReduced K p y n r (w ++ zeros k)

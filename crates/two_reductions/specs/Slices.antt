@@ -8,7 +8,7 @@ use Rattle.complexes.specs.Boundary.{countBelow}
 use Rattle.reduction_steps.specs.State.{State}
 use Rattle.reports.specs.Reductions as reports
 use Rattle.reports.specs.Reductions.{noTransforms, firstStart}
-use Rattle.matrix_lines.specs.Slice.{at}
+use Rattle.integers.specs.Slot.{slot}
 use Rattle.operations.specs.Laid.{stateOf}
 use Rattle.two_reductions.specs.Workspaces.{firstWorkspace, secondWorkspace}
 use Rattle.operations.specs.declared.workspace.Workspace.{Workspace}
@@ -54,4 +54,4 @@ TwiceReduced K p y n (Refused x) w′ = (y ≡ reports.tooWide) × Cleared n x w
 
 -- the slice reads 0 from place n on
 pub record ZeroFrom (n : ℕ) (w′ : List ℤ) : Type 0 where
-  pub zero-at : (i : ℕ) → n ≤ i → at w′ i ≡ pos 0
+  pub zero-at : (i : ℕ) → n ≤ i → slot w′ i ≡ pos 0

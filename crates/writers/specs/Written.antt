@@ -14,7 +14,8 @@ use Rattle.reports.specs.Report.{countsOf, reportList, coordinateList}
 use Rattle.lists.specs.Splice.{written}
 use Rattle.requests.specs.Chains.{chainAt}
 use Rattle.limits.specs.Limits.{libraryLimit, coefficientLimit}
-use Rattle.matrix_lines.specs.Slice.{at, Small}
+use Rattle.integers.specs.Slot.{slot}
+use Rattle.matrix_lines.specs.Slice.{Small}
 use Rattle.matrix_lines.specs.Matrices.{contents}
 use Rattle.matrix_lines.specs.declared.matrix.Matrix.{Matrix}
 use Rattle.operations.specs.Laid.{Laid, linesOf, stateOf}
@@ -73,7 +74,7 @@ pub record CanCoordinate (x : Reduced) (w z : List ℤ) (from m : ℕ) : Type 0 
   pub room : from + x .workspace .matrix .lines ≤ m
   pub width : x .workspace .«row_follower» .width ≡ length z
   pub width-within : length z ≤ libraryLimit
-  pub coefficients : (j : ℕ) → natAbs (at z j) ≤ coefficientLimit
+  pub coefficients : (j : ℕ) → natAbs (slot z j) ≤ coefficientLimit
 
 -- the coordinates of the chain z
 abbrev pub coordinatesOf : Reduced → List ℤ → List ℤ → List ℤ

@@ -7,7 +7,8 @@ ghost use Rattle.lists.specs.Splice.{splices};
 ghost use Rattle.requests.specs.Chains.{chainAt};
 ghost use Rattle.matrices.specs.Vector.{apply};
 ghost use Rattle.reduction_steps.specs.Table.{entry};
-ghost use Rattle.matrix_lines.specs.Slice.{Small, at};
+ghost use Rattle.integers.specs.Slot.{slot};
+ghost use Rattle.matrix_lines.specs.Slice.{Small};
 ghost use Rattle.matrix_lines.specs.Matrices.{Held};
 ghost use Rattle.operations.specs.Laid.{linesOf};
 ghost use Rattle.limits.specs.Limits.{libraryLimit, coefficientLimit};
@@ -20,8 +21,8 @@ use two_reductions::reduced::Reduced;
 // Row i of q times the chain; coefficients of 0 are passed over.
 fn row_times_chain(q: Matrix, w: &[i32], i: usize, chain: &[i32]) -> i64
     requires { ⌜ Held (length (now w)) q × (i < q .lines) × (q .width ≡ length (now chain)) × (q .width ≤ libraryLimit) × Small (now w) ⌝ }
-    requires { ⌜ ((j : ℕ) → natAbs (at (now chain) j) ≤ coefficientLimit) ⌝ }
-    ensures { λ r. ⌜ r ≡ apply (q .width) (entry (linesOf q (now (w .entry)))) (at (now (chain .entry))) i ⌝ }
+    requires { ⌜ ((j : ℕ) → natAbs (slot (now chain) j) ≤ coefficientLimit) ⌝ }
+    ensures { λ r. ⌜ r ≡ apply (q .width) (entry (linesOf q (now (w .entry)))) (slot (now (chain .entry))) i ⌝ }
 {
     let line = q.line(i);
     let mut total: i64 = 0;

@@ -6,14 +6,15 @@ use native.Mathlib.Omega.{arith}
 use lib.ListN.{length, replicate}
 use lib.IntN.{ℤ, pos, natAbs}
 use borrow.Author.Needs.{needs}
-use Rattle.matrix_lines.specs.Slice.{entryLimit, at, Small}
+use Rattle.integers.specs.Slot.{slot}
+use Rattle.matrix_lines.specs.Slice.{entryLimit, Small}
 use Rattle.matrix_lines.proofs.Peaks.{small-under}
 use Rattle.operations.specs.Laid.{Laid}
 use Rattle.reduction_cases.specs.Workspace.{slots}
 use Rattle.reduction_cases.proofs.answer.Statement.{statement}
 use Rattle.reduction_cases.proofs.answer.Tie as tie
 
-at-zeros : (n i : ℕ) → at (replicate n (pos 0)) i ≡ pos 0
+at-zeros : (n i : ℕ) → slot (replicate n (pos 0)) i ≡ pos 0
 at-zeros zero i = refl
 at-zeros (suc n) zero = refl
 at-zeros (suc n) (suc i) = at-zeros n i

@@ -13,7 +13,8 @@ use mir.Val.{SFits, toZ}
 use Rattle.sheet_format.specs.Layout.{top}
 use Rattle.matrices.specs.Sum.{sum}
 use Rattle.complexes.specs.Boundary.{sign}
-use Rattle.matrix_lines.specs.Slice.{entryLimit, at, Small}
+use Rattle.integers.specs.Slot.{slot}
+use Rattle.matrix_lines.specs.Slice.{entryLimit, Small}
 use Rattle.machine_words.specs.Read.{read, read-entry, entry-fits, cast-fits}
 use Rattle.machine_words.proofs.Sum.{term-fits, sum-fits, sum-is}
 use Rattle.faces.proofs.Signs.{sign-unit}
@@ -28,7 +29,7 @@ record Invariant (w : List ℤ) (line : ℕ) (places : List ℕ) (faces t : ℕ)
 module _ {w : List ℤ} {line : ℕ} {places : List ℕ} {faces t : ℕ} {total : ℤ} (inv : Invariant w line places faces t total) (small : Small w)
     (more : t < faces) (few : faces ≤ suc top) (r : ℤ) (r-is : r ≡ sign t) where
   abbrev x : ℤ
-  x = at w (line + getD places t 0)
+  x = slot w (line + getD places t 0)
 
   x-small : natAbs x ≤ entryLimit
   x-small = small .bound (line + getD places t 0)

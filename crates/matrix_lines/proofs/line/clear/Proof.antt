@@ -6,7 +6,7 @@ use native.Mathlib.Omega.{arith}
 use lib.ListN.{length, replicate, set, length-set, length-replicate, getD-replicate}
 use lib.Seq.{ext-getD, getD-set-same, getD-set-other}
 use lib.IntN.{ℤ, pos}
-use Rattle.matrix_lines.specs.Slice.{at}
+use Rattle.integers.specs.Slot.{slot}
 use borrow.Author.Count.{below-more}
 use Rattle.matrix_lines.proofs.line.clear.Statement.{statement}
 use Rattle.matrix_lines.proofs.line.clear.Tie as tie
@@ -14,7 +14,7 @@ use Rattle.matrix_lines.proofs.line.clear.Tie as tie
 record Invariant (w₀ : List ℤ) (t : ℕ) (w : List ℤ) : Type 0 where
   below : t ≤ length w₀
   same-length : length w ≡ length w₀
-  zero : (i : ℕ) → i < t → at w i ≡ pos 0
+  zero : (i : ℕ) → i < t → slot w i ≡ pos 0
 
 abbrev Inv-loop : tie.InvT-loop
 Inv-loop w₀ t₀ w t = Invariant w₀ t w
@@ -29,7 +29,7 @@ loop-again : tie.Need-loop-again Inv-loop μ-loop
 loop-again c = record {
   below = omega arith;
   same-length = simp length-set (c .before .loop .inv .same-length);
-  zero = below-more (λ i. at (set (c .before .loop .w) (c .before .loop .t) (pos 0)) i ≡ pos 0) (c .before .loop .t)
+  zero = below-more (λ i. slot (set (c .before .loop .w) (c .before .loop .t) (pos 0)) i ≡ pos 0) (c .before .loop .t)
       (λ i l. getD-set-other (c .before .loop .w) (c .before .loop .t) i (pos 0) (pos 0) (λ e. omega arith) ∙ c .before .loop .inv .zero i l)
       (getD-set-same (c .before .loop .w) (c .before .loop .t) (pos 0) (pos 0) (omega arith));
 }

@@ -7,14 +7,15 @@ use native.Mathlib.Omega.{arith}
 use borrow.Author.Needs.{needs}
 use lib.ListN.{length}
 use lib.IntN.{ℤ, negℤ}
-use Rattle.matrix_lines.specs.Slice.{at, block, LineSet}
+use Rattle.integers.specs.Slot.{slot}
+use Rattle.matrix_lines.specs.Slice.{block, LineSet}
 use Rattle.matrix_lines.proofs.Store.{lineSet-none}
 use Rattle.matrix_lines.proofs.Parts.{lineSet-part}
 use Rattle.matrix_lines.proofs.line.negate.Statement.{statement}
 use Rattle.matrix_lines.proofs.line.negate.Tie as tie
 
 abbrev negated : List ℤ → ℕ → ℕ → ℤ
-negated w start t = negℤ (at w (start + t))
+negated w start t = negℤ (slot w (start + t))
 
 record Invariant (w₀ : List ℤ) (start width before largest t : ℕ) (w : List ℤ) : Type 0 where
   below : t ≤ width
@@ -27,7 +28,7 @@ module _ {w₀ : List ℤ} {start width before largest t : ℕ} {w : List ℤ} (
   part-inside l = omega (arith, inv .inside, inv .so-far .same-length)
 
   next-same : (s : ℕ) → s < n → negated w (start + t) s ≡ negated w₀ start (t + s)
-  next-same s l = ap negℤ (inv .so-far .off (start + t + s) (inr (omega arith)) ∙ ap (at w₀) (omega arith))
+  next-same s l = ap negℤ (inv .so-far .off (start + t + s) (inr (omega arith)) ∙ ap (slot w₀) (omega arith))
 
   part-done : {y : ℕ} {w′ : List ℤ} → LineSet w (start + t) n (negated w (start + t)) largest y w′ → LineSet w₀ start (t + n) (negated w₀ start) before y w′
   part-done h = lineSet-part (inv .so-far) h next-same

@@ -3,7 +3,8 @@ use mathlib.Core.Path.{_≡_, sym, ap, _∙_}
 use Prim.Native.Nat.{_+_}
 use borrow.Author.Needs.{needs}
 use lib.IntN.{ℤ, pos, negℤ}
-use Rattle.matrix_lines.specs.Slice.{at, block}
+use Rattle.integers.specs.Slot.{slot}
+use Rattle.matrix_lines.specs.Slice.{block}
 use Rattle.matrix_lines.proofs.Peaks.{bounded-small}
 use Rattle.matrix_lines.proofs.Store.{lineSet-same}
 use Rattle.matrix_lines.proofs.line.negate_block.Statement.{statement}
@@ -18,8 +19,8 @@ is-zero-block-requires c κs = let start = c .before in (start .pre .0, bounded-
 returns : tie.Need-returns
 returns c =
     let start = c .before .before .before in let w = start .args .w .now in
-    lineSet-same w (start .args .at) block (λ t. negℤ (at w (start .args .at + t))) (start .pre .1)
-    (λ t l. negated-zero (at w (start .args .at + t)) (c .before .is-zero-block .ensures .zeros (c .if1 .taken) t l))
+    lineSet-same w (start .args .at) block (λ t. negℤ (slot w (start .args .at + t))) (start .pre .1)
+    (λ t l. negated-zero (slot w (start .args .at + t)) (c .before .is-zero-block .ensures .zeros (c .if1 .taken) t l))
 
 pub negate-block-spec : {M : Type 1} → statement M
 negate-block-spec =

@@ -11,7 +11,8 @@ use Rattle.integers.proofs.Ring.{zero-add}
 use Rattle.integers.proofs.Order.{natAbs-neg}
 use mir.Val.{SFits}
 use lib.IntN.{ℤ, pos, negℤ, natAbs, _-ℤ_}
-use Rattle.matrix_lines.specs.Slice.{entryLimit, at, LineSet}
+use Rattle.integers.specs.Slot.{slot}
+use Rattle.matrix_lines.specs.Slice.{entryLimit, LineSet}
 use Rattle.matrix_lines.proofs.Peaks.{Raised, raised-max}
 use Rattle.matrix_lines.proofs.Store.{lineSet-none, lineSet-more, lineSet-next}
 use Rattle.matrix_lines.proofs.Casts.{widened-fits, widened-below, widened-size}
@@ -20,7 +21,7 @@ use Rattle.matrix_lines.proofs.line.negate_places.Statement.{statement}
 use Rattle.matrix_lines.proofs.line.negate_places.Tie as tie
 
 abbrev negated : List ℤ → ℕ → ℕ → ℤ
-negated w start t = negℤ (at w (start + t))
+negated w start t = negℤ (slot w (start + t))
 
 record Invariant (w₀ : List ℤ) (start width before largest t : ℕ) (w : List ℤ) : Type 0 where
   below : t ≤ width
@@ -30,16 +31,16 @@ record Invariant (w₀ : List ℤ) (start width before largest t : ℕ) (w : Lis
 module _ {w₀ : List ℤ} {start width before largest t : ℕ} {w : List ℤ} (inv : Invariant w₀ start width before largest t w) (more : t < width) where
   -- what the machine computes
   abbrev computed : ℤ
-  computed = pos 0 -ℤ read w32 (at w (start + t))
+  computed = pos 0 -ℤ read w32 (slot w (start + t))
 
   computed-is : computed ≡ negated w₀ start t
   computed-is =
-      rw (read-entry (at w (start + t)) (inv .so-far .bounded .bound (start + t)), lineSet-next w₀ w start t (negated w₀ start) (omega arith) (inv .so-far))
+      rw (read-entry (slot w (start + t)) (inv .so-far .bounded .bound (start + t)), lineSet-next w₀ w start t (negated w₀ start) (omega arith) (inv .so-far))
       (zero-add (negated w₀ start t))
 
   opposite-small : natAbs (negated w₀ start t) ≤ entryLimit
   opposite-small =
-      rw (natAbs-neg (at w₀ (start + t)), ← lineSet-next w₀ w start t (negated w₀ start) (omega arith) (inv .so-far))
+      rw (natAbs-neg (slot w₀ (start + t)), ← lineSet-next w₀ w start t (negated w₀ start) (omega arith) (inv .so-far))
       (inv .so-far .bounded .bound (start + t))
 
   computed-small : natAbs computed ≤ entryLimit

@@ -3,7 +3,8 @@ use mathlib.Core.Path.{_≡_, sym, subst}
 use lib.IntN.{ℤ, pos, _-ℤ_, _*ℤ_}
 use borrow.Author.Needs.{needs}
 use Prim.Native.Nat.{_+_}
-use Rattle.matrix_lines.specs.Slice.{block, at, Subtracted, difference}
+use Rattle.integers.specs.Slot.{slot}
+use Rattle.matrix_lines.specs.Slice.{block, Subtracted, difference}
 use Rattle.integers.proofs.Ring.{mul-zero, add-zero}
 use Rattle.machine_words.specs.Read.{read-wide}
 use Rattle.matrix_lines.proofs.Peaks.{bounded-small}
@@ -21,7 +22,7 @@ returns : tie.Need-returns
 returns c =
     let start = c .before .before .before in let w = start .args .w .now in
     lineSet-same w (start .args .target) block (difference w (start .args .target) (start .args .source) (start .args .q)) (start .pre .1 .1 .0)
-    (λ t l. sym (less-none (at w (start .args .target + t)) (start .args .q) (at w (start .args .source + t)) (c .before .is-zero-block .ensures .zeros (c .if1 .taken) t l)))
+    (λ t l. sym (less-none (slot w (start .args .target + t)) (start .args .q) (slot w (start .args .source + t)) (c .before .is-zero-block .ensures .zeros (c .if1 .taken) t l)))
 
 returns-2 : tie.Need-returns-2
 returns-2 c =

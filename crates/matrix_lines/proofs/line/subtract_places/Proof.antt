@@ -10,7 +10,8 @@ use lib.IntN.{ℤ, natAbs}
 use mir.Syntax.{w32, w64}
 use mir.Val.{SFits, toZ}
 use mir.Facts.{fits-lit}
-use Rattle.matrix_lines.specs.Slice.{entryLimit, at, LineSet, Beyond, difference}
+use Rattle.integers.specs.Slot.{slot}
+use Rattle.matrix_lines.specs.Slice.{entryLimit, LineSet, Beyond, difference}
 use Rattle.matrix_lines.specs.declared.line.Effect.the-variants.{Done, TooWide}
 use Rattle.matrix_lines.proofs.Peaks.{Raised, raised-by, raised-small}
 use Rattle.matrix_lines.proofs.Store.{lineSet-more}
@@ -24,41 +25,41 @@ use Rattle.matrix_lines.proofs.line.subtract_places.Tie as tie
 
 module _ {w₀ : List ℤ} {target source width : ℕ} {q : ℤ} {before t x : ℕ} {w : List ℤ}
     (inv : Partly w₀ target source width q before t x w) (more : t < width) where
-  target-small : natAbs (at w (target + t)) ≤ entryLimit
+  target-small : natAbs (slot w (target + t)) ≤ entryLimit
   target-small = inv .so-far .bounded .bound (target + t)
 
-  source-small : natAbs (at w (source + t)) ≤ entryLimit
+  source-small : natAbs (slot w (source + t)) ≤ entryLimit
   source-small = inv .so-far .bounded .bound (source + t)
 
-  target-same : at w (target + t) ≡ at w₀ (target + t)
+  target-same : slot w (target + t) ≡ slot w₀ (target + t)
   target-same = inv .so-far .off (target + t) (inr (omega arith))
 
-  source-same : at w (source + t) ≡ at w₀ (source + t)
+  source-same : slot w (source + t) ≡ slot w₀ (source + t)
   source-same = inv .so-far .off (source + t) (⊎-elim (λ l. inr (omega arith)) (λ l. inl (omega arith)) (inv .apart))
 
-  cast-target : SFits w64 (read w32 (at w (target + t)))
-  cast-target = cast-fits (at w (target + t)) (entry-fits (at w (target + t)) target-small)
+  cast-target : SFits w64 (read w32 (slot w (target + t)))
+  cast-target = cast-fits (slot w (target + t)) (entry-fits (slot w (target + t)) target-small)
 
-  cast-source : SFits w64 (read w32 (at w (source + t)))
-  cast-source = cast-fits (at w (source + t)) (entry-fits (at w (source + t)) source-small)
+  cast-source : SFits w64 (read w32 (slot w (source + t)))
+  cast-source = cast-fits (slot w (source + t)) (entry-fits (slot w (source + t)) source-small)
 
-  product-word : SFits w64 (product q (at w (source + t)))
-  product-word = product-fits (at w (target + t)) q (at w (source + t)) target-small (inv .factor) source-small
+  product-word : SFits w64 (product q (slot w (source + t)))
+  product-word = product-fits (slot w (target + t)) q (slot w (source + t)) target-small (inv .factor) source-small
 
-  less-word : SFits w64 (less (at w (target + t)) q (at w (source + t)))
-  less-word = less-fits (at w (target + t)) q (at w (source + t)) target-small (inv .factor) source-small
+  less-word : SFits w64 (less (slot w (target + t)) q (slot w (source + t)))
+  less-word = less-fits (slot w (target + t)) q (slot w (source + t)) target-small (inv .factor) source-small
 
   -- the difference as the machine computes it
   abbrev computed : ℤ
-  computed = read w64 (less (at w (target + t)) q (at w (source + t)))
+  computed = read w64 (less (slot w (target + t)) q (slot w (source + t)))
 
   computed-is : computed ≡ difference w₀ target source q t
   computed-is =
-      read-less (at w (target + t)) q (at w (source + t)) target-small (inv .factor) source-small
+      read-less (slot w (target + t)) q (slot w (source + t)) target-small (inv .factor) source-small
       ∙ rw (target-same, source-same)
 
   computed-small : natAbs computed < 2 ^ 63
-  computed-small = less-small (at w (target + t)) q (at w (source + t)) target-small (inv .factor) source-small
+  computed-small = less-small (slot w (target + t)) q (slot w (source + t)) target-small (inv .factor) source-small
 
   too-wide : entryLimit < natAbs computed → Beyond w₀ width (difference w₀ target source q) w
   too-wide l = record {

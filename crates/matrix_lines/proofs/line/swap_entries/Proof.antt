@@ -5,7 +5,8 @@ use native.Mathlib.Omega.{arith}
 use borrow.Author.Needs.{needs}
 use lib.ListN.{length, length-set}
 use lib.IntN.{ℤ, natAbs}
-use Rattle.matrix_lines.specs.Slice.{entryLimit, at, LinesSwapped}
+use Rattle.integers.specs.Slot.{slot}
+use Rattle.matrix_lines.specs.Slice.{entryLimit, LinesSwapped}
 use Rattle.matrix_lines.proofs.Casts.{widened-fits, widened-below, widened-size, same-of-bits}
 use Rattle.matrix_lines.proofs.Store.{RaisedTwice, raised-twice, swapped-same, exchanged}
 use Rattle.machine_words.specs.Read.{read-entry}
@@ -14,10 +15,10 @@ use Rattle.matrix_lines.proofs.line.swap_entries.Tie as tie
 
 module _ (s : tie.Start) where
   abbrev first : ℤ
-  first = at (s .args .w .now) (s .args .a)
+  first = slot (s .args .w .now) (s .args .a)
 
   abbrev second : ℤ
-  second = at (s .args .w .now) (s .args .b)
+  second = slot (s .args .w .now) (s .args .b)
 
   first-small : natAbs first ≤ entryLimit
   first-small = s .pre .1 .bound (s .args .a)
@@ -30,7 +31,7 @@ returns : tie.Need-returns
 returns c =
     let s = c .before .before .before in let w = s .args .w .now in
     swapped-same w (s .args .a) (s .args .b) 1 (s .pre .1)
-    (λ t l. ap (at w) (omega arith) ∙ same-of-bits (first-small s) (second-small s) (c .if1 .taken) ∙ ap (at w) (omega arith))
+    (λ t l. ap (slot w) (omega arith) ∙ same-of-bits (first-small s) (second-small s) (c .if1 .taken) ∙ ap (slot w) (omega arith))
 
 slice-set-from-x : tie.Need-slice-set-from-x
 slice-set-from-x c = simp length-set (c .before .before .before .pre .0 .1)

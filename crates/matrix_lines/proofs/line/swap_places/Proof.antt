@@ -10,7 +10,8 @@ use lib.ListN.{length, set, length-set}
 use mir.Syntax.{w32, w64}
 use mir.Val.{SFits}
 use lib.IntN.{ℤ, natAbs}
-use Rattle.matrix_lines.specs.Slice.{entryLimit, at, Apart, LinesSwapped}
+use Rattle.integers.specs.Slot.{slot}
+use Rattle.matrix_lines.specs.Slice.{entryLimit, Apart, LinesSwapped}
 use Rattle.matrix_lines.proofs.Store.{RaisedTwice, raised-twice, swapped-none, swapped-more}
 use Rattle.matrix_lines.proofs.Casts.{widened-fits, widened-below, widened-size}
 use Rattle.machine_words.specs.Read.{read, read-entry}
@@ -27,14 +28,14 @@ record Invariant (w₀ : List ℤ) (first second width before largest t : ℕ) (
 module _ {w₀ : List ℤ} {first second width before largest t : ℕ} {w : List ℤ} (inv : Invariant w₀ first second width before largest t w) where
   -- a turn of the loop
   again :
-      t < width → {n : ℕ} → RaisedTwice largest (at w (first + t)) (at w (second + t)) n
-      → Invariant w₀ first second width before n (t + 1) (set (set w (first + t) (read w32 (at w (second + t)))) (second + t) (read w32 (at w (first + t))))
+      t < width → {n : ℕ} → RaisedTwice largest (slot w (first + t)) (slot w (second + t)) n
+      → Invariant w₀ first second width before n (t + 1) (set (set w (first + t) (read w32 (slot w (second + t)))) (second + t) (read w32 (slot w (first + t))))
   again more raised = record {
     below = omega arith;
     first-inside = inv .first-inside;
     second-inside = inv .second-inside;
     apart = inv .apart;
-    swapped = rw (read-entry (at w (first + t)) (inv .swapped .bounded .bound (first + t)), read-entry (at w (second + t)) (inv .swapped .bounded .bound (second + t)))
+    swapped = rw (read-entry (slot w (first + t)) (inv .swapped .bounded .bound (first + t)), read-entry (slot w (second + t)) (inv .swapped .bounded .bound (second + t)))
         (swapped-more w₀ w first second width t more (inv .first-inside) (inv .second-inside) (inv .apart) (inv .swapped) raised);
   }
 
@@ -69,10 +70,10 @@ module _ (c : tie.After-y Inv-loop μ-loop) where
   more = c .before .before .loop-test .taken
 
   abbrev first : ℤ
-  first = at (head .loop .w) (head .before .args .first + head .loop .t)
+  first = slot (head .loop .w) (head .before .args .first + head .loop .t)
 
   abbrev second : ℤ
-  second = at (head .loop .w) (head .before .args .second + head .loop .t)
+  second = slot (head .loop .w) (head .before .args .second + head .loop .t)
 
   first-small : natAbs first ≤ entryLimit
   first-small = head .loop .inv .swapped .bounded .bound (head .before .args .first + head .loop .t)

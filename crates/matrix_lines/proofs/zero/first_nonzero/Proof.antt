@@ -6,7 +6,8 @@ use native.Mathlib.Nat as NatL
 use borrow.Author.Needs.{needs}
 use mir.Syntax.{w32}
 use mir.Val.{ofZ}
-use Rattle.matrix_lines.specs.Slice.{at, ZerosTo}
+use Rattle.integers.specs.Slot.{slot}
+use Rattle.matrix_lines.specs.Slice.{ZerosTo}
 use Rattle.machine_words.specs.Read.{entry-fits, zero-of-bits}
 use Rattle.matrix_lines.proofs.Zeros.{zeros-more}
 use Rattle.matrix_lines.proofs.zero.first_nonzero.Statement.{statement}
@@ -29,8 +30,8 @@ returns c =
 loop-again : tie.Need-loop-again Inv-loop μ-loop
 loop-again c =
     let loop = c .before .before .before .loop in let start = c .before .before .before .before .before in let place = start .args .at + loop .t in
-    let zero = zero-of-bits (entry-fits (at (start .args .w .now) place) (start .pre .2 .bound place)) (c .if1 .left) in
-    zeros-more (loop .inv) 1 (omega arith) (λ s l. ap (at (start .args .w .now)) (omega arith) ∙ zero)
+    let zero = zero-of-bits (entry-fits (slot (start .args .w .now) place) (start .pre .2 .bound place)) (c .if1 .left) in
+    zeros-more (loop .inv) 1 (omega arith) (λ s l. ap (slot (start .args .w .now)) (omega arith) ∙ zero)
 
 returns-2 : tie.Need-returns-2 Inv-loop μ-loop
 returns-2 c =

@@ -9,14 +9,15 @@ use borrow.Author.Needs.{needs}
 use borrow.Author.Count.{below-more}
 use borrow.Author.Tests.{not-true}
 use lib.IntN.{ℤ}
-use Rattle.matrix_lines.specs.Slice.{block, at}
+use Rattle.integers.specs.Slot.{slot}
+use Rattle.matrix_lines.specs.Slice.{block}
 use Rattle.matrix_lines.proofs.Casts.{same-of-bits}
 use Rattle.matrix_lines.proofs.zero.is_same_block.Statement.{statement}
 use Rattle.matrix_lines.proofs.zero.is_same_block.Tie as tie
 
 record Invariant (w : List ℤ) (a b : ℕ) (differ : Bool) (t : ℕ) : Type 0 where
   below : t ≤ block
-  same : differ ≡ false → (s : ℕ) → s < t → at w (a + s) ≡ at w (b + s)
+  same : differ ≡ false → (s : ℕ) → s < t → slot w (a + s) ≡ slot w (b + s)
 
 abbrev Inv-loop : tie.InvT-loop
 Inv-loop w a b differ₀ t₀ differ t = Invariant w a b differ t
@@ -34,7 +35,7 @@ loop-again c =
     record {
       below = omega arith;
       same = λ e. ⊎-elim (λ h. absurd (false≢true (sym e ∙ h .1)))
-          (λ h. below-more (λ (s : ℕ). at w (start .args .first + s) ≡ at w (start .args .second + s)) (loop .t) (loop .inv .same (sym (h .1) ∙ e))
+          (λ h. below-more (λ (s : ℕ). slot w (start .args .first + s) ≡ slot w (start .args .second + s)) (loop .t) (loop .inv .same (sym (h .1) ∙ e))
           (same-of-bits (start .pre .2 .bound a) (start .pre .2 .bound b) (h .0 .left)))
           (c .if1 .came);
     }

@@ -9,14 +9,15 @@ use borrow.Author.Needs.{needs}
 use borrow.Author.Count.{below-more}
 use borrow.Author.Tests.{not-true}
 use lib.IntN.{ℤ, pos}
-use Rattle.matrix_lines.specs.Slice.{block, at}
+use Rattle.integers.specs.Slot.{slot}
+use Rattle.matrix_lines.specs.Slice.{block}
 use Rattle.machine_words.specs.Read.{entry-fits, zero-of-bits}
 use Rattle.matrix_lines.proofs.zero.is_zero_block.Statement.{statement}
 use Rattle.matrix_lines.proofs.zero.is_zero_block.Tie as tie
 
 record Invariant (w : List ℤ) (a : ℕ) (nonzero : Bool) (t : ℕ) : Type 0 where
   below : t ≤ block
-  zeros : nonzero ≡ false → (s : ℕ) → s < t → at w (a + s) ≡ pos 0
+  zeros : nonzero ≡ false → (s : ℕ) → s < t → slot w (a + s) ≡ pos 0
 
 abbrev Inv-loop : tie.InvT-loop
 Inv-loop w a nonzero₀ t₀ nonzero t = Invariant w a nonzero t
@@ -34,8 +35,8 @@ loop-again c =
     record {
       below = omega arith;
       zeros = λ e. ⊎-elim (λ w. absurd (false≢true (sym e ∙ w .1)))
-          (λ w. below-more (λ (s : ℕ). at (start .args .w .now) (start .args .at + s) ≡ pos 0) (loop .t) (loop .inv .zeros (sym (w .1) ∙ e))
-          (zero-of-bits (entry-fits (at (start .args .w .now) place) (start .pre .1 .bound place)) (w .0 .left)))
+          (λ w. below-more (λ (s : ℕ). slot (start .args .w .now) (start .args .at + s) ≡ pos 0) (loop .t) (loop .inv .zeros (sym (w .1) ∙ e))
+          (zero-of-bits (entry-fits (slot (start .args .w .now) place) (start .pre .1 .bound place)) (w .0 .left)))
           (c .if1 .came);
     }
 

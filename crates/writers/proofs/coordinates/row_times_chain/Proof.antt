@@ -20,7 +20,8 @@ use Rattle.matrices.proofs.SumLaws.{sum-ext}
 use Rattle.matrices.specs.Vector.{apply}
 use Rattle.limits.specs.Limits.{libraryLimit, coefficientLimit}
 use Rattle.reduction_steps.specs.Table.{entry}
-use Rattle.matrix_lines.specs.Slice.{entryLimit, at, Small}
+use Rattle.integers.specs.Slot.{slot}
+use Rattle.matrix_lines.specs.Slice.{entryLimit, Small}
 use Rattle.operations.specs.Laid.{linesOf}
 use Rattle.machine_words.specs.Read.{read, sfits-below, entry-fits, cast-fits, cast-is, of-bits}
 use Rattle.matrix_lines.proofs.Spans.{line-span, span-inside}
@@ -66,16 +67,16 @@ record Invariant (w chain : List ℤ) (line j : ℕ) (total : ℤ) : Type 0 wher
   inside : line + length chain ≤ length w
   short : length chain ≤ libraryLimit
   small : Small w
-  coefficients : (t : ℕ) → natAbs (at chain t) ≤ coefficientLimit
-  so-far : total ≡ sum j (λ t. at w (line + t) *ℤ at chain t)
+  coefficients : (t : ℕ) → natAbs (slot chain t) ≤ coefficientLimit
+  so-far : total ≡ sum j (λ t. slot w (line + t) *ℤ slot chain t)
   bound : natAbs total ≤ j * product-limit
 
 module _ {w chain : List ℤ} {line j : ℕ} {total : ℤ} (inv : Invariant w chain line j total) (more : j < length chain) where
   abbrev x : ℤ
-  x = at w (line + j)
+  x = slot w (line + j)
 
   abbrev y : ℤ
-  y = at chain j
+  y = slot chain j
 
   entry-word : SFits w32 x
   entry-word = entry-fits x (inv .small .bound (line + j))
@@ -118,7 +119,7 @@ module _ {w chain : List ℤ} {line j : ℕ} {total : ℤ} (inv : Invariant w ch
   }
     where
       products : ℕ → ℤ
-      products t = at w (line + t) *ℤ at chain t
+      products t = slot w (line + t) *ℤ slot chain t
 
 abbrev Inv-loop : tie.InvT-loop
 Inv-loop w i chain line total₀ j₀ total j = Invariant w chain line j (toZ w64 total)
@@ -144,13 +145,13 @@ loop-holds c =
 cast-total : tie.Need-cast-total Inv-loop μ-loop
 cast-total c =
     let loop = c .before .before .before .before .loop in
-    cast-fits (at (c .before .before .before .before .before .before .args .w .now) (c .before .before .before .before .before .line .result + loop .j))
+    cast-fits (slot (c .before .before .before .before .before .before .args .w .now) (c .before .before .before .before .before .line .result + loop .j))
     (entry-word (loop .inv) (c .before .before .before .loop-test .taken))
 
 cast-total-2 : tie.Need-cast-total-2 Inv-loop μ-loop
 cast-total-2 c =
     let loop = c .before .before .before .before .loop in
-    cast-fits (at (c .before .before .before .before .before .before .args .chain .now) (loop .j))
+    cast-fits (slot (c .before .before .before .before .before .before .args .chain .now) (loop .j))
     (coefficient-word (loop .inv) (c .before .before .before .loop-test .taken))
 
 mul-total-2 : tie.Need-mul-total-2 Inv-loop μ-loop
@@ -173,10 +174,10 @@ returns c =
     let args = c .before .before .before .args in let pre = c .before .before .before .pre in let inv = c .before .loop .inv in
     inv .so-far
     ∙ rw (NatL.le-antisymm (inv .below) (c .loop-test .left) ∙ sym (pre .0 .2))
-    (sum-ext (args .q .width) (λ t. at (args .w .now) (c .before .before .line .result + t) *ℤ at (args .chain .now) t)
-    (λ t. entry (linesOf (args .q) (args .w .now)) (args .i) t *ℤ at (args .chain .now) t)
-    (λ t l. ap (λ (x : ℤ). x *ℤ at (args .chain .now) t)
-    (ap (λ (p : ℕ). at (args .w .now) (p + t)) (c .before .before .line .ensures) ∙ sym (entry-lines (args .q) (args .w .now) (args .i) t (pre .0 .1) l))))
+    (sum-ext (args .q .width) (λ t. slot (args .w .now) (c .before .before .line .result + t) *ℤ slot (args .chain .now) t)
+    (λ t. entry (linesOf (args .q) (args .w .now)) (args .i) t *ℤ slot (args .chain .now) t)
+    (λ t l. ap (λ (x : ℤ). x *ℤ slot (args .chain .now) t)
+    (ap (λ (p : ℕ). slot (args .w .now) (p + t)) (c .before .before .line .ensures) ∙ sym (entry-lines (args .q) (args .w .now) (args .i) t (pre .0 .1) l))))
 
 pub row-times-chain-spec : {M : Type 1} → statement M
 row-times-chain-spec =

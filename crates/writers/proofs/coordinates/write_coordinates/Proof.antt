@@ -16,7 +16,7 @@ use Rattle.matrices.specs.Vector.{apply}
 use Rattle.reduction_steps.specs.Table.{entry}
 use Rattle.reports.specs.Report.{reported, coordinateAt, coordinateList}
 use Rattle.limits.specs.Limits.{libraryLimit}
-use Rattle.matrix_lines.specs.Slice.{at}
+use Rattle.integers.specs.Slot.{slot}
 use Rattle.matrix_lines.specs.declared.matrix.Matrix.{Matrix}
 use Rattle.machine_words.specs.Read.{read, of-bits}
 use Rattle.operations.specs.Laid.{linesOf}
@@ -29,7 +29,7 @@ use Rattle.writers.proofs.coordinates.write_coordinates.Tie as tie
 
 -- the coordinate at row i
 abbrev coordinate : Matrix → Matrix → List ℤ → List ℤ → ℕ → ℤ
-coordinate m q w z i = residue (apply (q .width) (entry (linesOf q w)) (at z) i) (kindIn m w i)
+coordinate m q w z i = residue (apply (q .width) (entry (linesOf q w)) (slot z) i) (kindIn m w i)
 
 abbrev Inv-loop : tie.InvT-loop
 Inv-loop w chain coordinates₀ from m q lines next₀ i₀ coordinates next i =
@@ -70,20 +70,20 @@ same : (c : tie.At-loop Inv-loop μ-loop) → length (c .loop .coordinates) ≡ 
 same c = progress-length (c .loop .inv) 1 (λ j. refl) (omega (arith, c .before .before .before .pre .room))
 
 -- a slot is left for a coordinate
-slot : (c : tie.In-loop Inv-loop μ-loop) → c .before .loop .next < length (c .before .before .before .before .args .coordinates .now)
-slot c =
+slot-left : (c : tie.In-loop Inv-loop μ-loop) → c .before .loop .next < length (c .before .before .before .before .args .coordinates .now)
+slot-left c =
     let room = progress-room (c .before .loop .inv) 1 (λ j. refl) (omega (arith, c .before .before .before .before .pre .room)) (c .loop-test .taken) in
     omega arith
 
 mul-t15 : tie.Need-mul-t15 Inv-loop μ-loop
-mul-t15 c = omega (arith, slot (c .before .before .before .before), c .before .before .before .before .before .before .before .before .good)
+mul-t15 c = omega (arith, slot-left (c .before .before .before .before), c .before .before .before .before .before .before .before .before .good)
 
 slice-set-from-coordinates : tie.Need-slice-set-from-coordinates Inv-loop μ-loop
 slice-set-from-coordinates c =
-    omega (arith, slot (c .before .before .before .before), same (c .before .before .before .before .before))
+    omega (arith, slot-left (c .before .before .before .before), same (c .before .before .before .before .before))
 
 add-next : tie.Need-add-next Inv-loop μ-loop
-add-next c = omega (arith, slot (c .before .before .before .before), c .before .before .before .before .before .before .before .before .good)
+add-next c = omega (arith, slot-left (c .before .before .before .before), c .before .before .before .before .before .before .before .before .good)
 
 loop-again : tie.Need-loop-again Inv-loop μ-loop
 loop-again c =
@@ -94,7 +94,7 @@ loop-again c =
     ⊎-elim
     (λ w. rw (w .3, w .4)
     (progress-number {f = f} (loop .inv) more (start .pre .kinds .nonneg (loop .i)) (λ k. w .0 .taken (ap (ofZ w64) (kind .ensures ∙ k)))
-    (slot (c .before .before)) (read w64 (w .2 .result))
+    (slot-left (c .before .before)) (read w64 (w .2 .result))
     (toZ-ofZ (record { sfits = w .2 .ok }) ∙ w .2 .ensures
     ∙ ap₂ residue (toZ-ofZ (record { sfits = w .1 .ok }) ∙ w .1 .ensures) (toZ-ofZ (record { sfits = kind .ok }) ∙ kind .ensures))))
     (λ w. rw (w .1, w .2)

@@ -11,7 +11,7 @@ use lib.IntN.{ℤ}
 use Rattle.lists.specs.Tabulate.{tabulate}
 use Rattle.lists.proofs.TabulateLaws.{length-tabulate}
 use Rattle.lists.specs.Splice.{splice}
-use Rattle.matrix_lines.specs.Slice.{at}
+use Rattle.integers.specs.Slot.{slot}
 use Rattle.machine_words.specs.Read.{cast-fits, cast-is}
 use Rattle.matrix_lines.proofs.Spans.{line-span, span-inside}
 use Rattle.writers.specs.Written.{WrittenFrom}
@@ -26,7 +26,7 @@ tabulate-snoc (suc n) f = ap (λ (l : List ℤ). f zero ∷ l) (tabulate-snoc n 
 
 -- the first j entries of the line
 abbrev entries : List ℤ → ℕ → ℕ → List ℤ
-entries w line j = tabulate j (λ t. at w (line + t))
+entries w line j = tabulate j (λ t. slot w (line + t))
 
 record Invariant (w : List ℤ) (line from width : ℕ) (report₀ : List ℤ) (j : ℕ) (report : List ℤ) : Type 0 where
   below : j ≤ width
@@ -36,21 +36,21 @@ record Invariant (w : List ℤ) (line from width : ℕ) (report₀ : List ℤ) (
 
 module _ {w : List ℤ} {line from width : ℕ} {report₀ : List ℤ} {j : ℕ} {report : List ℤ} (inv : Invariant w line from width report₀ j report) where
   same : length report ≡ length report₀
-  same = written-length (inv .so-far) (omega (arith, inv .below, inv .room, length-tabulate j (λ t. at w (line + t))))
+  same = written-length (inv .so-far) (omega (arith, inv .below, inv .room, length-tabulate j (λ t. slot w (line + t))))
 
-  again : j < width → Invariant w line from width report₀ (j + 1) (set report (from + j) (at w (line + j)))
+  again : j < width → Invariant w line from width report₀ (j + 1) (set report (from + j) (slot w (line + j)))
   again l = record {
     below = omega arith;
     line-inside = inv .line-inside;
     room = inv .room;
     so-far = record {
-      next = omega (arith, length-tabulate (j + 1) (λ t. at w (line + t)));
-      is = written-one (inv .so-far) (at w (line + j)) (omega (arith, inv .room)) .is ∙ ap (λ (l : List ℤ). splice from l report₀) (sym one-more);
+      next = omega (arith, length-tabulate (j + 1) (λ t. slot w (line + t)));
+      is = written-one (inv .so-far) (slot w (line + j)) (omega (arith, inv .room)) .is ∙ ap (λ (l : List ℤ). splice from l report₀) (sym one-more);
     };
   }
     where
-      one-more : entries w line (j + 1) ≡ entries w line j ++ (at w (line + j) ∷ [])
-      one-more = rw add-one (tabulate-snoc j (λ t. at w (line + t)))
+      one-more : entries w line (j + 1) ≡ entries w line j ++ (slot w (line + j) ∷ [])
+      one-more = rw add-one (tabulate-snoc j (λ t. slot w (line + t)))
 
 abbrev Inv-loop : tie.InvT-loop
 Inv-loop w i report₀ from width line j₀ report j = Invariant w line from width report₀ j report
@@ -71,7 +71,7 @@ loop-holds c =
 
 cast-report : tie.Need-cast-report Inv-loop μ-loop
 cast-report c =
-    cast-fits (at (c .before .before .before .before .args .w .now) (c .before .before .before .line .result + c .before .before .loop .j))
+    cast-fits (slot (c .before .before .before .before .args .w .now) (c .before .before .before .line .result + c .before .before .loop .j))
     (record { sfits = c .report .given })
 
 slice-set-from-report : tie.Need-slice-set-from-report Inv-loop μ-loop
@@ -79,7 +79,7 @@ slice-set-from-report c = omega (arith, same (c .before .before .loop .inv))
 
 loop-again : tie.Need-loop-again Inv-loop μ-loop
 loop-again c =
-    let x : ℤ = at (c .before .before .before .before .args .w .now) (c .before .before .before .line .result + c .before .before .loop .j) in
+    let x : ℤ = slot (c .before .before .before .before .args .w .now) (c .before .before .before .line .result + c .before .before .loop .j) in
     rw (cast-is x (record { sfits = c .report .given })) (again (c .before .before .loop .inv) (c .before .loop-test .taken))
 
 same-length : tie.Need-same-length Inv-loop μ-loop

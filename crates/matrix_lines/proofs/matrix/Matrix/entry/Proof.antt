@@ -4,7 +4,7 @@ use Prim.Native.Nat.{ℕ, _+_, _≤_}
 use native.Mathlib.Omega.{arith}
 use borrow.Author.Needs.{needs}
 use lib.ListN.{length}
-use Rattle.matrix_lines.specs.Slice.{at}
+use Rattle.integers.specs.Slot.{slot}
 use Rattle.machine_words.specs.Read.{cast-fits, cast-is}
 use Rattle.matrix_lines.proofs.Spans.{entry-span, span-inside}
 use Rattle.matrix_lines.proofs.matrix.Matrix.entry.Statement.{statement}
@@ -26,13 +26,13 @@ shared-slice-copy-out-result c = omega (arith, place-inside c)
 
 cast-result : tie.Need-cast-result
 cast-result c =
-    cast-fits (at (c .before .before .args .w .now) (c .before .line .result + c .before .before .args .j)) (record { sfits = c .result .given })
+    cast-fits (slot (c .before .before .args .w .now) (c .before .line .result + c .before .before .args .j)) (record { sfits = c .result .given })
 
 returns : tie.Need-returns
 returns c =
     let w = c .before .before .args .w .now in let j = c .before .before .args .j in
-    cast-is (at w (c .before .line .result + j)) (record { sfits = c .result .given })
-    ∙ ap (λ (p : ℕ). at w (p + j)) (c .before .line .ensures)
+    cast-is (slot w (c .before .line .result + j)) (record { sfits = c .result .given })
+    ∙ ap (λ (p : ℕ). slot w (p + j)) (c .before .line .ensures)
 
 pub entry-spec : {M : Type 1} → statement M
 entry-spec =
