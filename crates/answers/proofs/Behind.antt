@@ -38,7 +38,7 @@ rule-is q = pivotRule-is-rule
 -- two reductions that are right, with entries within their limit; their peak, and what they come to at other entry limits
 pub record Behind (q : Question) : Type 0 where
   pub limit : ℕ
-  pub chains : ChainComplex limit (cells q)
+  pub complex : ChainComplex limit (cells q)
   pub rows : ℕ
   pub rank : ℕ
   pub state : State
@@ -61,29 +61,29 @@ ends-at q s r x L e =
       second = reaches-outcome L (rule q) (secondSizes noTransforms (cells q) (q .dimension) (d .firstRank)) (secondStart noTransforms (cells q) (q .dimension) (d .firstRank) (d .firstState)) (machine.done r x) (d .second);
     }
 
-module _ {limit : ℕ} (q : Question) (chains : ChainComplex limit (cells q)) where
+module _ {limit : ℕ} (q : Question) (complex : ChainComplex limit (cells q)) where
   pub two-wide : (two q ≡ tooWide) ↔ TooWide q
   unfolding two
-  two-wide = wide-iff chains noTransforms (rule q) (rule-is q) entryLimit (q .dimension) (omega arith)
+  two-wide = wide-iff complex noTransforms (rule q) (rule-is q) entryLimit (q .dimension) (omega arith)
 
   module _ (s r : ℕ) (x : State) where
     pub two-right : two q ≡ reduced s r x → Right (cells q) (q .dimension) s r x
     unfolding two
-    two-right e = reductions-right chains noTransforms (rule q) (rule-is q) entryLimit (q .dimension) (omega arith) s r x e
+    two-right e = reductions-right complex noTransforms (rule q) (rule-is q) entryLimit (q .dimension) (omega arith) s r x e
 
     pub behind : two q ≡ reduced s r x → Behind q
     unfolding two
     behind e = record {
       limit = limit;
-      chains = chains;
+      complex = complex;
       rows = s;
       rank = r;
       state = x;
       reductions-are = e;
       right = two-right e;
-      small = reductions-within chains noTransforms (rule q) (rule-is q) entryLimit (q .dimension) (omega arith) s r x e;
-      headroom = reductions-headroom chains noTransforms (rule q) (rule-is q) entryLimit (q .dimension) (omega arith) s r x e (no-transforms-bare (cells q) (q .dimension));
-      limits = reductions-limit chains noTransforms (rule q) (rule-is q) entryLimit (q .dimension) s r x e;
+      small = reductions-within complex noTransforms (rule q) (rule-is q) entryLimit (q .dimension) (omega arith) s r x e;
+      headroom = reductions-headroom complex noTransforms (rule q) (rule-is q) entryLimit (q .dimension) (omega arith) s r x e (no-transforms-bare (cells q) (q .dimension));
+      limits = reductions-limit complex noTransforms (rule q) (rule-is q) entryLimit (q .dimension) s r x e;
     }
 
     pub ends : two q ≡ reduced s r x → Ends q s r x
@@ -94,8 +94,8 @@ module _ {limit : ℕ} (q : Question) (chains : ChainComplex limit (cells q)) wh
     unfolding two afterSecond
     ends-two d =
         let one : 1 ≤ entryLimit = omega arith in
-        let first = first-is chains noTransforms (rule q) (rule-is q) entryLimit (q .dimension) one (machine.done (d .firstRank) (d .firstState)) (d .first) tt in
-        let second = second-is chains noTransforms (rule q) (rule-is q) entryLimit (q .dimension) one (d .firstRank) (d .firstState) first (d .narrow) (machine.done r x) (d .second) tt in
+        let first = first-is complex noTransforms (rule q) (rule-is q) entryLimit (q .dimension) one (machine.done (d .firstRank) (d .firstState)) (d .first) tt in
+        let second = second-is complex noTransforms (rule q) (rule-is q) entryLimit (q .dimension) one (d .firstRank) (d .firstState) first (d .narrow) (machine.done r x) (d .second) tt in
         after-second noTransforms (rule q) entryLimit (cells q) (q .dimension) (d .firstRank) (d .firstState) first (d .narrow) (machine.done r x) second
         ∙ ap (λ (n : ℕ). reduced n r x) (sym (d .rows))
 
@@ -109,4 +109,4 @@ same-behind P B D = subst of (sym (B .reductions-are) ∙ D .reductions-are)
 
 -- the end that the machine comes to is what stands behind
 pub ends-reduced : {q : Question} (B : Behind q) {s r : ℕ} {x : State} → Ends q s r x → two q ≡ reduced s r x
-ends-reduced {q} B {s} {r} {x} e = ends-two q (B .chains) s r x e
+ends-reduced {q} B {s} {r} {x} e = ends-two q (B .complex) s r x e

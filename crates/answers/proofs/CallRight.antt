@@ -32,7 +32,7 @@ use Rattle.answers.proofs.ListLaws.{numbers-width, width-fits}
 pub record Answered (limit : ℕ) (q : Question) (request : Request) (output work : ℕ) : Type 0 where
   pub passed : Passed limit q (listCount request * listSlots q request) (workSlots (cells q) (q .dimension)) output work
   pub request-passed : firstRefusal (requestChecks q request) ≡ 0
-  pub chains : ChainComplex limit (cells q)
+  pub complex : ChainComplex limit (cells q)
   pub reductions-behind : Behind q
 
 pub done-number : {A : Type 0} {x : Answer A} {carried : A} → x ≡ done carried → numberTold x ≡ 0
@@ -52,18 +52,18 @@ module _ (limit : ℕ) (q : Question) (request : Request) (output work : List �
   unfolding call
   call-outcome = go (two q) refl (conclusion (ofReduced noCounts countsOf (two q)) (ofReduced output left (two q)) output work early (firstRefusal (lateChecks (two q))))
     where
-      chains : early ≡ 0 → ChainComplex limit (cells q)
-      chains = early-chains limit q request (length output) (length work) bytes
+      complex : early ≡ 0 → ChainComplex limit (cells q)
+      complex = early-chains limit q request (length output) (length work) bytes
 
       go : (R : Reductions) → two q ≡ R
           → Conclusion early (firstRefusal (lateChecks R)) (ofReduced noCounts countsOf R) (ofReduced output left R) output work called
           → Outcome limit q request output work called
       go R f (trial.refused-early d is) = refused-early early d (early-narrow limit q request (length output) (length work)) refl is
-      go tooWide f (trial.refused-late e d is) = too-wide e (two-wide q (chains e) .0 f) is
+      go tooWide f (trial.refused-late e d is) = too-wide e (two-wide q (complex e) .0 f) is
       go tooWide f (trial.is-done e d is) = absurd (omega arith)
       go (reduced s r x) f (trial.refused-late e d is) = absurd (d refl)
       go (reduced s r x) f (trial.is-done e d is) =
-          is-done e (λ w. tooWide≢reduced (sym (two-wide q (chains e) .1 w) ∙ f)) s r x (ends q (chains e) s r x f) is
+          is-done e (λ w. tooWide≢reduced (sym (two-wide q (complex e) .1 w) ∙ f)) s r x (ends q (complex e) s r x f) is
 
   module _ (e : numberTold (called .answer) ≡ 0) where
     pub answered : Answered limit q request (length output) (length work)
@@ -75,7 +75,7 @@ module _ (limit : ℕ) (q : Question) (request : Request) (output work : List �
         record {
           passed = both .0;
           request-passed = both .1;
-          chains = complex;
+          complex = complex;
           reductions-behind = behind q complex (d .rows) (d .rank) (d .state) (d .reductions);
         }
 

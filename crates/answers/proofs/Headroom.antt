@@ -98,7 +98,7 @@ no-transforms-bare K p = record {
   };
 }
 
-module _ {most : ℕ} {K : Sections} (chains : ChainComplex most K) (t : Transforms) (rule : Rule) (is : IsRule rule) (limit p : ℕ) (one : 1 ≤ limit)
+module _ {most : ℕ} {K : Sections} (complex : ChainComplex most K) (t : Transforms) (rule : Rule) (is : IsRule rule) (limit p : ℕ) (one : 1 ≤ limit)
     (s r : ℕ) (x : State) (e : reductions t rule limit K p ≡ reduced s r x) where
   abbrev b : BothDone t rule limit K p s r x
   b = reductions-done t rule limit K p s r x e
@@ -110,10 +110,10 @@ module _ {most : ℕ} {K : Sections} (chains : ChainComplex most K) (t : Transfo
   x₁ = b .firstState
 
   abbrev S₁ : machine.Reduced limit (firstSizes t K p) (firstStart t K p) r₁ x₁
-  S₁ = first-smith chains t rule is limit p one s r x e
+  S₁ = first-smith complex t rule is limit p one s r x e
 
   abbrev S₂ : machine.Reduced limit (secondSizes t K p r₁) (secondStart t K p r₁ x₁) r x
-  S₂ = second-smith chains t rule is limit p one s r x e
+  S₂ = second-smith complex t rule is limit p one s r x e
 
   rises : firstStart t K p .peak ≤ x .peak
   rises =
@@ -123,7 +123,7 @@ module _ {most : ℕ} {K : Sections} (chains : ChainComplex most K) (t : Transfo
   peak-small = peak-within limit (secondSizes t K p r₁) 0 (S₂ .moves) (omega (
     arith,
     second-peak t K p r₁ x₁,
-    peak-within limit (firstSizes t K p) 0 (S₁ .moves) (omega (arith, first-peak t K p, within-le limit (firstStart t K p) .0 (first-within t chains limit p one))),
+    peak-within limit (firstSizes t K p) 0 (S₁ .moves) (omega (arith, first-peak t K p, within-le limit (firstStart t K p) .0 (first-within t complex limit p one))),
     within-le limit (secondStart t K p r₁ x₁) .0 (second-within t K p r₁ x₁ limit one (S₁ .within) (b .narrow)),
   ))
 

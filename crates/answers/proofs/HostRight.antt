@@ -54,7 +54,7 @@ module _ (q : Question) (request : Request) (output : List ℕ) (bytes : Bytes (
         record {
           passed = both .0;
           request-passed = both .1;
-          chains = complex;
+          complex = complex;
           reductions-behind = behind q complex (d .rows) (d .rank) (d .state) (d .reductions);
         }
 
@@ -110,7 +110,7 @@ module _ (q : Question) (request : Request) (output : List ℕ) (bytes : Bytes (
           ap (λ (o : List ℕ). numberAt o (i * listSlots q request + j)) output-is
           ∙ numberAt-same whole (written i ++ []) (i * listSlots q request + j) j inside (omega (arith, ap length (append-nil (written i)), bytes-width i)) byte
           ∙ numberAt-numbersBytes (numbers i) [] j (omega (arith, numbers-width q (B .right) request i))
-          (numbers-word q (B .right) (B .small) (omega (arith, host-answered .chains .within (q .dimension))) request (host-answered .request-passed) i next j)
+          (numbers-word q (B .right) (B .small) (omega (arith, host-answered .complex .within (q .dimension))) request (host-answered .request-passed) i next j)
         where
           whole : List ℕ
           whole = splices (8 * listSlots q request) written (listCount request) output

@@ -31,7 +31,7 @@ pub record AtLimit (t : Transforms) (rule : Rule) (L : ℕ) (K : Sections) (p s 
   pub wider : L < x .peak → reductions t rule L K p ≡ tooWide
   pub wide : GoesWide t L rule K p ↔ (L < x .peak)
 
-module _ {most : ℕ} {K : Sections} (chains : ChainComplex most K) (t : Transforms) (rule : Rule) (is : IsRule rule) (limit p s r : ℕ) (x : State)
+module _ {most : ℕ} {K : Sections} (complex : ChainComplex most K) (t : Transforms) (rule : Rule) (is : IsRule rule) (limit p s r : ℕ) (x : State)
     (e : reductions t rule limit K p ≡ reduced s r x) (L : ℕ) (one : 1 ≤ L) where
   abbrev b : BothDone t rule limit K p s r x
   b = reductions-done t rule limit K p s r x e
@@ -49,7 +49,7 @@ module _ {most : ℕ} {K : Sections} (chains : ChainComplex most K) (t : Transfo
   first = reduce L (firstSizes t K p) rule (firstStart t K p)
 
   first-small : within L (firstStart t K p) ≡ true
-  first-small = first-within t chains L p one
+  first-small = first-within t complex L p one
 
   first-limit : machine.AtLimit L (firstStart t K p) r₁ x₁ first
   first-limit = reduce-limit limit L (firstSizes t K p) rule is (firstStart t K p) (first-shaped t K p) first-small r₁ x₁ (b .first)
@@ -60,7 +60,7 @@ module _ {most : ℕ} {K : Sections} (chains : ChainComplex most K) (t : Transfo
   -- the first reduction and the product lie within L
   module _ (f : first ≡ done r₁ x₁) (narrow : tableWithin L (product K p r₁ x₁) ≡ true) where
     S₁ : Reduced L (firstSizes t K p) (firstStart t K p) r₁ x₁
-    S₁ = first-reduced chains t rule is L p one r₁ x₁ f
+    S₁ = first-reduced complex t rule is L p one r₁ x₁ f
 
     second-small : within L start ≡ true
     second-small = second-within t K p r₁ x₁ L one (S₁ .within) narrow
@@ -97,9 +97,9 @@ module _ {most : ℕ} {K : Sections} (chains : ChainComplex most K) (t : Transfo
   reductions-limit = record {
     same = stays;
     wider = widens;
-    wide = (λ g. go (decLe (x .peak) L) g, λ l. wide-iff chains t rule is L p one .0 (widens l));
+    wide = (λ g. go (decLe (x .peak) L) g, λ l. wide-iff complex t rule is L p one .0 (widens l));
   }
     where
       go : Dec (x .peak ≤ L) → GoesWide t L rule K p → L < x .peak
-      go (yes h) g = absurd (tooWide≢reduced (sym (wide-iff chains t rule is L p one .1 g) ∙ stays h))
+      go (yes h) g = absurd (tooWide≢reduced (sym (wide-iff complex t rule is L p one .1 g) ∙ stays h))
       go (no h) g = omega arith

@@ -57,9 +57,9 @@ module _ (b : List ℕ) (bytes : Bytes b) (accepted : refusal hostLimit b ≡ 0)
     abbrev q : Question
     q = asked b p
 
-    chains : ChainComplex hostLimit (cells q)
+    complex : ChainComplex hostLimit (cells q)
     unfolding cells
-    chains = accepted-chains hostLimit b bytes accepted
+    complex = accepted-chains hostLimit b bytes accepted
 
     -- slices as long as check 9 wants
     abbrev output : List ℤ
@@ -98,11 +98,11 @@ module _ (b : List ℕ) (bytes : Bytes b) (accepted : refusal hostLimit b ≡ 0)
           sym (reportText-reportList p (cellCount q) s r x (drop (length (reportList (cellCount q) s r x)) output))
           ∙ ap (λ (l : List ℤ). reportText p (cellCount q) (torsionCount r x) (length (reported (kind x) s)) l) (sym report-left)
           ∙ ap (λ (k : ℕ). reportText p (cellCount q) (torsionCount r x) k (call hostLimit q report output work .output))
-          (sym (length-coordinateList (cellCount q) s x []) ∙ coordinates-length (two-right q chains s r x e) [])
+          (sym (length-coordinateList (cellCount q) s x []) ∙ coordinates-length (two-right q complex s r x e) [])
 
     printed : p ≤ top → (R : Reductions) → two q ≡ R → DimensionPrinted b p (dimensionText p (cellCount q) R)
     unfolding dimensionText
-    printed h tooWide e = too-wide (two-wide q chains .0 e) refl
+    printed h tooWide e = too-wide (two-wide q complex .0 e) refl
     printed h (reduced s r x) e = reports output work (countsOf s r x) (ap (λ (c : Called Counts ℤ). c .answer) (called h s r x e)) (report-text h s r x e)
 
   -- ---- all dimensions

@@ -77,7 +77,7 @@ module _ {m n w : ℕ} {A B : Matrix} (h : n ≤ w) where
 
 -- ---- both reductions
 
-module _ {most : ℕ} {K : Sections} (chains : ChainComplex most K) (t : Transforms) (rule : Rule) (is : IsRule rule) (limit p : ℕ) (one : 1 ≤ limit) where
+module _ {most : ℕ} {K : Sections} (complex : ChainComplex most K) (t : Transforms) (rule : Rule) (is : IsRule rule) (limit p : ℕ) (one : 1 ≤ limit) where
   abbrev m : ℕ
   m = countBelow K p
 
@@ -122,7 +122,7 @@ module _ {most : ℕ} {K : Sections} (chains : ChainComplex most K) (t : Transfo
     unfolding firstStart secondStart
     both-right = record {
       reduced = record {
-        complex = chains .zero p;
+        complex = complex .zero p;
         rank = r₁;
         size = omega (arith, first-bound);
         d = machine.diagonalOf x₁;
@@ -146,7 +146,7 @@ module _ {most : ℕ} {K : Sections} (chains : ChainComplex most K) (t : Transfo
     }
 
   pub first-reduced : (r₁ : ℕ) (x₁ : State) → reduce limit (firstSizes t K p) rule (firstStart t K p) ≡ done r₁ x₁ → machine.Reduced limit (firstSizes t K p) (firstStart t K p) r₁ x₁
-  first-reduced = reduce-smith limit (firstSizes t K p) rule is (firstStart t K p) (first-shaped t K p) (first-within t chains limit p one)
+  first-reduced = reduce-smith limit (firstSizes t K p) rule is (firstStart t K p) (first-shaped t K p) (first-within t complex limit p one)
 
   module _ (s r : ℕ) (x : State) (e : reductions t rule limit K p ≡ reduced s r x) where
     abbrev both : BothDone t rule limit K p s r x

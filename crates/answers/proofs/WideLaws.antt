@@ -30,12 +30,12 @@ module _ (limit : ℕ) (rule : Rule) where
     widens : GoesWide t limit rule K p → Outcome t K p
     ends : (s r : ℕ) (x : State) → reductions t rule limit K p ≡ reduced s r x → Outcome t K p
 
-module _ {most : ℕ} {K : Sections} (chains : ChainComplex most K) (t : Transforms) (rule : Rule) (is : IsRule rule) (limit p : ℕ) (one : 1 ≤ limit) where
+module _ {most : ℕ} {K : Sections} (complex : ChainComplex most K) (t : Transforms) (rule : Rule) (is : IsRule rule) (limit p : ℕ) (one : 1 ≤ limit) where
   abbrev first : Machine
   first = reduce limit (firstSizes t K p) rule (firstStart t K p)
 
   start-within : within limit (firstStart t K p) ≡ true
-  start-within = first-within t chains limit p one
+  start-within = first-within t complex limit p one
 
   -- every ended machine that a reduction leads to is its outcome
   pub first-is : (y : Machine) → FirstReaches t limit rule K p y → Ended y → first ≡ y
@@ -49,7 +49,7 @@ module _ {most : ℕ} {K : Sections} (chains : ChainComplex most K) (t : Transfo
     second = reduce limit (secondSizes t K p r) rule (secondStart t K p r s)
 
     S₁ : Reduced limit (firstSizes t K p) (firstStart t K p) r s
-    S₁ = first-reduced chains t rule is limit p one r s e
+    S₁ = first-reduced complex t rule is limit p one r s e
 
     shaped : Shaped (secondSizes t K p r) (secondStart t K p r s)
     shaped = second-shaped t K p r s (S₁ .shaped)

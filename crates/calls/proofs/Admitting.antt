@@ -68,7 +68,7 @@ module _ (l : Lengths) (request : Request) where
     pub passed : Passed (l .limit) (l .question) slotsAsked spaceAsked (l .slots) (l .work)
     pub cell-counts : CellCountsRead (sectionsOf (l .question .sheet)) (l .question .dimension) n
     pub library : Accepted (l .question .sheet)
-    pub chains : ChainComplex libraryLimit (sectionsOf (l .question .sheet))
+    pub complex : ChainComplex libraryLimit (sectionsOf (l .question .sheet))
 
   abbrev Answered : Admission → Type 0
   Answered = Admits (l .limit) (l .question) request (l .slots) (l .work)
@@ -82,7 +82,7 @@ module _ (l : Lengths) (request : Request) where
         let k = subst Answered e h in
         let passed = callChecks-zero (l .limit) (l .question) slotsAsked spaceAsked (l .slots) (l .work) .0 (k .0) in
         let library = accepted-library within (passed .accepted) in
-        record { passed = passed; cell-counts = k .1; library = library; chains = sheet-chains bytes library }
+        record { passed = passed; cell-counts = k .1; library = library; complex = sheet-chains bytes library }
 
 -- what is granted for some chains is granted for others that want as many slots
 pub regrant : (l : Lengths) {m many : ℕ} {n : CellCounts} → m * cellsOf (l .question) ≡ many * cellsOf (l .question)
@@ -97,7 +97,7 @@ regrant l e g =
       };
       cell-counts = g .cell-counts;
       library = g .library;
-      chains = g .chains;
+      complex = g .complex;
     }
 
 -- ---- the two reductions

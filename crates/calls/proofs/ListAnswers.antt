@@ -92,7 +92,7 @@ module _ (l : Lent) (many : ℕ) (chains : List ℤ) where
             size = size;
             room = g .passed .output-slots;
             each = λ i m.
-                can-coordinate pivotRule-is-rule (g .chains) (g .passed .work-slots) h
+                can-coordinate pivotRule-is-rule (g .complex) (g .passed .work-slots) h
                 (omega (arith, chain-inside each many chains size i m, size, g .passed .output-slots))
                 (length-chainAt each many chains size i m) (small-coefficients (lengths l) many chains passed i m);
           }
@@ -105,5 +105,5 @@ module _ (l : Lent) (many : ℕ) (chains : List ℤ) where
               is-done early (two (l .question)) left (l .output) (l .work) passes (h .is) k
               (o
               ∙ ap (λ (width : ℕ). splices each (λ i. coordinateList width (x .workspace .matrix .lines) (stateIn x w) (chainAt each chains i)) many (l .output))
-              (follower-width pivotRule-is-rule (g .chains) (g .passed .work-slots) h))
+              (follower-width pivotRule-is-rule (g .complex) (g .passed .work-slots) h))
               (e ∙ ap (λ (m : ℕ). replicate m (pos 0)) (h .kept .same-length))

@@ -81,6 +81,6 @@ module _ (l : Lent) where
         is-done early (two (l .question)) left (l .output) (l .work) passes (h .is) (k .counts)
         (k .is
         ∙ ap (λ (width : ℕ). written (reportList width (x .workspace .matrix .lines) (x .rank) (stateIn x w)) (l .output))
-        (inverse-width pivotRule-is-rule (g .chains) (g .passed .work-slots) h)
+        (inverse-width pivotRule-is-rule (g .complex) (g .passed .work-slots) h)
         ∙ sym (splices-single (listSlots (l .question) report) (numbersOf (l .question) report (x .workspace .matrix .lines) (x .rank) (stateIn x w)) (l .output)))
         (e ∙ ap (λ (m : ℕ). replicate m (pos 0)) (h .kept .same-length))

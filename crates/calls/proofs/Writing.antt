@@ -23,7 +23,7 @@ use Rattle.two_reductions.specs.Workspaces.{secondWorkspace}
 use Rattle.two_reductions.specs.Slices.{stateIn, ReducedTwice}
 use Rattle.two_reductions.proofs.Places.{second-laid}
 
-module _ {rule : Rule} (is : IsRule rule) {K : Sections} {p n : ℕ} {x : Reduced} {w : List ℤ} (chains : ChainComplex libraryLimit K) (slots : workSlots K p ≤ n)
+module _ {rule : Rule} (is : IsRule rule) {K : Sections} {p n : ℕ} {x : Reduced} {w : List ℤ} (complex : ChainComplex libraryLimit K) (slots : workSlots K p ≤ n)
     (h : ReducedTwice K p (reductionsOf rule K p) n x w) where
   laid : Laid (length w) (x .workspace)
   laid =
@@ -32,7 +32,7 @@ module _ {rule : Rule} (is : IsRule rule) {K : Sections} {p n : ℕ} {x : Reduce
 
   right : Right K p (x .workspace .matrix .lines) (x .rank) (stateIn x w)
   right =
-      reductions-right chains noTransforms rule is entryLimit p (omega arith) (x .workspace .matrix .lines) (x .rank) (stateIn x w) (h .is)
+      reductions-right complex noTransforms rule is entryLimit p (omega arith) (x .workspace .matrix .lines) (x .rank) (stateIn x w) (h .is)
 
   kinds : Kinds (x .workspace .matrix) w
   kinds = record { nonneg = right .reduced .second .nonneg }
@@ -69,6 +69,6 @@ module _ {rule : Rule} (is : IsRule rule) {K : Sections} {p n : ℕ} {x : Reduce
     kinds = kinds;
     room = omega (arith, right .rows-bound, room);
     width = follower-width ∙ sym size;
-    width-within = rw size (chains .within p);
+    width-within = rw size (complex .within p);
     coefficients = small;
   }

@@ -106,9 +106,9 @@ module _ (q : Question) (many : ℕ) (chains output : List ℕ) {work : ℕ} (sp
             few = few-cells q (g .passed);
             size = size;
             room = omega (arith, g .passed .output-slots);
-            short = rows-within pivotRule-is-rule (g .chains) (g .passed .work-slots) h;
+            short = rows-within pivotRule-is-rule (g .complex) (g .passed .work-slots) h;
             each = λ i m.
-                can-coordinate pivotRule-is-rule (g .chains) (g .passed .work-slots) h (omega (arith, few-cells q (g .passed))) (length-chainAt each many coefficients sized i m)
+                can-coordinate pivotRule-is-rule (g .complex) (g .passed .work-slots) h (omega (arith, few-cells q (g .passed))) (length-chainAt each many coefficients sized i m)
                 (small-coefficients l many coefficients passed i m);
           }
 
@@ -118,4 +118,4 @@ module _ (q : Question) (many : ℕ) (chains output : List ℕ) {work : ℕ} (sp
               is-done q (listsIn q many chains) output passes (h .is)
               (o
               ∙ ap (λ (width : ℕ). splices (8 * each) (λ i. numbersBytes (coordinateList width (x .workspace .matrix .lines) (stateIn x w) (chainAt each coefficients i))) many output)
-              (follower-width pivotRule-is-rule (g .chains) (g .passed .work-slots) h))
+              (follower-width pivotRule-is-rule (g .complex) (g .passed .work-slots) h))

@@ -68,7 +68,7 @@ module _ {M : Matrix} {w w′ : List ℤ} {A : theory.Matrix} (x : Effect) where
   pub became-wide : x ≡ effect.TooWide → Became M w everywhere A 0 x w′ → Exceeds M w A w′
   became-wide e h = subst (λ (z : Effect). Became M w everywhere A 0 z w′) e h
 
-module _ {rule : Rule} (is-rule : IsRule rule) (K : Sections) (p n : ℕ) (chains : ChainComplex libraryLimit K) (slots : workSlots K p ≤ n) where
+module _ {rule : Rule} (is-rule : IsRule rule) (K : Sections) (p n : ℕ) (complex : ChainComplex libraryLimit K) (slots : workSlots K p ≤ n) where
   -- the first reduction is done with rank r, and the slice holds the state that it leaves, with the peak
   pub record FirstDone (r peak : ℕ) (w : List ℤ) : Type 0 where
     pub outcome : reduce entryLimit (firstSizes noTransforms K p) rule (firstStart noTransforms K p) ≡ done r (stateOf (firstWorkspaceOf K p) peak w)
@@ -110,7 +110,7 @@ module _ {rule : Rule} (is-rule : IsRule rule) (K : Sections) (p n : ℕ) (chain
         outcome = sym starts ∙ h .outcome ∙ ap (λ (X : Workspace). done r (stateOf X peak′ w′)) is
 
         right : machine.Reduced entryLimit (firstSizes noTransforms K p) (firstStart noTransforms K p) r (stateOf (firstWorkspaceOf K p) peak′ w′)
-        right = first-reduced chains noTransforms rule is-rule entryLimit p (omega arith) r (stateOf (firstWorkspaceOf K p) peak′ w′) outcome
+        right = first-reduced complex noTransforms rule is-rule entryLimit p (omega arith) r (stateOf (firstWorkspaceOf K p) peak′ w′) outcome
 
   -- ---- the product
 
@@ -172,7 +172,7 @@ module _ {rule : Rule} (is-rule : IsRule rule) (K : Sections) (p n : ℕ) (chain
       rank-within = s .first .rank-within;
       workspace-is = is;
       is = outcome;
-      rank-below = reductions-right chains noTransforms rule is-rule entryLimit p (omega arith) (W .matrix .lines) last (stateOf W peak″ w″) outcome .rank-bound;
+      rank-below = reductions-right complex noTransforms rule is-rule entryLimit p (omega arith) (W .matrix .lines) last (stateOf W peak″ w″) outcome .rank-bound;
       kept = record { same-length = h .kept .same-length ∙ s .kept .same-length; under = h .kept .under };
     }
       where

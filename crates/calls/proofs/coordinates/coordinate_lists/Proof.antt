@@ -206,7 +206,7 @@ counts-requires : tie.Need-counts-requires
 counts-requires c κs =
     let k = c .before .before .before .before .before in
     let g = granted (known (counted (checked k))) in
-    can-count pivotRule-is-rule (g .chains) (g .passed .work-slots) (reduced k)
+    can-count pivotRule-is-rule (g .complex) (g .passed .work-slots) (reduced k)
 
 same-length-2 : tie.Need-same-length-2
 same-length-2 c = c .before .before .before .before .before .before .write-lists .kept .1 .1 .1 .1 .1 .0

@@ -81,7 +81,7 @@ write-report-requires : tie.Need-write-report-requires
 write-report-requires c κs =
     let told = c .before .before in
     let g = granted (sized told) in
-    can-report pivotRule-is-rule (g .chains) (g .passed .work-slots) (reduced told) (g .passed .output-slots)
+    can-report pivotRule-is-rule (g .complex) (g .passed .work-slots) (reduced told) (g .passed .output-slots)
 
 returns-3 : tie.Need-returns-3
 returns-3 c =

@@ -30,8 +30,8 @@ module _ (c : tie.After-first-workspace) where
   abbrev start : tie.Start
   start = c .before .before
 
-  chains : ChainComplex libraryLimit (sectionsOf (now (start .args .s)))
-  chains = sheet-chains (record { small = λ i. c .before .shared-slice-known .given i .fits }) (start .pre .0 .0)
+  complex : ChainComplex libraryLimit (sectionsOf (now (start .args .s)))
+  complex = sheet-chains (record { small = λ i. c .before .shared-slice-known .given i .fits }) (start .pre .0 .0)
 
   cell-counts : CellCountsRead (sectionsOf (now (start .args .s))) (start .args .p) (start .args .n)
   cell-counts = start .pre .1 .1 .0
@@ -73,7 +73,7 @@ returns c =
     let called = c .before .before .before in
     let first = at-first called in
     let s = start first in
-    first-refused pivotRule-is-rule (sectionsOf (now (s .args .s))) (s .args .p) (length (now (s .args .w))) (chains first) (s .pre .1 .0) (first .first-workspace .result) (first-is first)
+    first-refused pivotRule-is-rule (sectionsOf (now (s .args .s))) (s .args .p) (length (now (s .args .w))) (complex first) (s .pre .1 .0) (first .first-workspace .result) (first-is first)
     (called .before .before .before .before .fill-first .ensures) (started-from called) (reduces-refused (first .first-workspace .result) (called .reduce-matrix .result) (c .enum-told .given .1) (called .reduce-matrix .ensures))
 
 same-length : tie.Need-same-length
@@ -95,10 +95,10 @@ module _ (c : tie.After-known-told) where
   halfway = c .before .rank .given .0 .1 .0
 
   first : let s = start began in
-      FirstDone pivotRule-is-rule (sectionsOf (now (s .args .s))) (s .args .p) (length (now (s .args .w))) (chains began) (s .pre .1 .0) rank halfway (first-called .reduce-matrix .last .1 .0)
+      FirstDone pivotRule-is-rule (sectionsOf (now (s .args .s))) (s .args .p) (length (now (s .args .w))) (complex began) (s .pre .1 .0) rank halfway (first-called .reduce-matrix .last .1 .0)
   first =
       let s = start began in
-      first-done pivotRule-is-rule (sectionsOf (now (s .args .s))) (s .args .p) (length (now (s .args .w))) (chains began) (s .pre .1 .0) (began .first-workspace .result) (first-is began)
+      first-done pivotRule-is-rule (sectionsOf (now (s .args .s))) (s .args .p) (length (now (s .args .w))) (complex began) (s .pre .1 .0) (began .first-workspace .result) (first-is began)
       (first-called .before .before .before .before .fill-first .ensures) (started-from first-called) (reduces-done (began .first-workspace .result) (first-called .reduce-matrix .result) (c .before .rank .given .1) (first-called .reduce-matrix .ensures))
 
 second-workspace-requires : tie.Need-second-workspace-requires
@@ -115,16 +115,16 @@ multiply-requires c κs =
     let s = start (began told) in
     let W = c .before .second-workspace .result in
     let is = second-is (c .before) in
-    let l = laid-then pivotRule-is-rule (sectionsOf (now (s .args .s))) (s .args .p) (length (now (s .args .w))) (chains (began told)) (s .pre .1 .0) (first told) W is in (
+    let l = laid-then pivotRule-is-rule (sectionsOf (now (s .args .s))) (s .args .p) (length (now (s .args .w))) (complex (began told)) (s .pre .1 .0) (first told) W is in (
       s .pre .0 .0,
       (
         (
-          Q-width pivotRule-is-rule (sectionsOf (now (s .args .s))) (s .args .p) (length (now (s .args .w))) (chains (began told)) (s .pre .1 .0) (first told) W is,
-          product-width pivotRule-is-rule (sectionsOf (now (s .args .s))) (s .args .p) (length (now (s .args .w))) (chains (began told)) (s .pre .1 .0) (first told) W is,
+          Q-width pivotRule-is-rule (sectionsOf (now (s .args .s))) (s .args .p) (length (now (s .args .w))) (complex (began told)) (s .pre .1 .0) (first told) W is,
+          product-width pivotRule-is-rule (sectionsOf (now (s .args .s))) (s .args .p) (length (now (s .args .w))) (complex (began told)) (s .pre .1 .0) (first told) W is,
           sym (l .row-follower-lines),
         ),
         (
-          Q-held pivotRule-is-rule (sectionsOf (now (s .args .s))) (s .args .p) (length (now (s .args .w))) (chains (began told)) (s .pre .1 .0) (first told) W is,
+          Q-held pivotRule-is-rule (sectionsOf (now (s .args .s))) (s .args .p) (length (now (s .args .w))) (complex (began told)) (s .pre .1 .0) (first told) W is,
           omega (arith, l .after-matrix, l .after-row-inverse),
           under-small (first told .kept .under),
         ),
@@ -144,7 +144,7 @@ returns-2 c =
     let s = start (began told) in
     let W = called .before .before .second-workspace .result in
     let beyond = became-wide (called .multiply .result) (c .before .before .before .enum-told2 .given .1) (called .multiply .ensures) in (
-      product-refused pivotRule-is-rule (sectionsOf (now (s .args .s))) (s .args .p) (length (now (s .args .w))) (chains (began told)) (s .pre .1 .0) (first told) W
+      product-refused pivotRule-is-rule (sectionsOf (now (s .args .s))) (s .args .p) (length (now (s .args .w))) (complex (began told)) (s .pre .1 .0) (first told) W
           (second-is (called .before .before)) beyond,
       record {
         number = refl;
@@ -167,11 +167,11 @@ module _ (c : tie.After-larger) where
   first-told = multiplied .before .before .before
 
   started : let s = start (began first-told) in
-      SecondStarted pivotRule-is-rule (sectionsOf (now (s .args .s))) (s .args .p) (length (now (s .args .w))) (chains (began first-told)) (s .pre .1 .0) (rank first-told) (halfway first-told)
+      SecondStarted pivotRule-is-rule (sectionsOf (now (s .args .s))) (s .args .p) (length (now (s .args .w))) (complex (began first-told)) (s .pre .1 .0) (rank first-told) (halfway first-told)
       (first-called first-told .reduce-matrix .last .1 .0) (c .larger .result) (multiplied .multiply .last .1 .1 .1 .1 .0)
   started =
       let s = start (began first-told) in
-      second-started pivotRule-is-rule (sectionsOf (now (s .args .s))) (s .args .p) (length (now (s .args .w))) (chains (began first-told)) (s .pre .1 .0) (first first-told)
+      second-started pivotRule-is-rule (sectionsOf (now (s .args .s))) (s .args .p) (length (now (s .args .w))) (complex (began first-told)) (s .pre .1 .0) (first first-told)
       (multiplied .before .before .second-workspace .result) (second-is (multiplied .before .before))
       (became-done (multiplied .multiply .result) (c .before .before .product .given .1) (multiplied .multiply .ensures)) (c .larger .ensures)
 
@@ -182,7 +182,7 @@ reduce-matrix-requires-2 c κs =
     let second = multiplied (c .before) .before .before in
     let kept = started (c .before) .kept in (
       rw (kept .same-length)
-          (laid-then pivotRule-is-rule (sectionsOf (now (s .args .s))) (s .args .p) (length (now (s .args .w))) (chains (began told)) (s .pre .1 .0) (first told) (second .second-workspace .result)
+          (laid-then pivotRule-is-rule (sectionsOf (now (s .args .s))) (s .args .p) (length (now (s .args .w))) (complex (began told)) (s .pre .1 .0) (first told) (second .second-workspace .result)
           (second-is second)),
       kept .under,
     )
@@ -199,7 +199,7 @@ returns-3 c =
     let told = first-told (called .before .before) in
     let s = start (began told) in
     let second = multiplied (called .before .before) .before .before in
-    second-refused pivotRule-is-rule (sectionsOf (now (s .args .s))) (s .args .p) (length (now (s .args .w))) (chains (began told)) (s .pre .1 .0) (started (called .before .before))
+    second-refused pivotRule-is-rule (sectionsOf (now (s .args .s))) (s .args .p) (length (now (s .args .w))) (complex (began told)) (s .pre .1 .0) (started (called .before .before))
     (second .second-workspace .result) (second-is second)
     (reduces-refused (second .second-workspace .result) (called .reduce-matrix2 .result) (c .enum-told3 .given .1) (called .reduce-matrix2 .ensures))
 
@@ -212,7 +212,7 @@ returns-4 c =
     let told = first-told (called .before .before) in
     let s = start (began told) in
     let second = multiplied (called .before .before) .before .before in
-    second-done pivotRule-is-rule (sectionsOf (now (s .args .s))) (s .args .p) (length (now (s .args .w))) (chains (began told)) (s .pre .1 .0) (started (called .before .before))
+    second-done pivotRule-is-rule (sectionsOf (now (s .args .s))) (s .args .p) (length (now (s .args .w))) (complex (began told)) (s .pre .1 .0) (started (called .before .before))
     (second .second-workspace .result) (second-is second)
     (reduces-done (second .second-workspace .result) (called .reduce-matrix2 .result) (c .before .last .given .1) (called .reduce-matrix2 .ensures))
 
