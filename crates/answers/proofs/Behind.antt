@@ -1,6 +1,6 @@
 -- What stands behind a call: on an accepted sheet the two reductions go too wide exactly as document 01 has it (two-wide), or they end and are right
 -- (behind, ends). There is one end only: ends-two.
-use mathlib.Core.Path.{_≡_, refl, sym, _∙_, ap, subst}
+use mathlib.Core.Path.{_≡_, sym, _∙_, ap, subst}
 use mathlib.Core.Logic.{_↔_}
 use mathlib.Core.Bool.{true}
 use Prim.Native.Nat.{ℕ, _≤_}

@@ -1,18 +1,17 @@
 -- A call of the library: what it answers and leaves (call-outcome); where it is done, what stands behind it (answered) and the numbers of its lists
 -- (list-reads).
-use mathlib.Core.Path.{_≡_, refl, sym, _∙_, ap, subst}
+use mathlib.Core.Path.{_≡_, refl, sym, _∙_, ap}
 use mathlib.Core.Logic.{_↔_, _≢_}
 use mathlib.Core.List.{List}
-use Prim.Native.Nat.{ℕ, zero, suc, _+_, _*_, _≤_, _<_}
-use native.Mathlib.Nat.{suc-ne-zero}
+use Prim.Native.Nat.{ℕ, zero, suc, _+_, _*_, _<_}
 use native.Mathlib.Omega.{arith}
-use lib.ListN.{length, getD}
+use lib.ListN.{length}
 use lib.IntN.{ℤ, pos}
 use Rattle.lists.specs.Splice.{splices}
 use Rattle.lists.proofs.SplicesLaws.{Fit, splices-in}
 use Rattle.trials.proofs.TrialLaws as trial
 use Rattle.trials.proofs.TrialLaws.{Conclusion, conclusion}
-use Rattle.trials.specs.Trial.{firstRefusal, done, refused, numberTold, Answer, Called, cleared}
+use Rattle.trials.specs.Trial.{firstRefusal, done, numberTold, Answer, Called, cleared}
 use Rattle.complexes.proofs.ChainComplex.{ChainComplex}
 use Rattle.sheet_format.specs.Sheet.{Bytes}
 use Rattle.reduction_steps.specs.State.{State}
@@ -24,7 +23,7 @@ use Rattle.requests.specs.Call.{Request, listCount, listSlots, numbersOf, reque
 use Rattle.requests.proofs.CheckLaws.{Passed}
 use Rattle.requests.proofs.CallLaws.{with-done, with-number, early-iff, early-narrow}
 use Rattle.integers.specs.Slot.{slot}
-use Rattle.answers.specs.Outcome.{Outcome, refused-early, too-wide, is-done, TooWide, listWidth}
+use Rattle.answers.specs.Outcome.{Outcome, refused-early, too-wide, is-done, listWidth}
 use Rattle.answers.proofs.Behind.{Behind, early-chains, two-wide, behind, ends}
 use Rattle.answers.proofs.ListLaws.{numbers-width, width-fits}
 

@@ -3,12 +3,12 @@ use mathlib.Core.Path.{_≡_, refl, sym, _∙_, ap, subst}
 use mathlib.Core.Logic.{_≢_}
 use mathlib.Core.List.{List, [], _++_, append-nil}
 use Prim.Native.Nat.{ℕ, zero, suc, _+_, _*_, _≤_, _<_}
-use native.Mathlib.Nat.{suc-ne-zero, mul-left-comm, suc-mul, mul-le-mul-right}
+use native.Mathlib.Nat.{mul-left-comm, suc-mul, mul-le-mul-right}
 use native.Mathlib.Decide.{ℕ-discrete}
 use native.Mathlib.Omega.{arith}
 use lib.ListN.{length, getD}
 use lib.IntN.{ℤ}
-use Rattle.limits.specs.Limits.{libraryLimit, hostLimit}
+use Rattle.limits.specs.Limits.{hostLimit}
 use Rattle.lists.specs.Splice.{splices}
 use Rattle.lists.proofs.SplicesLaws.{Fit, length-splices, splices-in, splices-between, splices-past, splices-each}
 use Rattle.trials.specs.Trial.{firstRefusal, done, numberTold, Called}
@@ -16,13 +16,13 @@ use Rattle.sheet_format.specs.Sheet.{Bytes}
 use Rattle.reduction_steps.specs.State.{State}
 use Rattle.reports.specs.Reductions.{Reductions, tooWide, reduced}
 use Rattle.reports.specs.Report.{Counts, freeRank, torsionCount, countsOf}
-use Rattle.requests.specs.Question.{Question, cells, cellCount, two}
+use Rattle.requests.specs.Question.{Question, cells, two}
 use Rattle.requests.specs.Call.{Request, listCount, listSlots, numbersOf, workSlots, earlyChecks, callWith, call}
 use Rattle.requests.proofs.CallLaws.{early-iff}
 use Rattle.host_calls.specs.Bytes.{numbersBytes, numberAt}
 use Rattle.host_calls.proofs.BytesLaws.{numbersBytes-small, length-numbersBytes, numberAt-numbersBytes, numberAt-same}
 use Rattle.host_calls.specs.Host.{HostCalled, slotsIn, hostEarly, bytesLeft, hostAnswer, hostCall}
-use Rattle.host_calls.proofs.HostCallLaws.{host-early, host-wide, host-done, host-number, early-same}
+use Rattle.host_calls.proofs.HostCallLaws.{host-done, host-number, early-same}
 use Rattle.integers.specs.Slot.{slot}
 use Rattle.answers.specs.Outcome.{listWidth, Carries}
 use Rattle.answers.proofs.Behind.{Behind, early-chains, behind, same-behind}

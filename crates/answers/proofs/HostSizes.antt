@@ -1,15 +1,15 @@
 -- The host's report call and the program have room for every report: how many numbers it has (report-sized), that nothing is refused early on an accepted
 -- sheet (accepted-passes), so that a refusal is 13 (accepted-refused).
-use mathlib.Core.Path.{_≡_, refl, sym, _∙_, ap}
+use mathlib.Core.Path.{_≡_, refl, sym, ap}
 use mathlib.Core.Logic.{_≢_}
 use mathlib.Core.List.{List, []}
-use Prim.Native.Nat.{ℕ, zero, suc, _+_, _*_, _≤_}
+use Prim.Native.Nat.{ℕ, zero, suc, _+_, _≤_}
 use native.Mathlib.Nat.{suc-ne-zero, mul-le-mul-right}
 use native.Mathlib.Omega.{arith}
 use lib.ListN.{length}
 use lib.IntN.{ℤ}
 use Rattle.limits.specs.Limits.{hostLimit}
-use Rattle.trials.specs.Trial.{firstRefusal, done, refused, Called}
+use Rattle.trials.specs.Trial.{firstRefusal, done, refused}
 use Rattle.trials.proofs.TrialLaws.{refused≢done}
 use Rattle.sheet_format.specs.Layout.{top}
 use Rattle.sheet_format.specs.Check.{refusal}

@@ -9,7 +9,7 @@ use native.Mathlib.Omega.{arith}
 use Rattle.complexes.specs.Complex.{Sections}
 use Rattle.complexes.proofs.ChainComplex.{ChainComplex}
 use Rattle.reduction_steps.specs.Table.{tableWithin}
-use Rattle.reduction_steps.specs.State.{State, largest, within}
+use Rattle.reduction_steps.specs.State.{State, within}
 use Rattle.reduction_steps.specs.Pivot.{Rule, IsRule}
 use Rattle.reduction_steps.specs.Step.{Machine, done, reduce}
 use Rattle.reduction_laws.specs.Shape.{within-iff, within-le}

@@ -1,16 +1,15 @@
 -- The lists of a request, after two reductions that are right: their width (numbers-width), that they fit their slots (width-fits), and that every number of
 -- them fits 64 bits where the request's chains pass their checks (numbers-word).
-use mathlib.Core.Path.{_≡_, sym, _∙_}
+use mathlib.Core.Path.{_≡_}
 use mathlib.Core.Bool.{true}
-use mathlib.Core.List.{List, []}
-use Prim.Native.Nat.{ℕ, _+_, _*_, _≤_, _<_}
+use mathlib.Core.List.{[]}
+use Prim.Native.Nat.{ℕ, _+_, _≤_, _<_}
 use native.Mathlib.Omega.{arith}
 use lib.ListN.{length}
-use lib.IntN.{ℤ}
 use Rattle.limits.specs.Limits.{libraryLimit, entryLimit, coefficientLimit}
 use Rattle.trials.specs.Trial.{firstRefusal}
 use Rattle.reduction_steps.specs.State.{State, within}
-use Rattle.reports.specs.Report.{freeRank, torsionCount, reportList, coordinateList}
+use Rattle.reports.specs.Report.{freeRank, torsionCount}
 use Rattle.reports.proofs.ReportLaws.{report-fits, coordinates-fit}
 use Rattle.requests.specs.Question.{Question, cells, cellCount}
 use Rattle.requests.specs.Chains.{chainAt}

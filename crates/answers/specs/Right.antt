@@ -1,13 +1,10 @@
 -- What it means that a report is right. A caller reads it as numbers by their slots, from a slice of numbers or from bytes.
 use mathlib.Core.Path.{_≡_}
 use mathlib.Core.Bool.{cond}
-use mathlib.Core.List.{List}
 use Prim.Native.Nat.{ℕ, _+_, _*_, _<_}
 use lib.Dec.{ltb}
-use lib.ListN.{getD}
 use lib.IntN.{ℤ, pos}
 use lib.Signed.{_<ℤ_}
-use Rattle.integers.specs.Slot.{slot}
 use Rattle.complexes.specs.Complex.{Sections, count}
 use Rattle.homology_groups.specs.Chain.{Chain}
 use Rattle.homology_groups.specs.Presentation.{SameOrders}

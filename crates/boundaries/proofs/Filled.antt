@@ -9,7 +9,7 @@ use native.Mathlib.Decide.{decLt, decLe}
 use lib.IntN.{ℤ, natAbs}
 use Rattle.matrices.specs.Matrix as theory
 use Rattle.integers.specs.Slot.{slot}
-use Rattle.matrix_lines.specs.Slice.{lineAt, Under, Bounded, Covered}
+use Rattle.matrix_lines.specs.Slice.{lineAt, Under}
 use Rattle.matrix_lines.specs.Matrices.{end, Off, everywhere, Holds}
 use Rattle.matrix_lines.specs.declared.matrix.Matrix.{Matrix}
 use Rattle.boundaries.specs.Filled.{MatrixFilled}

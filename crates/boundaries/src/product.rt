@@ -11,7 +11,7 @@ ghost use Rattle.complexes.specs.Boundary.{boundary};
 ghost use Rattle.sheet_format.specs.Layout.{top};
 ghost use Rattle.sheet_format.specs.Check.{sectionsOf};
 ghost use Rattle.integers.specs.Slot.{slot};
-ghost use Rattle.matrix_lines.specs.Slice.{Small, Bounded, Under};
+ghost use Rattle.matrix_lines.specs.Slice.{Small, Bounded};
 ghost use Rattle.matrix_lines.specs.Matrices.{Held, contents, end, Became, everywhere};
 ghost use Rattle.faces.specs.Face.{Accepted};
 ghost use Rattle.boundaries.specs.Column.{atPlaces, ColumnBecame};

@@ -5,10 +5,9 @@ use Prim.Native.Nat.{ℕ}
 use native.Mathlib.Omega.{arith}
 use lib.IntN.{ℤ, pos}
 use lib.ListN.{length, replicate}
-use Rattle.trials.specs.Trial.{Called, done, refused}
+use Rattle.trials.specs.Trial.{done, refused}
 use Rattle.reduction_steps.specs.State.{State}
 use Rattle.reports.specs.Reductions.{Reductions, tooWide, reduced}
-use Rattle.reports.specs.Report as reports
 use Rattle.reports.specs.Report.{countsOf}
 use Rattle.requests.specs.Call.{callWith}
 use Rattle.requests.proofs.CallLaws.{with-early, with-wide, with-done}

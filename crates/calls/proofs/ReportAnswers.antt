@@ -29,7 +29,7 @@ use Rattle.calls.specs.CallAnswers.{CallAnswers}
 use Rattle.two_reductions.specs.declared.cell_counts.CellCounts.{CellCounts}
 use Rattle.calls.specs.declared.admission.Request.the-variants.{Report}
 use Rattle.calls.specs.declared.answer.Answer.the-variants.{Done, Refused}
-use Rattle.calls.proofs.Admitting.{Lent, lengths, cellsOf, slotsAsked, spaceAsked, Granted, twice, Reduces}
+use Rattle.calls.proofs.Admitting.{Lent, lengths, slotsAsked, spaceAsked, Granted, twice, Reduces}
 use Rattle.calls.proofs.Answering.{refuses, goes-wide, is-done}
 use Rattle.calls.proofs.Writing.{inverse-width}
 

@@ -1,6 +1,6 @@
 -- The boundary matrices of a complex. What stands in them: entry-face, entry-other, boundary-small. The boundary of a boundary is zero:
 -- boundary-boundary.
-use mathlib.Core.Path.{_≡_, sym, ap, _∙_}
+use mathlib.Core.Path.{_≡_, sym, _∙_}
 use mathlib.Core.Logic.{_≢_}
 use mathlib.Core.Bool.{true, cond}
 use mathlib.Core.List.{[]}
@@ -21,10 +21,6 @@ use Rattle.complexes.specs.Boundary.{sign, coefficient, countBelow, boun
 use Rattle.complexes.proofs.CoefficientLaws.{coefficient-face, coefficient-other, coefficient-small, faces-cancel}
 
 module _ {top limit : ℕ} {K : Sections} (complex : Complex top limit K) where
-  -- there are no cells outside the listed dimensions
-  pub count-above : (p : ℕ) → top < p → count K p ≡ 0
-  count-above p l = ap length (List·getD-eq-default K [] {n = p} (omega (arith, complex .dimensions)))
-
   -- ---- the entries
 
   -- at the row of the face without vertex i, the column of a cell has sign i

@@ -1,5 +1,5 @@
 -- The tests on cells decide what they are for.
--- `same` is equality: same-true, eq-same, same-false, ne-same. `listed` is `Listed`: listed-true, Listed-listed, listed-false.
+-- `same` is equality: same-true, eq-same, same-false, ne-same. `listed` is `Listed`: listed-true, Listed-listed.
 -- `rises` is a strict rise from place to place: rises-at, rises-lt, rises-of.
 use mathlib.Core.Path.{_≡_, refl, sym}
 use mathlib.Core.Bool.{Bool, true, false, and-eq-true-iff, or-true, true≢false}
@@ -70,9 +70,6 @@ Listed-listed {c} {l} h = at l (h .place) (h .below) (h .is)
     at [] i b e = absurd (omega arith)
     at (d ∷ l) zero b e = rw (eq-same c d (sym e))
     at (d ∷ l) (suc i) b e = rw (at l i (omega arith) e) (or-true (same c d))
-
-pub listed-false : {c : Cell} {l : List Cell} → listed c l ≡ false → Listed c l → ⊥
-listed-false e h = true≢false (cc (Listed-listed h))
 
 -- ---- rising vertices
 

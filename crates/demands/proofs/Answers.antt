@@ -1,7 +1,5 @@
 -- The claims on reports and coordinates.
-use mathlib.Core.Path.{_≡_, refl, sym, _∙_, ap, ap₂, subst}
-use mathlib.Core.Logic.{_↔_}
-use mathlib.Core.List.{List}
+use mathlib.Core.Path.{_≡_, sym, _∙_, ap, ap₂, subst}
 use Prim.Native.Nat.{ℕ, _+_, _<_}
 use native.Mathlib.Omega.{arith}
 use lib.IntN.{ℤ, _-ℤ_}
@@ -11,7 +9,6 @@ use Rattle.homology_groups.specs.Chain.{Chain, combination}
 use Rattle.homology_groups.proofs.ChainLaws.{boundary-same}
 use Rattle.reports.specs.Report.{Counts, freeRank, torsionCount, countsOf}
 use Rattle.requests.specs.Question.{Question, cells, cellCount}
-use Rattle.requests.specs.Call.{call}
 use Rattle.answers.specs.Homology.{IsBoundary}
 use Rattle.integers.specs.Slot.{slot}
 use Rattle.answers.specs.Right.{orderIn, generatorIn, IsRight, reportLength}
@@ -20,8 +17,8 @@ use Rattle.answers.proofs.CoordinatesRight.{ReadsCoordinates, coordinates-decid
 use Rattle.answers.proofs.Behind.{Behind, same-behind}
 use Rattle.answers.proofs.CallRight.{done-number, answered, counts-behind}
 use Rattle.demands.specs.Answers as claims
-use Rattle.demands.specs.Answers.{ReportOf, CountsAnswered, Counted, RightReport, Reports, CountsRight, OneReport, OneCounts, CoordinatesDecide, CoordinatesCombine, CoordinatesNearestZero}
-use Rattle.demands.proofs.Behind.{ReportBehind, report-behind, CoordinatesBehind, coordinates-behind}
+use Rattle.demands.specs.Answers.{ReportOf, CountsAnswered, Counted, Reports, CountsRight, OneReport, OneCounts, CoordinatesDecide, CoordinatesCombine, CoordinatesNearestZero}
+use Rattle.demands.proofs.Behind.{report-behind, coordinates-behind}
 
 -- what holds of the counts behind an answer holds of those that it says
 as-counted : (P : ℕ → ℕ → Type 0) {f t f′ t′ : ℕ} → f ≡ f′ → t ≡ t′ → P f′ t′ → P f t

@@ -1,23 +1,22 @@
 -- What stands behind the reports and the coordinate lists that a caller reads: report-behind, coordinates-behind.
-use mathlib.Core.Path.{_≡_, refl, sym, _∙_, ap, subst}
+use mathlib.Core.Path.{_≡_, refl, sym, _∙_, ap}
 use mathlib.Core.List.{List}
 use Prim.Native.Nat.{ℕ, _+_, _*_, _<_}
 use native.Mathlib.Omega.{arith}
-use lib.ListN.{length, drop}
+use lib.ListN.{drop}
 use lib.Seq.{getD-take, getD-drop}
 use lib.IntN.{ℤ, pos}
 use Rattle.limits.specs.Limits.{coefficientLimit}
-use Rattle.trials.specs.Trial.{firstRefusal, done}
+use Rattle.trials.specs.Trial.{firstRefusal}
 use Rattle.sheet_format.specs.Sheet.{Bytes}
 use Rattle.homology_groups.specs.Chain.{Chain}
-use Rattle.reports.specs.Report.{Counts, coordinateList}
 use Rattle.requests.specs.Question.{Question, cells, cellCount}
-use Rattle.requests.specs.Chains.{chainAt, chainChecks}
+use Rattle.requests.specs.Chains.{chainAt}
 use Rattle.requests.proofs.ChainsLaws.{length-chainAt, chains-zero}
-use Rattle.requests.specs.Call.{Request, report, coordinates, lists, requestChecks, call}
-use Rattle.host_calls.specs.Bytes.{coefficientIn, chainFrom, numberAt}
+use Rattle.requests.specs.Call.{report, coordinates, lists, requestChecks, call}
+use Rattle.host_calls.specs.Bytes.{chainFrom, numberAt}
 use Rattle.host_calls.proofs.HostChainsLaws.{given-coefficient, chainFrom-size, chainAt-coefficient}
-use Rattle.host_calls.specs.Host.{hostCall, coordinatesIn, listsIn}
+use Rattle.host_calls.specs.Host.{hostCall}
 use Rattle.answers.specs.Homology.{IsCycle}
 use Rattle.integers.specs.Slot.{slot}
 use Rattle.answers.proofs.ReportRight.{Reads}

@@ -1,21 +1,19 @@
 -- The claims on the calls: the number, what is left and what is written.
-use mathlib.Core.Path.{_≡_, refl, sym, _∙_, ap}
-use mathlib.Core.Logic.{_↔_, _≢_}
+use mathlib.Core.Path.{_≡_, sym, _∙_, ap}
+use mathlib.Core.Logic.{_↔_}
 use mathlib.Core.List.{List}
 use Prim.Native.Nat.{ℕ, _+_, _*_, _≤_, _<_}
-use native.Mathlib.Nat.{one-mul}
 use native.Mathlib.Omega.{arith}
 use lib.ListN.{length}
 use lib.IntN.{ℤ}
 use Rattle.limits.specs.Limits.{coefficientLimit}
 use Rattle.trials.specs.Trial.{firstRefusal, done, numberTold, Called}
 use Rattle.sheet_format.specs.Sheet.{Bytes}
-use Rattle.reduction_steps.specs.State.{State}
 use Rattle.reports.specs.Report.{Counts, coordinateList}
 use Rattle.requests.specs.Question.{Question, cells, cellCount}
 use Rattle.requests.specs.Chains.{chainAt, chainChecks, cyclesChecks, chainsChecks, FirstFault}
 use Rattle.requests.proofs.ChainsLaws.{length-chainAt, fault, cycles-told, chains-sized, chains-zero}
-use Rattle.requests.specs.Call.{coordinates, lists, listSlots, workSlots, callChecks, earlyChecks, call}
+use Rattle.requests.specs.Call.{coordinates, lists, workSlots, earlyChecks, call}
 use Rattle.requests.proofs.CheckLaws.{call-passed}
 use Rattle.requests.proofs.CallLaws.{early-iff}
 use Rattle.integers.specs.Slot.{slot}
@@ -23,7 +21,7 @@ use Rattle.answers.proofs.ChainChecks.{chain-told, not-a-cycle-iff}
 use Rattle.answers.proofs.Behind.{Behind, same-behind}
 use Rattle.answers.proofs.CallRight.{Answered, done-number, call-outcome, call-earlier, counts-behind, answered, passed-done, list-reads}
 use Rattle.answers.proofs.ListLaws.{coordinates-width}
-use Rattle.demands.specs.Calls.{Calls, NotACycle, FirstFaultyChain, ListSingle, ListsSingle}
+use Rattle.demands.specs.Calls.{Calls, NotACycle, FirstFaultyChain, ListsSingle}
 
 pub calls : Calls
 calls = call-outcome

@@ -1,7 +1,7 @@
 -- What follows from the claims on reports and coordinates.
 use mathlib.Core.Path.{_≡_, sym, _∙_, ap, subst}
 use mathlib.Core.List.{[], _∷_}
-use Prim.Native.Nat.{ℕ, _+_, _<_}
+use Prim.Native.Nat.{ℕ}
 use lib.IntN.{ℤ, pos, negℤ, _*ℤ_}
 use Rattle.integers.specs.Division.{residue, NearestZero}
 use Rattle.integers.proofs.Solve.{solve, terms}

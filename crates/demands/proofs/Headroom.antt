@@ -6,12 +6,11 @@ use native.Mathlib.Omega.{arith}
 use Rattle.limits.specs.Limits.{entryLimit}
 use Rattle.sheet_format.specs.Sheet.{Bytes}
 use Rattle.reduction_steps.specs.State.{State}
-use Rattle.reports.specs.Reductions.{reductions, reduced}
 use Rattle.reports.specs.Report.{Counts, bitsOf}
 use Rattle.reports.proofs.BitsLaws.{bits-below, bits-zero, bits-le, bits-least}
-use Rattle.requests.specs.Question.{Question, cells, cellCount, rule, two}
+use Rattle.requests.specs.Question.{Question, cellCount, two}
 use Rattle.answers.specs.Outcome.{EndsAt}
-use Rattle.answers.proofs.Behind.{Behind, ends-at, ends-reduced}
+use Rattle.answers.proofs.Behind.{ends-at, ends-reduced}
 use Rattle.demands.specs.Answers.{CountsAnswered}
 use Rattle.demands.specs.Headroom.{Headroom, HeadroomNone, AtEntryLimit, LeastLimit}
 use Rattle.demands.proofs.Answers.{CountsBehind, counts-of}

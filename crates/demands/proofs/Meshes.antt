@@ -1,6 +1,4 @@
 -- The claims on the import.
-use native.Mathlib.Omega.{arith}
-use Rattle.limits.specs.Limits.{hostLimit}
 use Rattle.closures.proofs.ClosureLaws.{closure-unique}
 use Rattle.mesh_format.proofs.Accept.{mesh-unique}
 use Rattle.imports.specs.Import.{complexOf}

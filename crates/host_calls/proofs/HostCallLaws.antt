@@ -2,12 +2,11 @@
 --     early-same                     calls with room enough tell the same before the reductions
 --     host-refused, host-done        the host's call by its first early check and its reductions; host-number: what 0 says
 --     report-refused, report-done    the host's report by the library's
-use mathlib.Core.Path.{_≡_, refl, sym, _∙_, ap, subst}
-use mathlib.Core.Bool.{_||_}
+use mathlib.Core.Path.{_≡_, refl, sym, _∙_, ap}
 use mathlib.Core.Logic.{_≢_}
 use mathlib.Core.List.{List, [], _++_}
 use Prim.Native.Nat.{ℕ, zero, suc, _+_, _*_, _≤_, _<_, min, max}
-use native.Mathlib.Nat.{mul-le-mul, max-le, one-mul}
+use native.Mathlib.Nat.{mul-le-mul, max-le}
 use native.Mathlib.Decide.{decLe, decLt}
 use native.Mathlib.Omega.{arith}
 use borrow.Author.Tests.{lt-ltb, le-ltb}
@@ -30,13 +29,13 @@ use Rattle.sheet_format.specs.CheckLaws.{refusal-zero, countExceeds-false}
 use Rattle.sheet_format.specs.SheetLaws.{count-sectionsOf, countField-out}
 use Rattle.reduction_steps.specs.State.{State}
 use Rattle.reports.specs.Reductions.{Reductions, tooWide, reduced}
-use Rattle.reports.specs.Report.{Counts, countsOf, reportList}
+use Rattle.reports.specs.Report.{Counts, reportList}
 use Rattle.requests.specs.Question.{Question, cells, cellCount, two}
 use Rattle.requests.specs.Call.{Request, report, listCount, listSlots, requestChecks, numbersOf, workSlots, callChecks, earlyChecks, callWith, call}
 use Rattle.requests.proofs.CheckLaws.{sheet-told, sheet-passed}
 use Rattle.requests.proofs.CallLaws.{DoneWith, with-early, with-wide, with-done, with-number}
 use Rattle.host_calls.specs.Bytes.{numbersBytes}
-use Rattle.host_calls.specs.Host.{HostCalled, slotsIn, reportRoom, workRoom, hostEarly, bytesLeft, hostAnswer, hostCall}
+use Rattle.host_calls.specs.Host.{slotsIn, reportRoom, workRoom, hostEarly, bytesLeft, hostAnswer, hostCall}
 
 -- ---- by the first early check and the reductions
 

@@ -7,16 +7,15 @@ use mathlib.Core.Path.{_≡_, sym, _∙_, ap}
 use mathlib.Core.Logic.{_≢_}
 use mathlib.Core.List.{List}
 use Prim.Native.Nat.{ℕ, zero, suc, _+_, _*_, _<_}
-use native.Mathlib.Nat.{suc-mul, mul-le-mul-right, mul-left-comm}
 use native.Mathlib.Decide.{ℕ-discrete}
 use native.Mathlib.Omega.{arith}
 use borrow.Author.Tests.{eq-eqb, ne-eqb}
-use lib.ListN.{length, getD, drop, length-drop}
-use lib.Seq.{ext-getD, length-take-le, getD-take, getD-drop}
+use lib.ListN.{length, getD, drop}
+use lib.Seq.{ext-getD, getD-take, getD-drop}
 use lib.IntN.{ℤ, pos}
 use Rattle.lists.specs.Tabulate.{tabulate}
-use Rattle.lists.proofs.TabulateLaws.{length-tabulate, getD-tabulate, tabulate-ext}
-use Rattle.host_calls.specs.Bytes.{coefficientAt, coefficientIn, otherLength, chainFrom, chainBytes}
+use Rattle.lists.proofs.TabulateLaws.{length-tabulate, getD-tabulate}
+use Rattle.host_calls.specs.Bytes.{coefficientIn, otherLength, chainFrom}
 use Rattle.requests.specs.Chains.{chainAt}
 use Rattle.requests.proofs.ChainsLaws.{chain-inside, length-chainAt}
 

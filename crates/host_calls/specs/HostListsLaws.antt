@@ -5,19 +5,17 @@
 use mathlib.Core.Path.{_≡_, refl, _∙_, ap}
 use mathlib.Core.List.{List, []}
 use Prim.Native.Nat.{ℕ, zero, suc, _*_}
-use native.Mathlib.Nat.{one-mul, mul-zero, zero-mul}
+use native.Mathlib.Nat.{one-mul, mul-zero}
 use lib.IntN.{ℤ}
 use Rattle.limits.specs.Limits.{hostLimit}
 use Rattle.lists.specs.Splice.{splices}
 use Rattle.lists.proofs.SplicesLaws.{splices-same, splices-nothing}
-use Rattle.reports.specs.Report.{coordinateList}
 use Rattle.requests.specs.Question.{Question, cells, cellCount, two}
-use Rattle.requests.specs.Chains.{chainAt}
 use Rattle.requests.specs.Call.{coordinates, lists, numbersOf, workSlots, callWith}
 use Rattle.requests.specs.Chains.{nonempty}
 use Rattle.requests.proofs.ListsLaws.{same-with, one-early, one-numbers, none-early, none-numbers}
 use Rattle.host_calls.specs.Bytes.{numbersBytes, chainFrom}
-use Rattle.host_calls.specs.Host.{HostCalled, slotsIn, hostEarly, bytesLeft, hostAnswer, hostCall, coordinatesIn, listsIn}
+use Rattle.host_calls.specs.Host.{slotsIn, hostEarly, bytesLeft, hostAnswer, hostCall, coordinatesIn, listsIn}
 
 pub host-one-chain : (q : Question) (chain output : List ℕ) → hostCall q (listsIn q 1 chain) output ≡ hostCall q (coordinatesIn q chain) output
 unfolding hostCall

@@ -1,17 +1,16 @@
 -- Laws of divisibility.
--- `dvd-refl`, `dvd-trans`, `dvd-add`, `dvd-sub`, `dvd-neg`, `neg-dvd`, `dvd-mul`, `mul-dvd-mul`, `dvd-antisymm`, `dvd-le`;
+-- `dvd-refl`, `dvd-trans`, `dvd-add`, `dvd-sub`, `dvd-neg`, `dvd-mul`, `dvd-antisymm`;
 -- with 0 and 1: `dvd-zero`, `zero-dvd`, `one-dvd`, `dvd-one`. `dvd-iff-mod`: by the remainder of the absolute values.
--- `divides a b`, the test, with `divides-dvd` and `dvd-divides`; `decide-dvd`.
+-- `divides a b`, the test, with `divides-dvd` and `dvd-divides`.
 use mathlib.Core.Path.{_≡_, sym, _∙_, ap, subst}
-use mathlib.Core.Logic.{_≢_, _↔_}
-use mathlib.Core.Bool.{Bool, true, false}
-use Prim.Native.Nat.{ℕ, zero, suc, _+_, _*_, _/_, _%_, _≤_}
+use mathlib.Core.Logic.{_↔_}
+use Prim.Native.Nat.{ℕ, suc, _+_, _*_, _/_, _%_}
 use native.Mathlib.Nat as NatL
 use lib.Dec.{T, eqb, eqb→eq, eqb-refl}
 use lib.IntN.{ℤ, pos, negsuc, negℤ, natAbs, _+ℤ_, _-ℤ_, _*ℤ_}
 use Rattle.integers.specs.Division.{_∣ℤ_, divides}
-use Rattle.integers.proofs.Ring.{one-mul, mul-one, zero-mul, mul-zero, mul-assoc, mul-left-comm, add-mul, neg-mul, mul-neg, neg-neg}
-use Rattle.integers.proofs.Order.{natAbs-mul, natAbs-zero}
+use Rattle.integers.proofs.Ring.{one-mul, mul-one, zero-mul, mul-zero, mul-assoc, add-mul, neg-mul}
+use Rattle.integers.proofs.Order.{natAbs-mul}
 
 pub dvd-refl : (a : ℤ) → a ∣ℤ a
 dvd-refl a = record { quotient = pos 1; is = sym (one-mul a) }
@@ -33,20 +32,11 @@ dvd-add {a} {b} {c} h k = record {
 pub dvd-neg : {a b : ℤ} → a ∣ℤ b → a ∣ℤ negℤ b
 dvd-neg {a} {b} h = record { quotient = negℤ (h .quotient); is = ap negℤ (h .is) ∙ sym (neg-mul (h .quotient) a) }
 
-pub neg-dvd : {a b : ℤ} → a ∣ℤ b → negℤ a ∣ℤ b
-neg-dvd {a} {b} h = record {
-  quotient = negℤ (h .quotient);
-  is = h .is ∙ sym (neg-mul (h .quotient) (negℤ a) ∙ ap negℤ (mul-neg (h .quotient) a) ∙ neg-neg (h .quotient *ℤ a));
-}
-
 pub dvd-sub : {a b c : ℤ} → a ∣ℤ b → a ∣ℤ c → a ∣ℤ (b -ℤ c)
 dvd-sub h k = dvd-add h (dvd-neg k)
 
 pub dvd-mul : {a b : ℤ} (c : ℤ) → a ∣ℤ b → a ∣ℤ (c *ℤ b)
 dvd-mul {a} c h = record { quotient = c *ℤ h .quotient; is = ap (λ (x : ℤ). c *ℤ x) (h .is) ∙ sym (mul-assoc c (h .quotient) a) }
-
-pub mul-dvd-mul : {a b : ℤ} (c : ℤ) → a ∣ℤ b → (c *ℤ a) ∣ℤ (c *ℤ b)
-mul-dvd-mul {a} c h = record { quotient = h .quotient; is = ap (λ (x : ℤ). c *ℤ x) (h .is) ∙ mul-left-comm c (h .quotient) a }
 
 -- ---- zero and one
 
@@ -63,13 +53,6 @@ one-dvd b = record { quotient = b; is = sym (mul-one b) }
 
 natAbs-is : {a b : ℤ} (h : a ∣ℤ b) → natAbs b ≡ natAbs (h .quotient) * natAbs a
 natAbs-is {a} h = ap natAbs (h .is) ∙ natAbs-mul (h .quotient) a
-
-pub dvd-le : {a b : ℤ} → b ≢ pos 0 → a ∣ℤ b → natAbs a ≤ natAbs b
-dvd-le {a} {b} f h = pick (natAbs (h .quotient)) (natAbs-is h)
-  where
-    pick : (q : ℕ) → natAbs b ≡ q * natAbs a → natAbs a ≤ natAbs b
-    pick zero e = absurd (f (natAbs-zero b (e ∙ NatL.zero-mul (natAbs a))))
-    pick (suc q) e = subst (λ (n : ℕ). natAbs a ≤ n) (sym (e ∙ NatL.suc-mul q (natAbs a))) (NatL.le-add-left (natAbs a) (q * natAbs a))
 
 dvd-natAbs : (a : ℤ) → a ∣ℤ pos (natAbs a)
 dvd-natAbs (pos n) = dvd-refl (pos n)
@@ -106,10 +89,3 @@ divides-dvd a b t = dvd-iff-mod a b .1 (eqb→eq (natAbs b % natAbs a) 0 t)
 pub dvd-divides : (a b : ℤ) → a ∣ℤ b → T (divides a b)
 unfolding divides
 dvd-divides a b h = subst (λ (n : ℕ). T (eqb n 0)) (sym (dvd-iff-mod a b .0 h)) (eqb-refl 0)
-
-pub decide-dvd : (a b : ℤ) → Dec (a ∣ℤ b)
-decide-dvd a b = pick (divides a b) (divides-dvd a b) (dvd-divides a b)
-  where
-    pick : (t : Bool) → (T t → a ∣ℤ b) → (a ∣ℤ b → T t) → Dec (a ∣ℤ b)
-    pick true f g = yes (f tt)
-    pick false f g = no g

@@ -1,8 +1,8 @@
 -- Laws of division rounded towards minus infinity. `Division a d q r`: a = q·d + r with 0 ≤ r < d.
 -- For a positive divisor: `floor-division`, `natAbs-modulo`, `floor-unique`, `modulo-unique`, `dvd-iff-modulo`, `modulo-eq-iff`.
--- For every divisor: `modulo-zero`, `floor-zero`, `floor-modulo`, `natAbs-floor`, and `floor-neg`: floor (-a) (-d) is floor a d unless d is 0.
+-- For every divisor: `modulo-zero`, `floor-zero`, `floor-modulo`, `natAbs-floor`.
 use mathlib.Core.Path.{_≡_, refl, sym, _∙_, ap, subst}
-use mathlib.Core.Logic.{_≢_, _↔_}
+use mathlib.Core.Logic.{_↔_}
 use mathlib.Core.List.{[], _∷_}
 use Prim.Native.Nat.{ℕ, zero, suc, _+_, _*_, _-_, _/_, _%_, _≤_, _<_, suc-le-suc, zero-le}
 use native.Mathlib.Nat as NatL
@@ -46,16 +46,6 @@ natAbs-floor (negsuc a) (pos d) = suc-le-suc (NatL.div-le-self a d)
 natAbs-floor (pos zero) (negsuc d) = zero-le
 natAbs-floor (pos (suc a)) (negsuc d) = suc-le-suc (NatL.div-le-self a (suc d))
 natAbs-floor (negsuc a) (negsuc d) = NatL.div-le-self (suc a) (suc d)
-
-pub floor-neg : (a d : ℤ) → d ≢ pos 0 → floor (negℤ a) (negℤ d) ≡ floor a d
-unfolding floor
-floor-neg a (pos zero) f = absurd (f refl)
-floor-neg (pos zero) (pos (suc d)) f = ap pos (sym (NatL.zero-div (suc d)))
-floor-neg (pos (suc a)) (pos (suc d)) f = refl
-floor-neg (negsuc a) (pos (suc d)) f = refl
-floor-neg (pos zero) (negsuc d) f = ap pos (NatL.zero-div (suc d))
-floor-neg (pos (suc a)) (negsuc d) f = refl
-floor-neg (negsuc a) (negsuc d) f = refl
 
 -- ---- division with remainder by a positive number
 

@@ -1,7 +1,7 @@
 -- Absolute value and order of the whole numbers.
 -- `natAbs-neg`, `natAbs-mul`, `natAbs-add`, `natAbs-sub`, `natAbs-zero`; `mul-eq-zero`: no divisors of zero; `mul-cancel`.
--- `Gap`: a ≤ b means b = a + n for a natural n (`gap-of-le`, `le-of-gap`); from it `le-trans`, `le-antisymm`, `le-total`,
--- `add-le-add`, `mul-le-mul`, `neg-le-neg`; `lt-iff`: a < b means a + 1 ≤ b; `natAbs-le-iff`: |x| ≤ w means -w ≤ x ≤ w.
+-- `Gap`: a ≤ b means b = a + n for a natural n (`gap-of-le`, `le-of-gap`); from it `le-trans`, `le-antisymm`,
+-- `add-le-add`, `mul-le-mul`; `lt-iff`: a < b means a + 1 ≤ b.
 use mathlib.Core.Path.{_≡_, refl, sym, _∙_, ap, subst}
 use mathlib.Core.Logic.{_≢_, _⊎_, _↔_, inl, inr}
 use mathlib.Core.List.{[], _∷_}
@@ -11,8 +11,8 @@ use native.Mathlib.Nat as NatL
 use native.Mathlib.Omega.{arith}
 use lib.Dec.{T, ltb, leb→le, le→leb, ltb→lt, lt→ltb, nltb→le}
 use lib.IntN.{ℤ, pos, negsuc, negℤ, natAbs, subℕ, sucℤ, _+ℤ_, _-ℤ_, _*ℤ_, +ℤ-one}
-use lib.Signed.{leZ, ltZ, _≤ℤ_, _<ℤ_, ≤ℤ-refl, ltZ-yes, ltZ-no}
-use Rattle.integers.proofs.Ring.{add-assoc, zero-add, mul-sub, sub-self, mul-zero, mul-add}
+use lib.Signed.{leZ, ltZ, _≤ℤ_, _<ℤ_, ≤ℤ-refl}
+use Rattle.integers.proofs.Ring.{add-assoc, zero-add, mul-sub, sub-self, mul-add}
 use Rattle.integers.proofs.Solve.{solve, terms}
 
 -- ---- absolute value
@@ -163,15 +163,6 @@ add-le-add {a} {b} {c} {d} h k = le-of-gap (record {
     add-add : (a c m n : ℤ) → a +ℤ m +ℤ (c +ℤ n) ≡ a +ℤ c +ℤ (m +ℤ n)
     add-add a c m n = solve (a ∷ c ∷ m ∷ n ∷ []) (search terms depth 16) tt
 
-pub neg-le-neg : {a b : ℤ} → a ≤ℤ b → negℤ b ≤ℤ negℤ a
-neg-le-neg {a} {b} h = le-of-gap (record {
-  size = m .size;
-  is = neg-add-right a (pos (m .size)) ∙ ap (λ (x : ℤ). negℤ x +ℤ pos (m .size)) (sym (m .is));
-})
-  where
-    m : Gap a b
-    m = gap-of-le h
-
 -- a number that is not negative is a natural one
 pub nonneg-is : {a : ℤ} → pos 0 ≤ℤ a → a ≡ pos (natAbs a)
 nonneg-is {a = pos n} h = refl
@@ -188,9 +179,6 @@ mul-le-mul {a} {b} {c} h k = le-of-gap (record {
   where
     m : Gap a b
     m = gap-of-le k
-
-pub mul-nonneg : {a b : ℤ} → pos 0 ≤ℤ a → pos 0 ≤ℤ b → pos 0 ≤ℤ (a *ℤ b)
-mul-nonneg {a} {b} h k = subst (λ (x : ℤ). x ≤ℤ (a *ℤ b)) (mul-zero a) (mul-le-mul h k)
 
 pub sub-nonneg : {a b : ℤ} → a ≤ℤ b → pos 0 ≤ℤ (b -ℤ a)
 sub-nonneg {a} {b} h = subst (λ (x : ℤ). x ≤ℤ (b -ℤ a)) (sub-self a) (add-le-add h (le-refl (negℤ a)))
@@ -226,37 +214,3 @@ lt-iff a b = (
 
 pub le-of-lt : {a b : ℤ} → a <ℤ b → a ≤ℤ b
 le-of-lt {a} {b} h = le-trans (le-add a 1) (lt-iff a b .0 h)
-
-pub le-or-lt : (a b : ℤ) → (a ≤ℤ b) ⊎ (b <ℤ a)
-le-or-lt a b = pick (ltZ b a) (λ t. ltZ-yes t) (λ t. ltZ-no t)
-  where
-    pick : (t : Bool) → (T t → b <ℤ a) → (T (not t) → a ≤ℤ b) → (a ≤ℤ b) ⊎ (b <ℤ a)
-    pick true f g = inr (f tt)
-    pick false f g = inl (g tt)
-
-pub le-total : (a b : ℤ) → (a ≤ℤ b) ⊎ (b ≤ℤ a)
-le-total a b = pick (le-or-lt a b)
-  where
-    pick : (a ≤ℤ b) ⊎ (b <ℤ a) → (a ≤ℤ b) ⊎ (b ≤ℤ a)
-    pick (inl h) = inl h
-    pick (inr h) = inr (le-of-lt h)
-
--- ---- bounds on the absolute value
-
-pub record Within (w : ℕ) (x : ℤ) : Type 0 where
-  pub low : negℤ (pos w) ≤ℤ x
-  pub high : x ≤ℤ pos w
-
-within : (w : ℕ) (x : ℤ) → natAbs x ≤ w → Within w x
-within zero (pos n) h = record { low = record { le = le→leb 0 n zero-le }; high = record { le = le→leb n 0 h } }
-within (suc w) (pos n) h = record { low = record { le = tt }; high = record { le = le→leb n (suc w) h } }
-within zero (negsuc n) h = absurd (NatL.not-suc-le-zero h)
-within (suc w) (negsuc n) h = record { low = record { le = le→leb n w (NatL.le-of-suc-le-suc h) }; high = record { le = tt } }
-
-natAbs-within : (w : ℕ) (x : ℤ) → Within w x → natAbs x ≤ w
-natAbs-within w (pos n) h = leb→le n w (h .high .le)
-natAbs-within zero (negsuc n) h = absurd (h .low .le)
-natAbs-within (suc w) (negsuc n) h = suc-le-suc (leb→le n w (h .low .le))
-
-pub natAbs-le-iff : (x : ℤ) (w : ℕ) → (natAbs x ≤ w) ↔ Within w x
-natAbs-le-iff x w = (within w x, natAbs-within w x)

@@ -1,9 +1,8 @@
 -- The machine's division, `quotZ` and `remZ`, which round towards zero, and how it gives the division of `Floor`.
--- `quotZ-remZ`: a = quotZ a d · d + remZ a d; `natAbs-quotZ`, `mag-quotZ`: the quotient's size; `natAbs-remZ`, `remZ-lt`: the remainder's size; `dvd-iff-remZ`: it is 0
--- exactly where d divides a; `remZ-of-nonneg`, `remZ-of-neg`: its sign is the dividend's.
+-- `quotZ-remZ`: a = quotZ a d · d + remZ a d; `natAbs-quotZ`, `mag-quotZ`: the quotient's size; `natAbs-remZ`, `remZ-lt`: the remainder's size.
 -- For a positive divisor: `floor-quotZ` where the remainder is not negative, `floor-quotZ-pred` where it is.
 use mathlib.Core.Path.{_≡_, refl, sym, _∙_, ap, subst}
-use mathlib.Core.Logic.{_≢_, _↔_}
+use mathlib.Core.Logic.{_≢_}
 use mathlib.Core.List.{[], _∷_}
 use Prim.Native.Nat.{ℕ, zero, suc, _-_, _/_, _%_, _≤_, _<_, zero-le}
 use native.Mathlib.Nat as NatL
@@ -12,8 +11,7 @@ use lib.IntN.{ℤ, pos, negsuc, negℤ, natAbs, _+ℤ_, _-ℤ_, _*ℤ_}
 use lib.Signed.{_≤ℤ_, _<ℤ_, <ℤ-irrefl, mag, quotZ, remZ}
 use Rattle.integers.proofs.Solve.{solve, terms}
 use Rattle.integers.proofs.Order.{natAbs-neg, natAbs-zero, le-pos, lt-pos, pos-lt}
-use Rattle.integers.proofs.Divides.{dvd-iff-mod}
-use Rattle.integers.specs.Division.{_∣ℤ_, floor}
+use Rattle.integers.specs.Division.{floor}
 use Rattle.integers.proofs.Floor.{floor-unique}
 
 quot-rem : (n m : ℕ) → pos n ≡ pos (n / m) *ℤ pos m +ℤ pos (n % m)
@@ -58,25 +56,6 @@ natAbs-remZ (negsuc a) d = natAbs-neg (pos (suc a % natAbs d))
 pub remZ-lt : (a d : ℤ) → d ≢ pos 0 → natAbs (remZ a d) < natAbs d
 remZ-lt a d f =
     subst (λ (n : ℕ). n < natAbs d) (sym (natAbs-remZ a d)) (NatL.mod-lt (natAbs a) (NatL.pos-of-ne-zero (λ e. f (natAbs-zero d e))))
-
-pub remZ-of-nonneg : (a d : ℤ) → pos 0 ≤ℤ a → pos 0 ≤ℤ remZ a d
-remZ-of-nonneg (pos a) d h = le-pos zero-le
-remZ-of-nonneg (negsuc a) d h = absurd (h .le)
-
--- a negative dividend leaves the remainder 0 or a negative one
-pub remZ-of-neg : (a d : ℤ) → a <ℤ pos 0 → remZ a d ≢ pos 0 → remZ a d <ℤ pos 0
-remZ-of-neg (pos a) d h f = absurd (NatL.not-suc-le-zero (pos-lt h))
-remZ-of-neg (negsuc a) d h f = pick (suc a % natAbs d) f
-  where
-    pick : (m : ℕ) → negℤ (pos m) ≢ pos 0 → negℤ (pos m) <ℤ pos 0
-    pick zero g = absurd (g refl)
-    pick (suc m) g = record { lt = tt }
-
-pub dvd-iff-remZ : (a d : ℤ) → (d ∣ℤ a) ↔ (remZ a d ≡ pos 0)
-dvd-iff-remZ a d = (
-  (λ h. natAbs-zero (remZ a d) (natAbs-remZ a d ∙ dvd-iff-mod d a .0 h)),
-  (λ e. dvd-iff-mod d a .1 (sym (natAbs-remZ a d) ∙ ap natAbs e)),
-)
 
 -- ---- the quotient rounded towards minus infinity
 

@@ -1,6 +1,6 @@
 -- Matrices that are inverse to each other: inverse-pair-identity, inverse-pair-sym, inverse-pair-mul, and an operation on the rows
 -- (columns) of one with its inverse on the columns (rows) of the other: inverse-pair-rows, inverse-pair-columns.
--- A pair that cancels inside a product: mul-cancel-left, mul-cancel-right, mul-cancel-middle.
+-- A pair that cancels inside a product: mul-cancel-left, mul-cancel-middle.
 use mathlib.Core.Path.{_≡_, refl, sym, _∙_, ap}
 use Prim.Native.Nat.{ℕ, _<_}
 use Rattle.matrices.specs.Matrix.{Matrix, Eq, mul, identity}
@@ -22,12 +22,6 @@ module _ (n : ℕ) (X Y : Matrix) (e : Eq n n (mul n X Y) identity) where
       sym (mul-assoc n n X Y A i j)
       ∙ mul-ext-at n (mul n X Y) identity A A i j (λ k h. e .at i k l h) (λ k h. refl)
       ∙ mul-identity-left n A i j l
-
-  pub mul-cancel-right : (A : Matrix) (i j : ℕ) → j < n → mul n (mul n A X) Y i j ≡ A i j
-  mul-cancel-right A i j l =
-      mul-assoc n n A X Y i j
-      ∙ mul-ext-at n A A (mul n X Y) identity i j (λ k h. refl) (λ k h. e .at k j h l)
-      ∙ mul-identity-right n A i j l
 
   pub mul-cancel-middle : (A B : Matrix) (i j : ℕ) → mul n (mul n A X) (mul n Y B) i j ≡ mul n A B i j
   mul-cancel-middle A B i j =

@@ -1,5 +1,5 @@
 -- Laws of the elementary operations: what each does at an entry (onRows-subtract-at, ..), onRows-ext and onColumns-ext,
--- onRows-mul and onColumns-mul (an operation on a product is one on a factor), mul-cancel-rows and mul-cancel-columns
+-- onRows-mul and onColumns-mul (an operation on a product is one on a factor), mul-cancel-rows
 -- (an operation on one factor and its inverse on the other keep the product), inverse-inverse, onRows-undo.
 use mathlib.Core.Path.{_≡_, refl, sym, _∙_, ap}
 use mathlib.Core.Logic.{_≢_}
@@ -17,7 +17,7 @@ use Rattle.matrices.proofs.SumLaws.{sum-ext, sum-pair}
 use Rattle.matrices.specs.Matrix.{Matrix, Eq, mul, transpose}
 use Rattle.matrices.proofs.Product.{sub-mul, neg-mul, mul-scale-left, mul-transpose, Eq-transpose, matrix-ext}
 use Rattle.matrices.specs.Operation.{Operation, subtract, swap, negate, onRows, onColumns, inverse}
-use Rattle.matrices.specs.Within.{Within, Within-inverse}
+use Rattle.matrices.specs.Within.{Within}
 
 -- ---- what an operation does at an entry; for columns, take these at the transpose under `unfolding onColumns`
 
@@ -157,12 +157,6 @@ mul-cancel-rows (negate k) n w B A x y = sum-ext n F (λ a. B x a *ℤ A a y) (�
     go : (a : ℕ) → Dec (a ≡ k) → F a ≡ B x a *ℤ A a y
     go a (yes e) = cc (e, onRows-negate-at k A y, onRows-negate-at k (transpose B) x, signs (B x k) (A k y))
     go a (no d) = cc (onRows-negate-other k A a y d, onRows-negate-other k (transpose B) a x d)
-
--- and the same where the operation is on the columns
-pub mul-cancel-columns : (op : Operation) (n : ℕ) → Within n op → (B A : Matrix) (x y : ℕ) → mul n (onColumns op B) (onRows (inverse op) A) x y ≡ mul n B A x y
-mul-cancel-columns op n w B A x y =
-    ap (λ (o : Operation). mul n (onColumns o B) (onRows (inverse op) A) x y) (sym (inverse-inverse op))
-    ∙ mul-cancel-rows (inverse op) n (Within-inverse n op w) B A x y
 
 -- ---- undoing an operation on the same side
 

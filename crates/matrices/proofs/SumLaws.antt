@@ -1,5 +1,5 @@
 -- Laws of finite sums. Over the whole range: sum-ext, sum-zero, sum-add, sum-neg, sum-sub, sum-mul-left, sum-mul-right,
--- sum-swap, sum-split, sum-first. Sums that differ in one or two places: sum-single, sum-delta, sum-change, sum-pair.
+-- sum-swap, sum-split, sum-first. Sums that differ in one or two places: sum-single, sum-change, sum-pair.
 use mathlib.Core.Path.{_≡_, refl, sym, _∙_, ap}
 use mathlib.Core.Logic.{_≢_}
 use mathlib.Core.List.{[], _∷_}
@@ -83,11 +83,6 @@ sum-single (suc n) j f l h = go (ℕ-discrete j n) (λ l′. sum-single n j f l�
     go : Dec (j ≡ n) → (j < n → sum n f ≡ f j) → sum n f +ℤ f n ≡ f j
     go (yes e) r = cc (sum-zero n f (λ i k. h i (omega arith) (omega arith)), zero-add (f n), e)
     go (no d) r = cc (r (omega arith), h n (omega arith) (λ e. d (sym e)), add-zero (f j))
-
--- the sum of c at place j and zero elsewhere
-pub sum-delta : (n j : ℕ) (c : ℤ) → j < n → sum n (λ i. cond (eqb i j) c (pos 0)) ≡ c
-sum-delta n j c l =
-    sum-single n j (λ i. cond (eqb i j) c (pos 0)) l (λ i k d. rw (ne-eqb i j d)) ∙ rw (eq-eqb j j refl)
 
 -- f and g agree outside place j
 pub sum-change : (n j : ℕ) (f g : ℕ → ℤ) → j < n → ((i : ℕ) → i < n → i ≢ j → f i ≡ g i) → sum n f ≡ sum n g +ℤ (f j -ℤ g j)

@@ -1,25 +1,17 @@
--- Laws of a matrix times a vector: apply-ext, apply-mul, apply-identity, apply-null, apply-add, apply-sub, apply-neg, apply-scale,
--- apply-zero, apply-cancel (inverse matrices), apply-onRows, apply-onColumns. A vector counts as a matrix with equal columns,
+-- Laws of a matrix times a vector: apply-ext, apply-mul, apply-identity, apply-null, apply-add, apply-sub, apply-scale,
+-- apply-zero, apply-cancel (inverse matrices). A vector counts as a matrix with equal columns,
 -- so all of them are laws of the product.
-use mathlib.Core.Path.{_≡_, refl, sym}
+use mathlib.Core.Path.{_≡_, refl}
 use Prim.Native.Nat.{ℕ, _<_}
-use lib.IntN.{ℤ, pos, negℤ, _+ℤ_, _-ℤ_, _*ℤ_}
+use lib.IntN.{ℤ, pos, _+ℤ_, _-ℤ_, _*ℤ_}
 use Rattle.matrices.specs.Matrix.{Matrix, Eq, mul, identity, null}
 use Rattle.matrices.proofs.Product as Product
-use Rattle.matrices.specs.Operation.{Operation, onRows, onColumns, inverse}
-use Rattle.matrices.specs.Within.{Within}
-use Rattle.matrices.proofs.OperationLaws.{onRows-mul, mul-cancel-rows}
 use Rattle.matrices.proofs.Inverse.{mul-cancel-left}
 use Rattle.matrices.specs.Vector.{Vector, apply}
 
 -- x as a matrix whose columns are all x
 abbrev pub column : Vector → Matrix
 column x i j = x i
-
--- A times x is a column of A times the matrix of x
-pub apply-column : (n : ℕ) (A : Matrix) (x : Vector) (i j : ℕ) → apply n A x i ≡ mul n A (column x) i j
-unfolding apply mul
-apply-column n A x i j = refl
 
 pub apply-ext : (n : ℕ) (A B : Matrix) (x y : Vector) (i : ℕ) → ((k : ℕ) → k < n → A i k ≡ B i k) → ((k : ℕ) → k < n → x k ≡ y k) → apply n A x i ≡ apply n B y i
 unfolding apply mul
@@ -56,10 +48,6 @@ pub apply-sub : (n : ℕ) (A : Matrix) (x y : Vector) (i : ℕ) → apply n A (�
 unfolding apply mul
 apply-sub n A x y i = Product.mul-sub n A (column x) (column y) i 0
 
-pub apply-neg : (n : ℕ) (A : Matrix) (x : Vector) (i : ℕ) → apply n A (λ k. negℤ (x k)) i ≡ negℤ (apply n A x i)
-unfolding apply mul
-apply-neg n A x i = Product.mul-neg n A (column x) i 0
-
 pub apply-scale : (n : ℕ) (c : ℤ) (A : Matrix) (x : Vector) (i : ℕ) → apply n A (λ k. c *ℤ x k) i ≡ c *ℤ apply n A x i
 unfolding apply mul
 apply-scale n c A x i = Product.mul-scale-right n c A (column x) i 0
@@ -69,11 +57,3 @@ apply-scale n c A x i = Product.mul-scale-right n c A (column x) i 0
 pub apply-cancel : (n : ℕ) (X Y : Matrix) → Eq n n (mul n X Y) identity → (x : Vector) (i : ℕ) → i < n → apply n X (apply n Y x) i ≡ x i
 unfolding apply mul
 apply-cancel n X Y e x i l = mul-cancel-left n X Y e (column x) i 0 l
-
-pub apply-onRows : (op : Operation) (n : ℕ) (A : Matrix) (x : Vector) (i : ℕ) → apply n (onRows op A) x i ≡ onRows op (column (apply n A x)) i 0
-unfolding apply mul
-apply-onRows op n A x i = sym (onRows-mul op n A (column x) i 0)
-
-pub apply-onColumns : (op : Operation) (n : ℕ) → Within n op → (A : Matrix) (x : Vector) (i : ℕ) → apply n (onColumns (inverse op) A) (λ k. onRows op (column x) k 0) i ≡ apply n A x i
-unfolding apply mul
-apply-onColumns op n w A x i = mul-cancel-rows op n w A (column x) i 0

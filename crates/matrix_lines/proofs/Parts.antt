@@ -1,6 +1,6 @@
 -- Lines that are written part by part: after t places the next n. Main results: `lineSet-part` for a line that is set, `swapped-part` for two lines that
 -- are exchanged.
-use mathlib.Core.Path.{_≡_, sym, ap, subst, _∙_}
+use mathlib.Core.Path.{_≡_, ap, _∙_}
 use mathlib.Core.Logic.{_⊎_, inl, inr, ⊎-elim}
 use mathlib.Core.List.{List}
 use Prim.Native.Nat.{ℕ, _+_, _-_, _<_, _≤_}

@@ -20,7 +20,7 @@ use Rattle.sheet_format.specs.Check.{countField, offsetField, cellOf, cellsOf, 
 use Rattle.reduction_steps.specs.Table.{table, rowLargest, tableLargest, tableWithin}
 use Rattle.reduction_steps.specs.Lines.{onList, lineLess, onLines, onEntries}
 use Rattle.reduction_steps.specs.State.{largest, rowOperation, columnOperation, within, checked, andThen, onRow, onColumn}
-use Rattle.reduction_steps.specs.Pivot.{better, alongRow, downRows, release1, pivotRule}
+use Rattle.reduction_steps.specs.Pivot.{better, alongRow, downRows, release1}
 use Rattle.reduction_steps.specs.Step.{columnKeeps, rowKeeps, rowIndivisible, firstIndivisible, positive, bring, quotient, rowPass, columnPass, next, step, run, reduce}
 use Rattle.reports.specs.Reductions.{reduced, firstStart, product, secondStart, afterSecond, second, afterFirst, reductions}
 use Rattle.reports.specs.Report.{Counts, reported, columnsOf, torsionCount, halvings, bitsOf, reportList, coordinateAt, coordinateList}

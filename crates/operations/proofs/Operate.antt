@@ -1,8 +1,8 @@
 -- An operation on a side of the matrix: first the matrix, then the side's follower and its inverse companion. `wide-matrix` and `operated`
 -- tell what the answers make together: the operation, then the check of the limit. `companions-ready`: what the companions' call asks.
 use mathlib.Core.Path.{_≡_, refl, sym, ap, subst, _∙_}
-use mathlib.Core.Logic.{_⊎_, inl, inr, ⊎-elim}
-use mathlib.Core.Bool.{Bool, true}
+use mathlib.Core.Logic.{_⊎_, inl, inr}
+use mathlib.Core.Bool.{true}
 use mathlib.Core.List.{List}
 use Prim.Native.Nat.{ℕ, _+_, _≤_, _<_, max}
 use native.Mathlib.Nat as NatL
@@ -18,11 +18,10 @@ use Rattle.matrices.specs.Within.{Within, Within-inverse}
 use Rattle.reduction_steps.specs.Table.{Table, entry, table, tableLargest}
 use Rattle.reduction_steps.specs.State.{State, made, tooWide, largest, noted, within, checked}
 use Rattle.reduction_laws.specs.Tables.{entry-table, table-ext, Eq-table, tableLargest-table}
-use Rattle.integers.specs.Slot.{slot}
-use Rattle.matrix_lines.specs.Slice.{entryLimit, lineAt, Small, Under, Bounded, Covered}
+use Rattle.matrix_lines.specs.Slice.{entryLimit, lineAt, Under, Bounded, Covered}
 use Rattle.matrix_lines.specs.Matrices.{Held, contents, Entries, EntryOf, Exceeds, Became}
 use Rattle.elementary_operations.specs.Operations.{Fits, Writes, OnLines}
-use Rattle.matrix_lines.proofs.Peaks.{covered-trans, under-covered, small-bounded}
+use Rattle.matrix_lines.proofs.Peaks.{covered-trans, under-covered}
 use Rattle.reduction_laws.specs.Shape.{linesAnew}
 use Rattle.matrix_lines.specs.declared.matrix.Matrix.{Matrix}
 use Rattle.matrix_lines.specs.declared.line.Effect.{Effect}

@@ -17,7 +17,7 @@ use Rattle.matrix_lines.specs.Slice.{Under}
 use Rattle.matrix_lines.specs.Matrices.{Held, contents}
 use Rattle.matrix_lines.specs.declared.line.Effect.{Effect}
 use Rattle.matrix_lines.specs.declared.line.Effect.the-variants.{Done, TooWide}
-use Rattle.operations.specs.Laid.{Laid, sizesOf, linesOf, stateOf, outcomeOf, Wrote, Answered, Operated}
+use Rattle.operations.specs.Laid.{Laid, linesOf, stateOf, outcomeOf, Wrote, Answered, Operated}
 use Rattle.matrix_lines.proofs.Peaks.{under-covered}
 use Rattle.operations.specs.declared.workspace.Workspace.{Workspace}
 

@@ -15,7 +15,6 @@ use Rattle.refusal.specs.Number.{numberOf}
 use Rattle.lists.specs.Splice.{splices}
 use Rattle.lists.proofs.SplicesLaws.{splices-single}
 use Rattle.trials.specs.Trial.{firstRefusal, Called}
-use Rattle.reduction_steps.specs.State.{State}
 use Rattle.reports.specs.Report as reports
 use Rattle.reports.specs.Report.{kind, reported, torsionCount, reportList}
 use Rattle.reports.proofs.ReportLaws.{length-coordinateList}

@@ -12,7 +12,7 @@ use Rattle.host_calls.specs.Host.{reportRoom, workRoom}
 use Rattle.program_text.specs.Text.{dimensionsText}
 use Rattle.text.specs.Put.{PutsWithin}
 use Rattle.text.specs.Room.{dimensionRoom, textRoom}
-use Rattle.text.specs.PutLaws.{within-nothing, within-append, within-more, within-next}
+use Rattle.text.specs.PutLaws.{within-nothing, within-append, within-more}
 use Rattle.printer.proofs.Dimension.{textOf}
 
 -- the text of one dimension more stands behind the others
@@ -37,10 +37,6 @@ unfolding dimensionsText
 printed-none b out report work e h = record { most = zero-le; puts = within-nothing 0 out; out-size = refl; report-size = e; work-size = h }
 
 module _ {b out₀ : List ℕ} {report work : List ℤ} {out : List ℕ} {next p : ℕ} (h : Printed b out₀ report work out next p) where
-  -- there is room for the next dimension
-  pub printed-room : p ≤ top → textRoom ≤ length out₀ → next + dimensionRoom ≤ length out
-  printed-room le room = omega (arith, within-next (h .puts), h .out-size)
-
   pub printed-more : (report′ work′ : List ℤ) (out′ : List ℕ) (next′ : ℕ) → p ≤ top → PutsWithin dimensionRoom (textOf b p) next out next′ out′
       → length report′ ≡ length report → length work′ ≡ length work → length out′ ≡ length out → Printed b out₀ report′ work′ out′ next′ (p + 1)
   printed-more report′ work′ out′ next′ le puts re we oe =

@@ -1,8 +1,7 @@
 -- The program's text: of two reductions with orders, and of sheets of document 01 through both reductions.
 --     text-examples     every sheet of `textCases` gives its text; kinds 1, 2, 6 and free give their lines, and too wide gives `R 13`
 use mathlib.Core.Bool.{Bool}
-use Prim.Native.Nat.{ℕ}
-use mathlib.Core.List.{List, [], _∷_}
+use mathlib.Core.List.{[], _∷_}
 use mathlib.Core.Path.{_≡_, refl}
 use lib.Dec.{T, eqb, eqb→eq}
 use Rattle.integers.specs.Division.{floor, modulo, divides}

@@ -2,7 +2,7 @@
 --     with-early, with-wide, with-done        what it answers and leaves in each case
 --     with-number                             where it answers 0, nothing was refused and the reductions are done
 --     early-iff, early-narrow                 what passes the early checks of a request; they never tell 13
-use mathlib.Core.Path.{_≡_, refl, sym, _∙_}
+use mathlib.Core.Path.{_≡_, refl}
 use mathlib.Core.Logic.{_↔_, _≢_}
 use mathlib.Core.Bool.{Bool, true}
 use mathlib.Core.List.{List, _++_}
@@ -11,7 +11,7 @@ use native.Mathlib.Nat.{suc-ne-zero}
 use native.Mathlib.Omega.{arith}
 use lib.IntN.{ℤ}
 use Rattle.limits.specs.Limits.{coefficientLimit}
-use Rattle.trials.specs.Trial.{firstRefusal, Called, done, refused, numberTold, cleared, concluded}
+use Rattle.trials.specs.Trial.{firstRefusal, Called, done, refused, numberTold, cleared}
 use Rattle.trials.proofs.FirstLaws.{absent, absent-append, first-absent}
 use Rattle.reduction_steps.specs.State.{State}
 use Rattle.reports.specs.Reductions.{Reductions, tooWide, reduced}

@@ -24,7 +24,7 @@ use Rattle.reports.specs.ReductionsLaws.{reductions-done}
 use Rattle.reports.specs.Report.{countsOf, reported, coordinateList}
 use Rattle.requests.specs.Question.{Question, cells, cellCount, rule, two}
 use Rattle.requests.specs.Chains.{chainAt, chainChecks, cyclesChecks, chainsChecks, nonempty}
-use Rattle.requests.specs.Call.{coordinates, lists, listSlots, numbersOf, callChecks, earlyChecks, callWith, call}
+use Rattle.requests.specs.Call.{coordinates, lists, numbersOf, callChecks, earlyChecks, callWith, call}
 use Rattle.requests.proofs.ChainsLaws.{chains-zero, cycles-no-cells}
 use Rattle.requests.proofs.CallLaws.{early-iff}
 

@@ -8,7 +8,6 @@ use lib.Signed.{_≤ℤ_}
 use Rattle.lists.specs.Tabulate.{tabulate}
 use Rattle.lists.specs.Splice.{splice}
 use Rattle.reduction_steps.specs.Table.{entry}
-use Rattle.reduction_steps.specs.State.{State}
 use Rattle.reports.specs.Report as report
 use Rattle.reports.specs.Report.{countsOf, reportList, coordinateList}
 use Rattle.lists.specs.Splice.{written}
@@ -18,7 +17,7 @@ use Rattle.integers.specs.Slot.{slot}
 use Rattle.matrix_lines.specs.Slice.{Small}
 use Rattle.matrix_lines.specs.Matrices.{contents}
 use Rattle.matrix_lines.specs.declared.matrix.Matrix.{Matrix}
-use Rattle.operations.specs.Laid.{Laid, linesOf, stateOf}
+use Rattle.operations.specs.Laid.{Laid, linesOf}
 use Rattle.two_reductions.specs.Slices.{stateIn}
 use Rattle.two_reductions.specs.declared.reduced.Reduced.{Reduced}
 use Rattle.writers.specs.declared.counts.Counts.{Counts}

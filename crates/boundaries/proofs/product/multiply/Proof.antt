@@ -1,10 +1,9 @@
 -- `product::multiply` meets its contract. The invariant: the columns passed are those of the product, and the largest so far is that of their
 -- absolute values. The measure is how many are left.
-use mathlib.Core.Path.{_≡_, refl, sym, ap, subst, _∙_}
+use mathlib.Core.Path.{_≡_, refl, ap, subst, _∙_}
 use mathlib.Core.Logic.{_⊎_, inl, inr, ⊎-elim}
 use mathlib.Core.List.{List}
 use Prim.Native.Nat.{ℕ, suc, _+_, _-_, _<_, _≤_}
-use native.Mathlib.Nat as NatL
 use native.Mathlib.Omega.{arith}
 use lib.ListN.{length}
 use lib.IntN.{ℤ, natAbs}
@@ -14,7 +13,7 @@ use Rattle.complexes.specs.Boundary.{boundary}
 use Rattle.sheet_format.specs.Layout.{top}
 use Rattle.sheet_format.specs.Check.{sectionsOf}
 use Rattle.sheet_format.specs.SheetLaws.{count-sectionsOf, countField-below}
-use Rattle.matrix_lines.specs.Slice.{entryLimit, Small, Bounded, Covered, Under}
+use Rattle.matrix_lines.specs.Slice.{entryLimit, Small, Bounded, Covered}
 use Rattle.matrix_lines.specs.Matrices.{contents, end, everywhere, Holds, Exceeds}
 use Rattle.matrix_lines.specs.declared.matrix.Matrix.{Matrix}
 use Rattle.matrix_lines.specs.declared.line.Effect.{Effect}

@@ -1,7 +1,5 @@
 -- `apply::swap_places` meets its contract. The invariant: the lines passed have been changed. The measure is how many are left.
-use mathlib.Core.Path.{_≡_, _∙_}
 use Prim.Native.Nat.{ℕ, _+_, _-_, _<_}
-use native.Mathlib.Omega.{arith}
 use borrow.Author.Needs.{needs}
 use lib.ListN.{length}
 use Rattle.matrices.specs.Operation.{swap}

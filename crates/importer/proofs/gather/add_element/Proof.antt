@@ -4,7 +4,6 @@ use mathlib.Core.Path.{_≡_, sym, subst}
 use mathlib.Core.Bool.{Bool}
 use mathlib.Core.List.{List}
 use Prim.Native.Nat.{ℕ}
-use native.Mathlib.Omega.{arith}
 use denote.Ref.{now}
 use Rattle.mesh_elements.specs.Map.{inMap}
 use Rattle.mesh_elements.specs.Element.{Checks}

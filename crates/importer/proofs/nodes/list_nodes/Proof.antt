@@ -2,7 +2,6 @@
 use borrow.Author.Needs.{needs}
 use mathlib.Core.Path.{refl, _∙_}
 use Prim.Native.Nat.{_-_}
-use native.Mathlib.Omega.{arith}
 use denote.Ref.{now}
 use Rattle.mesh_format.proofs.ReadLaws.{nodeLines-repeats}
 use Rattle.mesh_format.proofs.WalkLaws.{walk-stop}

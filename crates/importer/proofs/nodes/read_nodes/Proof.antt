@@ -3,7 +3,6 @@ use borrow.Author.Needs.{needs}
 use mathlib.Core.Path.{_≡_, refl, sym, ap, _∙_, subst}
 use mathlib.Core.List.{List, _++_}
 use Prim.Native.Nat.{ℕ}
-use native.Mathlib.Omega.{arith}
 use denote.Ref.{now}
 use Rattle.mesh_format.specs.Words.{nodesName, ending}
 use Rattle.mesh_format.specs.Parse.{malformed, parsed, then, countLine, nodeLines, titleLine, nodesOf}

@@ -1,12 +1,12 @@
 -- `line::swap_entries` meets its contract.
-use mathlib.Core.Path.{_≡_, ap, _∙_}
-use Prim.Native.Nat.{ℕ, _+_, _<_, _≤_, max}
+use mathlib.Core.Path.{ap, _∙_}
+use Prim.Native.Nat.{ℕ, _≤_, max}
 use native.Mathlib.Omega.{arith}
 use borrow.Author.Needs.{needs}
-use lib.ListN.{length, length-set}
+use lib.ListN.{length-set}
 use lib.IntN.{ℤ, natAbs}
 use Rattle.integers.specs.Slot.{slot}
-use Rattle.matrix_lines.specs.Slice.{entryLimit, LinesSwapped}
+use Rattle.matrix_lines.specs.Slice.{entryLimit}
 use Rattle.matrix_lines.proofs.Casts.{widened-fits, widened-below, widened-size, same-of-bits}
 use Rattle.matrix_lines.proofs.Store.{RaisedTwice, raised-twice, swapped-same, exchanged}
 use Rattle.machine_words.specs.Read.{read-entry}

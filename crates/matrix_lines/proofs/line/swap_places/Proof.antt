@@ -2,13 +2,12 @@
 use mathlib.Core.Path.{_≡_, ap, subst, _∙_}
 use mathlib.Core.Logic.{_⊎_}
 use mathlib.Core.List.{List}
-use Prim.Native.Nat.{ℕ, _+_, _-_, _^_, _<_, _≤_, max}
+use Prim.Native.Nat.{ℕ, _+_, _-_, _<_, _≤_, max}
 use native.Mathlib.Omega.{arith}
 use native.Mathlib.Nat as NatL
 use borrow.Author.Needs.{needs}
 use lib.ListN.{length, set, length-set}
-use mir.Syntax.{w32, w64}
-use mir.Val.{SFits}
+use mir.Syntax.{w32}
 use lib.IntN.{ℤ, natAbs}
 use Rattle.integers.specs.Slot.{slot}
 use Rattle.matrix_lines.specs.Slice.{entryLimit, Apart, LinesSwapped}

@@ -1,7 +1,6 @@
 -- `check_element` meets its contract: each test tells one of the four faults, and where none is told the sorted nodes are the cell.
 use borrow.Author.Needs.{needs}
 use mathlib.Core.Path.{_≡_, subst}
-use native.Mathlib.Omega.{arith}
 use borrow.Author.Tests.{not-true, not-false}
 use denote.Ref.{now}
 use Rattle.mesh_elements.specs.Map.{inMap}

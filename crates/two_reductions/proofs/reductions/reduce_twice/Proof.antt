@@ -1,5 +1,5 @@
 -- `reductions::reduce_twice` meets its contract: the part of a slice of zeros is lent and comes back with zeros behind it (`Part`).
-use mathlib.Core.Path.{_≡_, refl, sym, subst, _∙_, ap}
+use mathlib.Core.Path.{_≡_, sym, subst, _∙_, ap}
 use mathlib.Core.List.{List, _++_}
 use Prim.Native.Nat.{ℕ, _-_, _≤_}
 use native.Mathlib.Nat.{le-of-eq}

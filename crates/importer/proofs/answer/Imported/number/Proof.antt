@@ -1,6 +1,5 @@
 -- `number` meets its contract, by the definition at each answer.
 use borrow.Author.Needs.{needs}
-use Rattle.trials.specs.Trial.{numberTold}
 use Rattle.importer.proofs.answer.Imported.number.Statement.{statement}
 use Rattle.importer.proofs.answer.Imported.number.Tie as tie
 
