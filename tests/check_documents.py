@@ -8,7 +8,7 @@ The figures of tests/reading.py in README.md, and in docs/DECISIONS.md where it 
 part, `a core of N lines` and `N lines in all`.
 The counts of edits, examples and claims are those of tests/counts.txt. A number below one that the file had in an earlier commit has a line in
 docs/DECISIONS.md with both: `` `edits` from 9 to 7``.
-Every edit is of a text that is there, and every test is run by tests/run.
+Every edit is of a text that is there, so is every weakening of tests/weaken.py, and every test is run by tests/run.
 """
 import re
 import subprocess
@@ -16,6 +16,7 @@ import sys
 
 from tables import Tables
 from tree_names import CRATES, ROOT, Names, file_of, read
+from weaken import stale
 
 DEMANDS = "docs/DEMANDS.md"
 TICKED = re.compile(r"`([^`\n]+)`")
@@ -185,11 +186,17 @@ def run_faults():
                 yield f"tests/run: {path.name} is not run"
 
 
+def weakening_faults():
+    """Texts that tests/weaken.py would replace and that are gone."""
+    for file, text in stale():
+        yield f"tests/weaken.py: {file} has no {text!r}"
+
+
 def main():
     """Exits with 1 where something differs."""
     history = earlier()
     names = Names()
-    faults = list(name_faults(names)) + list(path_faults(names)) + list(claim_faults()) + list(edit_faults()) + list(figure_faults()) + list(count_faults(history)) + list(run_faults())
+    faults = list(name_faults(names)) + list(path_faults(names)) + list(claim_faults()) + list(edit_faults()) + list(figure_faults()) + list(count_faults(history)) + list(run_faults()) + list(weakening_faults())
     for fault in faults:
         print(fault)
     print(f"{len(set(TICKED.findall(read(ROOT / DEMANDS))))} names, {counted()}, {len(history)} earlier counts, {len(faults)} faults")

@@ -51,7 +51,7 @@ LESS = [
     ("Sheets", "limit ≤ libraryLimit → (b : List ℕ) → Bytes b", "limit < libraryLimit → (b : List ℕ) → Bytes b"),
     ("Sheets", "limit ≤ libraryLimit → (b : List ℕ) (sheet", "limit < libraryLimit → (b : List ℕ) (sheet"),
     ("Calls", "j < counts .torsion + counts .free", "suc j < counts .torsion + counts .free"),
-    ("Calls", " i < number →", " suc i < number →"),
+    ("Calls", " i < many →", " suc i < many →"),
     ("Calls", "cellCount q ≤ length output′", "cellCount q < length output′"),
     ("Calls", "(q .dimension) ≤ length work′", "(q .dimension) < length work′"),
     ("Answers", "i < reportLength (cells q)", "suc i < reportLength (cells q)"),
@@ -103,7 +103,7 @@ LIBRARY = "crates/library_host/"
 # a contract that says less, and its proof: what is replaced in which files
 CONTRACTS = {
     "HostAnswers without its output": [
-        (HOST + "specs/Answer.antt", "pub is : called ≡ record { number = r; output = output }", "pub is : called .number ≡ r"),
+        (HOST + "specs/HostAnswers.antt", "pub is : called ≡ record { number = r; output = output }", "pub is : called .number ≡ r"),
         (HOST + "proofs/HostAnswering.antt", "Host.{hostEarly,", "Host.{HostCalled, hostEarly,"),
         (HOST + "proofs/HostAnswering.antt", "is = host-early q request output (λ z. absurd (omega (arith, number-positive x))) ∙ ap (λ (k : ℕ). record { number = k; output = output }) e;",
          "is = " + NUMBER + "host-early q request output (λ z. absurd (omega (arith, number-positive x))) ∙ ap (λ (k : ℕ). record { number = k; output = output }) e);"),
@@ -117,9 +117,9 @@ CONTRACTS = {
         (HOST + "proofs/Through.antt", "output = o }) (sym e′);", "output = o }) (sym e′));"),
     ],
     "LibraryAnswers without the work slice": [
-        (LIBRARY + "specs/Answer.antt", "told : Called Counts ℤ → ℕ × List ℤ × List ℤ", "told : Called Counts ℤ → ℕ × List ℤ"),
-        (LIBRARY + "specs/Answer.antt", "(numberTold (called .answer), called .output, called .work)", "(numberTold (called .answer), called .output)"),
-        (LIBRARY + "specs/Answer.antt", "told called ≡ (r, output, work)", "told called ≡ (r, output)"),
+        (LIBRARY + "specs/LibraryAnswers.antt", "told : Called Counts ℤ → ℕ × List ℤ × List ℤ", "told : Called Counts ℤ → ℕ × List ℤ"),
+        (LIBRARY + "specs/LibraryAnswers.antt", "(numberTold (called .answer), called .output, called .work)", "(numberTold (called .answer), called .output)"),
+        (LIBRARY + "specs/LibraryAnswers.antt", "told called ≡ (r, output, work)", "told called ≡ (r, output)"),
         (LIBRARY + "proofs/Told.antt", "(λ i. (sym e i, output, work))", "(λ i. (sym e i, output))"),
         (LIBRARY + "proofs/Told.antt", "called-told {output = output} {work = work} a e", "called-told {output = output} a e"),
     ],
@@ -336,6 +336,19 @@ def weakenings():
         yield "contract " + name, contract_edit(edits)
     for name in SHADOWS:
         yield "control %s" % name, shadow_edit(name, lambda body: body + "-- unchanged\n")
+
+
+def stale():
+    """The tables' texts that their files no longer have: (file, text)."""
+    for where, old, new in LESS:
+        files = ["crates/%s/specs/%s.antt" % (crate, module) for crate, module, names in SHADOWS.get(where, [])] or [SPECS + where + ".antt"]
+        if not any(old in read(os.path.join(ROOT, file)) for file in files):
+            yield files[0], old
+    for edits in CONTRACTS.values():
+        for file, old, new in edits:
+            path = os.path.join(ROOT, file)
+            if not os.path.exists(path) or old not in read(path):
+                yield file, old
 
 
 def main():
