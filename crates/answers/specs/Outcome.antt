@@ -41,9 +41,9 @@ pub record EndsAt (limit : ℕ) (q : Question) (s r : ℕ) (x : State) : Type 0 
 abbrev pub Ends : Question → ℕ → ℕ → State → Type 0
 Ends q s r x = EndsAt entryLimit q s r x
 
--- A call of the library at a count limit: refused with the first early check that applies, never 13, and every slice left alone; or refused 13, exactly where the
--- reductions go too wide, and the work slice reads 0; or done with the counts of their end, its lists written over the output and nothing else, and
--- the work slice reads 0.
+-- A call of the library at a count limit: refused with the first early check that applies, never 13, and every slice left alone; or refused 13,
+-- exactly where the reductions go too wide, and the work slice reads 0; or done with the counts of their end, its lists written over the output and
+-- nothing else, and the work slice reads 0.
 pub data Outcome (limit : ℕ) (q : Question) (request : Request) (output work : List ℤ) (called : Called Counts ℤ) : Type 0 where
   refused-early :
       (k : ℕ) → k ≢ 0 → k ≢ 13 → firstRefusal (earlyChecks limit q request (length output) (length work)) ≡ k →

@@ -1,4 +1,4 @@
-// The coordinate lists of width chains, from bytes to bytes, with room for one chain and one list: all chains are read and checked one at a time;
+// The coordinate lists of many chains, from bytes to bytes, with room for one chain and one list: all chains are read and checked one at a time;
 // after the reductions each is read again and answered.
 ghost use mathlib.Core.Path.{_≡_};
 ghost use Prim.Native.Nat.{_*_, _≤_};

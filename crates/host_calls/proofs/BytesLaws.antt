@@ -1,5 +1,5 @@
--- Numbers as bytes: numbersBytes-small, length-numberBytes, length-numbersBytes, numbersBytes-append. The numbers of 64 bits can be read back from the bytes:
--- signedOf-numberBytes, numberAt-numbersBytes, numberAt-same; so numberBytes-injective and numbersBytes-injective.
+-- Numbers as bytes: numbersBytes-small, length-numberBytes, length-numbersBytes, numbersBytes-append. The numbers of 64 bits can be read back from the
+-- bytes: signedOf-numberBytes, numberAt-numbersBytes, numberAt-same; so numberBytes-injective and numbersBytes-injective.
 use mathlib.Core.Path.{_≡_, refl, sym, _∙_, ap}
 use mathlib.Core.List.{List, [], _∷_, _++_, append-assoc, append-nil}
 use Prim.Native.Nat.{ℕ, zero, suc, _+_, _-_, _*_, _/_, _^_, _≤_, _<_}

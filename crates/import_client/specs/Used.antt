@@ -30,7 +30,3 @@ pub record Used (text before : List ℕ) (number : ℕ) (after : List ℕ) : Typ
 pub record LibraryUsed (text before : List ℕ) (r : Imported) (after : List ℕ) : Type 0 where
   pub length-told : text ≡ hollow → before ≡ lent 40 → answered r ≡ done 34
   pub used : Used text before (numberTold (answered r)) after
-
--- the host's import
-abbrev pub HostUsed : List ℕ → List ℕ → ℕ → List ℕ → Type 0
-HostUsed text before r after = Used text before r after

@@ -1,5 +1,5 @@
 // Clients of the import: each calls it and nothing else, and its contract says what the import's own contract gives on texts and slices written out.
-ghost use Rattle.import_client.specs.Used.{LibraryUsed, HostUsed};
+ghost use Rattle.import_client.specs.Used.{Used, LibraryUsed};
 use fildwuk::fildwuk_import;
 use importer::answer::Imported;
 use importer::import::import;
@@ -14,14 +14,14 @@ pub fn import_library(text: &[u8], sheet: &mut [u8]) -> Imported
 
 // The host's import.
 pub fn import_host(text: &[u8], sheet: &mut [u8]) -> u32
-    ensures { λ r. ⌜ HostUsed (now (text .entry)) (now (sheet .entry)) r (now (sheet .exit)) ⌝ }
+    ensures { λ r. ⌜ Used (now (text .entry)) (now (sheet .entry)) r (now (sheet .exit)) ⌝ }
 {
     fildwuk_import(text, sheet)
 }
 
 // The library's import for C.
 pub fn import_library_c(text: &[u8], sheet: &mut [u8]) -> u32
-    ensures { λ r. ⌜ HostUsed (now (text .entry)) (now (sheet .entry)) r (now (sheet .exit)) ⌝ }
+    ensures { λ r. ⌜ Used (now (text .entry)) (now (sheet .entry)) r (now (sheet .exit)) ⌝ }
 {
     fildwuk_library_import(text, sheet)
 }

@@ -1,5 +1,6 @@
--- What the sheet gives the two reductions and the calls: rows-none, rows-section and rows-before, the rows of a boundary matrix; cell-counts-read, the cell counts of a
--- dimension, and what follows from them; accepted-library, a sheet that is accepted at a lower limit is accepted at the library's; sheet-chains.
+-- What the sheet gives the two reductions and the calls: rows-none, rows-section and rows-before, the rows of a boundary matrix; cell-counts-read, the
+-- cell counts of a dimension, and what follows from them; accepted-library, a sheet that is accepted at a lower limit is accepted at the library's;
+-- sheet-chains.
 use mathlib.Core.Path.{_≡_, refl, sym, _∙_, ap}
 use mathlib.Core.Logic.{_≢_}
 use mathlib.Core.List.{List}

@@ -1,4 +1,4 @@
--- `coordinate_lists::write_bytes` meets its contract. The invariant: the lists of the chains passed are written. The measure is how width are left.
+-- `coordinate_lists::write_bytes` meets its contract. The invariant: the lists of the chains passed are written. The measure is how many are left.
 use mathlib.Core.Path.{_≡_, refl, sym, ap, ap₂, _∙_}
 use mathlib.Core.List.{List}
 use Prim.Native.Nat.{ℕ, _+_, _-_, _*_, _≤_}

@@ -1,4 +1,5 @@
--- `line::subtract` meets its contract. The invariant: the blocks passed hold the difference, with the largest that was written so far. The measure is what is left of the line.
+-- `line::subtract` meets its contract. The invariant: the blocks passed hold the difference, with the largest that was written so far. The measure is
+-- what is left of the line.
 use mathlib.Core.Path.{_≡_, subst, _∙_}
 use Prim.Native.Nat.{_+_, _-_, _≤_}
 use native.Mathlib.Omega.{arith}
