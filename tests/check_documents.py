@@ -39,12 +39,18 @@ TOTAL = re.compile(r"^in all: (\d+) lines", re.M)
 FALL = re.compile(r"`(\w+)` from (\d+) to (\d+)")
 
 
+def is_label(name, names):
+    """Whether a name has the form of an edit, a crate and a label."""
+    crate, _, label = name.partition("/")
+    return crate in names.crates and re.fullmatch(r"\w+", label) is not None
+
+
 def path_faults(names):
     """Files, edits and crates that the pages name and the repository does not have. NAME and the like stand for any name."""
     pages = [ROOT / "README.md", ROOT / "CONTRIBUTING.md"] + sorted((ROOT / "docs").glob("*.md"))
     for page in pages:
         text = read(page)
-        paths = {name for name in TICKED.findall(text) if PATH.fullmatch(name) and not PLACEHOLDER.search(name)}
+        paths = {name for name in TICKED.findall(text) if (PATH.fullmatch(name) or is_label(name, names)) and not PLACEHOLDER.search(name)}
         for name in sorted(paths):
             if not names.known(name) and not (ROOT / (name + ".c")).exists():
                 yield f"{page.relative_to(ROOT)}: there is no `{name}`"
