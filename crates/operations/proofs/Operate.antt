@@ -345,8 +345,13 @@ module _ (c : MatrixCalled) where
     }
 
     -- a companion goes too wide, or all is done
-    pub operated :
+    comes :
         {r : Effect} {w₃ : List ℤ} → Followed (follower (t .side) (t .workspace)) (undone (t .side) (t .workspace)) (t .operation) a (c .left) r w₃
         → Comes t r w₃
-    operated (Followed.stopped h) = wide-second (t .side) (t .operation) (t .workspace) (t .slice) (t .laid) (t .fits .within) (turned (Done a) e) h
-    operated (Followed.followed h r g) = ends (t .side) (t .operation) (t .workspace) (t .slice) (t .laid) (t .fits .within) (turned (Done a) e) h r g
+    comes (Followed.stopped h) = wide-second (t .side) (t .operation) (t .workspace) (t .slice) (t .laid) (t .fits .within) (turned (Done a) e) h
+    comes (Followed.followed h r g) = ends (t .side) (t .operation) (t .workspace) (t .slice) (t .laid) (t .fits .within) (turned (Done a) e) h r g
+
+    pub operated :
+        {r : Effect} {w₃ : List ℤ} (r′ : Effect) → r ≡ r′
+        → Followed (follower (t .side) (t .workspace)) (undone (t .side) (t .workspace)) (t .operation) a (c .left) r w₃ → Comes t r′ w₃
+    operated {w₃ = w₃} r′ same h = subst (λ (x : Effect). Comes t x w₃) same (comes h)

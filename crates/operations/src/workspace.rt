@@ -37,7 +37,10 @@ fn follow(follower: Matrix, inverse: Matrix, w: &mut [i32], op: Operation, befor
     let Effect::Done(first) = on_lines(follower, w, op, before) else {
         return Effect::TooWide;
     };
-    on_lines(inverse, w, undone, first)
+    let Effect::Done(second) = on_lines(inverse, w, undone, first) else {
+        return Effect::TooWide;
+    };
+    Effect::Done(second)
 }
 
 impl Workspace {
@@ -51,7 +54,10 @@ impl Workspace {
         let Effect::Done(first) = on_lines(self.matrix, w, op, 0) else {
             return Effect::TooWide;
         };
-        follow(self.row_follower, self.row_inverse, w, op, first)
+        let Effect::Done(second) = follow(self.row_follower, self.row_inverse, w, op, first) else {
+            return Effect::TooWide;
+        };
+        Effect::Done(second)
     }
 
     // The same on columns. Where column k is subtracted, its one nonzero entry stands in row k: the matrix changes in that row alone.
@@ -64,7 +70,11 @@ impl Workspace {
         let Effect::Done(first) = on_places(self.matrix, w, op, 0) else {
             return Effect::TooWide;
         };
-        follow(self.column_follower, self.column_inverse, w, op, first)
+        let Effect::Done(second) = follow(self.column_follower, self.column_inverse, w, op, first)
+        else {
+            return Effect::TooWide;
+        };
+        Effect::Done(second)
     }
 
     // Exchanges rows i and k. A row is not exchanged with itself.

@@ -2,6 +2,7 @@
 use mathlib.Core.Path.{_≡_, sym, subst, _∙_}
 use borrow.Author.Needs.{needs}
 use Prim.Native.Nat.{ℕ}
+use lib.ListN.{length}
 use Rattle.matrices.specs.Operation.{Operation, onRows, inverse}
 use Rattle.matrix_lines.specs.Matrices.{contents}
 use Rattle.elementary_operations.specs.Operations.{operationOf, Fits, Writes, OnLines}
@@ -68,18 +69,35 @@ on-lines-requires-2 c κs =
       (h .bounded, subst (λ (op : Operation). Fits (s .args .inverse .lines) op) (sym (undone (called (c .before)))) (s .pre .1 .1)),
     )
 
-same-length-2 : tie.Need-same-length-2
-same-length-2 c = let both = c .before in both .on-lines2 .kept .1 .0 ∙ called (both .before .before) .on-lines .kept .1 .0
-
 -- what the inverse companion came to
+followed : (c : tie.After-on-lines2) → let s = start (called (c .before .before)) in
+    (r : Effect) → c .on-lines2 .result ≡ r
+    → Followed (s .args .follower) (s .args .inverse) (operationOf (s .args .op)) (s .args .before) (s .args .w .now) r (c .on-lines2 .last .1 .0)
+followed c r e =
+    let told = c .before .before in let U = start (called told) .args .inverse in let w = called told .on-lines .last .1 .0 in
+    let w′ = c .on-lines2 .last .1 .0 in let before = first told in
+    Followed.followed (done told) r
+    (subst (λ (x : Effect). OnLines U w (inverse (operationOf (start (called told) .args .op))) before x w′) e
+    (subst (λ (op : Operation). OnLines U w op before (c .on-lines2 .result) w′) (undone (called told)) (c .on-lines2 .ensures)))
+
+module _ (c : tie.After-on-lines2) where
+  kept-length : let s = start (called (c .before .before)) in length (c .on-lines2 .last .1 .0) ≡ length (s .args .w .now)
+  kept-length = c .on-lines2 .kept .1 .0 ∙ called (c .before .before) .on-lines .kept .1 .0
+
+same-length-2 : tie.Need-same-length-2
+same-length-2 c = kept-length (c .before .before .before)
+
 returns-3 : tie.Need-returns-3
-returns-3 c =
-    let both = c .before in let told = both .before .before in let undid = both .on-lines2 in
-    Followed.followed (done told) (undid .result)
-    (subst (λ (op : Operation). OnLines (start (called told) .args .inverse) (called told .on-lines .last .1 .0) op (first told) (undid .result) (undid .last .1 .0))
-    (undone (called told)) (undid .ensures))
+returns-3 c = followed (c .before .before .before) TooWide (c .enum-told2 .given .1)
+
+same-length-3 : tie.Need-same-length-3
+same-length-3 c = kept-length (c .before .before .before .before)
+
+returns-4 : tie.Need-returns-4
+returns-4 c = followed (c .before .before .before .before) (Done (c .before .second .given .0 .0)) (c .before .second .given .1)
 
 pub follow-spec : {M : Type 1} → statement M
 follow-spec =
     tie.close
-    (tie.spec returns inverse-requires on-lines-requires (λ c. search needs) (λ c. search needs) same-length returns-2 on-lines-requires-2 same-length-2 returns-3)
+    (tie.spec returns inverse-requires on-lines-requires (λ c. search needs) (λ c. search needs) same-length returns-2 on-lines-requires-2
+    (λ c. search needs) (λ c. search needs) same-length-2 returns-3 same-length-3 returns-4)

@@ -2,6 +2,7 @@
 use mathlib.Core.Path.{_∙_}
 use borrow.Author.Needs.{needs}
 use Rattle.elementary_operations.specs.Operations.{operationOf}
+use Rattle.matrix_lines.specs.declared.line.Effect.the-variants.{Done, TooWide}
 use Rattle.matrix_lines.proofs.Peaks.{small-bounded}
 use Rattle.operations.proofs.Side.{rows, matrix-held}
 use Rattle.operations.proofs.Operate.{Task, MatrixCalled, wide-matrix, companions-ready, operated}
@@ -41,14 +42,28 @@ follow-requires c κs =
     ((ready .follower-held, ready .inverse-held, ready .bounded), (ready .follower-fits, ready .inverse-fits))
 
 same-length-2 : tie.Need-same-length-2
-same-length-2 c = let followed = c .before in followed .follow .kept .1 .1 .0 ∙ done (followed .before .before) .on-lines .kept .1 .0
+same-length-2 c =
+    let followed = c .before .before .before in
+    followed .follow .kept .1 .1 .0 ∙ done (followed .before .before) .on-lines .kept .1 .0
 
 returns-2 : tie.Need-returns-2
 returns-2 c =
-    let followed = c .before in let told = followed .before .before in
-    operated (matrix (done told)) (told .before .first .given .1) (followed .follow .ensures)
+    let followed = c .before .before .before in let told = followed .before .before in
+    operated (matrix (done told)) (told .before .first .given .1) TooWide (c .enum-told2 .given .1) (followed .follow .ensures)
+
+same-length-3 : tie.Need-same-length-3
+same-length-3 c =
+    let followed = c .before .before .before .before in
+    followed .follow .kept .1 .1 .0 ∙ done (followed .before .before) .on-lines .kept .1 .0
+
+returns-3 : tie.Need-returns-3
+returns-3 c =
+    let followed = c .before .before .before .before in let told = followed .before .before in
+    let second = c .before .second .given in
+    operated (matrix (done told)) (told .before .first .given .1) (Done (second .0 .0)) (second .1) (followed .follow .ensures)
 
 pub on-rows-spec : {M : Type 1} → statement M
 on-rows-spec =
     tie.close
-    (tie.spec on-lines-requires (λ c. search needs) (λ c. search needs) same-length returns follow-requires same-length-2 returns-2)
+    (tie.spec on-lines-requires (λ c. search needs) (λ c. search needs) same-length returns follow-requires (λ c. search needs) (λ c. search needs) same-length-2
+    returns-2 same-length-3 returns-3)
