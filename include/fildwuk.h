@@ -5,14 +5,15 @@
  * library, libfildwuk.so. Both have the calls of both headers, and need nothing but memcpy and memset.
  *
  * Every pointer is lent for the time of the call and not kept. A call reads `text`, `sheet` and `chain` or `chains`, and writes nothing but its
- * output: the report, the coordinates, or the sheet of an import. The output must not overlap what the call reads, and nobody else may write to any
- * of them while the call runs. A pointer may be null where its length is 0. The calls keep no state: they may run at the same time on several
+ * output: the report, the coordinates, the surface, or the sheet of an import. The output must not overlap what the call reads, and nobody else may
+ * write to any of them while the call runs. A pointer may be null where its length is 0. The calls keep no state: they may run at the same time on several
  * threads, each with its own output. They always return.
  *
  * Each call has its own work arrays on the caller's stack. 256 KiB of stack are enough for any sheet or text: how deep the calls go is bounded by
  * proof, whatever they are given, and with the frames of the library as built they take about 60 KiB. docs/SOLVER.md, "Stack", has the figures.
  *
- * Numbers stand in bytes, low byte first: 4 bytes for a coefficient of a chain, 8 for a number of a report and for a coordinate, all signed.
+ * Numbers stand in bytes, low byte first: 4 bytes for a coefficient of a given chain, 8 for a number of a report, for a coordinate and for a
+ * coefficient of a surface, all signed.
  *
  * Cells and coefficients. The cells of a dimension stand in the sheet in rising order, by their first vertex, then the next. A chain has one
  * coefficient for each cell of its dimension, in that order, and so has a generator of a report. A cell with the vertices v0 < v1 < .. < vp is
@@ -33,16 +34,17 @@ extern "C" {
 
 /* The release. docs/RELEASES.md names its pivot rule. */
 #define FILDWUK_VERSION_MAJOR 1
-#define FILDWUK_VERSION_MINOR 6
-#define FILDWUK_VERSION "1.6"
+#define FILDWUK_VERSION_MINOR 7
+#define FILDWUK_VERSION "1.7"
 
 /* What a call answers; fildwuk_answer_text has it in words. A refusal leaves the output untouched.
  *
  * The order of trial: 1 to 10 in the order of their numbers, each over the whole sheet before the next; then 11 and 12 chain by chain, in each chain
- * 11 before 12; then 13, while the reduction runs. In an import 14 over the whole text, then 15 over all elements, then 16. The calls on a sheet
- * tell 1 to 13, of which the reports have no 10 to 12; the imports tell 14 to 16 and no other.
+ * 11 before 12; then 13, while the reduction runs; then 17, in the surface calls alone. In an import 14 over the whole text, then 15 over all
+ * elements, then 16. The calls on a sheet tell 1 to 13 and 17, of which the reports have no 10 to 12; the imports tell 14 to 16 and no other.
  *
- * 13 says that this dimension of this sheet has no report under this release, and nothing against the sheet. The other dimensions may be done.
+ * 13 says that this dimension of this sheet has no report under this release, and nothing against the sheet. The other dimensions may be done. The
+ * surface calls keep one matrix more, so that 13 may be told there where the report and the coordinates of the same dimension are done.
  * What to do: ask for regions that do not touch apart, since orders without a common divisor are read as their product when they stand in one sheet;
  * or number the nodes otherwise, since how wide a reduction goes depends on the order of the cells. Both were seen to help; neither always does: an
  * order beyond 1048575 is refused under every numbering.
@@ -62,12 +64,13 @@ enum fildwuk_answer {
     FILDWUK_DIMENSION_EXCEEDS_TOP = 8, /* the dimension exceeds 3 */
     FILDWUK_SLICE_TOO_SHORT = 9,       /* the output is too short, or the work slice of a library's call */
     FILDWUK_CHAIN_LENGTH_DIFFERS = 10, /* the chain has other than n coefficients, or the chains have other than number * n */
-    FILDWUK_COEFFICIENT_EXCEEDS = 11,  /* a coefficient lies outside -32767 to 32767 */
+    FILDWUK_COEFFICIENT_EXCEEDS = 11,  /* a coefficient lies outside -32767 to 32767, in the surface calls outside -15 to 15 */
     FILDWUK_BOUNDARY_NOT_ZERO = 12,    /* a chain is no cycle */
     FILDWUK_TOO_WIDE = 13,             /* the reduction makes an entry beyond 1048575 */
     FILDWUK_MESH_MALFORMED = 14,       /* the text is no MSH 2.2 ASCII of the form that is read, or a node number exceeds 65535 */
     FILDWUK_ELEMENT_FAULTY = 15,       /* an element has another kind, another number of nodes than its kind, an unlisted node or a node twice */
-    FILDWUK_SHEET_TOO_LONG = 16        /* a count of the sheet would exceed its limit, or the slice for the sheet is too short */
+    FILDWUK_SHEET_TOO_LONG = 16,       /* a count of the sheet would exceed its limit, or the slice for the sheet is too short */
+    FILDWUK_BOUNDS_NOTHING = 17        /* the cycle is the boundary of no chain with whole coefficients */
 };
 
 /* The most cells that a dimension may have. */
@@ -77,6 +80,14 @@ enum fildwuk_answer {
 #define FILDWUK_REPORT_BYTES(n) (8 * (2 + (size_t)(n) + (size_t)(n) * (size_t)(n)))
 #define FILDWUK_COORDINATE_BYTES(n) (8 * (size_t)(n))
 #define FILDWUK_CHAIN_BYTES(n) (4 * (size_t)(n))
+
+/* The bytes to lend for the surface of a cycle, where the next dimension has `above` cells: fildwuk_cell_count(sheet, dimension + 1). With `above` =
+ * FILDWUK_CELLS they are enough for every sheet. */
+#define FILDWUK_SURFACE_BYTES(above) (8 * (size_t)(above))
+
+/* The largest absolute value of a coefficient in a given chain, and in one given to a surface call. */
+#define FILDWUK_COEFFICIENT_MOST 32767
+#define FILDWUK_SURFACE_COEFFICIENT_MOST 15
 
 /* The bytes to lend for `number` chains of n coefficients each, and for their coordinate lists. */
 #define FILDWUK_CHAINS_BYTES(number, n) ((size_t)(number) * FILDWUK_CHAIN_BYTES(n))
@@ -107,6 +118,16 @@ uint32_t fildwuk_coordinates(const uint8_t *sheet, size_t sheet_len, uint32_t di
 uint32_t fildwuk_coordinate_lists(const uint8_t *sheet, size_t sheet_len, uint32_t dimension, uint32_t number, const uint8_t *chains,
                                   size_t chains_len, uint8_t *coordinates, size_t coordinates_len);
 
+/* The surface that a cycle bounds: a chain of the next dimension, one coefficient for each of its cells, whose boundary is the given chain exactly.
+ * In dimension 1 the cycle is a loop and the chain a sum of triangles; in dimension 0 it is a sum of edges, in dimension 2 one of tetrahedra. There
+ * may be others: any two differ by a cycle. Where there is none, the answer is 17, exactly then: where some coordinate of the cycle is not 0. In
+ * dimension 3 only the chain of zeros bounds.
+ *
+ * The chain has exactly FILDWUK_CHAIN_BYTES(n) bytes and coefficients within FILDWUK_SURFACE_COEFFICIENT_MOST. `surface_len` must be at least
+ * FILDWUK_SURFACE_BYTES(above), where the next dimension has `above` cells. Bytes past the surface stay as they were. */
+uint32_t fildwuk_surface(const uint8_t *sheet, size_t sheet_len, uint32_t dimension, const uint8_t *chain, size_t chain_len, uint8_t *surface,
+                         size_t surface_len);
+
 /* Reads a mesh text, MSH 2.2 ASCII, and writes the sheet of all its cells and their faces: exactly the vertex sets of the elements (points, lines,
  * triangles, tetrahedra) and their nonempty subsets. The other calls accept that sheet. Vertex numbers are the node numbers of the text.
  * docs/FORMAT.md, "The mesh text", has the form. The text may have any length, and the time is in proportion to it. Bytes past the sheet stay as they
@@ -128,17 +149,18 @@ static inline const char *fildwuk_answer_text(uint32_t answer)
     case FILDWUK_DIMENSION_EXCEEDS_TOP: return "the dimension exceeds 3";
     case FILDWUK_SLICE_TOO_SHORT: return "a slice lent for the output or the work is too short";
     case FILDWUK_CHAIN_LENGTH_DIFFERS: return "a chain does not have one coefficient for each cell";
-    case FILDWUK_COEFFICIENT_EXCEEDS: return "a coefficient lies outside -32767 to 32767";
+    case FILDWUK_COEFFICIENT_EXCEEDS: return "a coefficient lies outside -32767 to 32767, in a surface call outside -15 to 15";
     case FILDWUK_BOUNDARY_NOT_ZERO: return "a chain is no cycle";
     case FILDWUK_TOO_WIDE: return "the reduction makes an entry beyond 1048575";
     case FILDWUK_MESH_MALFORMED: return "the text is no MSH 2.2 ASCII of the form that is read, or a node number exceeds 65535";
     case FILDWUK_ELEMENT_FAULTY: return "an element has another kind, another number of nodes than its kind, an unlisted node or a node twice";
     case FILDWUK_SHEET_TOO_LONG: return "a count of cells would exceed the limit, or the slice lent for the sheet is too short";
+    case FILDWUK_BOUNDS_NOTHING: return "the cycle is the boundary of no chain with whole coefficients";
     default: return "no answer of this release";
     }
 }
 
-/* Number i of a report or of coordinates. */
+/* Number i of a report, of coordinates or of a surface. */
 static inline int64_t fildwuk_get_number(const uint8_t *bytes, size_t i)
 {
     uint64_t bits = 0;

@@ -1,8 +1,8 @@
 /* Fildwuk: the library's calls for C, which take sheets with up to 256 cells in a dimension. Those of fildwuk.h take 48 and have work arrays of their
  * own; a caller of these lends a work slice too.
  *
- * Slices are of numbers as the machine has them, aligned as their type asks: a coefficient is an int32_t, a number of a report or of coordinates an
- * int64_t. A length counts the elements of its slice; for a sheet and a text these are bytes.
+ * Slices are of numbers as the machine has them, aligned as their type asks: a coefficient of a given chain is an int32_t, a number of a report, of
+ * coordinates or of a surface an int64_t. A length counts the elements of its slice; for a sheet and a text these are bytes.
  *
  * Who owns what: the caller owns every slice and lends it for the time of the call; a call keeps none. A call reads `sheet`, `chain` or `chains` and
  * `text`, and writes its output and `work` alone. What it writes must overlap nothing else that it is lent, and nobody else may use it while the call
@@ -11,9 +11,9 @@
  *
  * What is left in the slices:
  *
- *   answer                 output (report, coordinates, sheet)              work          peak and bits
+ *   answer                 output (report, coordinates, surface, sheet)     work          peak and bits
  *   0, done                what is written, then what was there before      all zeros     written
- *   13                     as it was                                        all zeros     as they were
+ *   13, 17                 as it was                                        all zeros     as they were
  *   any other refusal      as it was                                        as it was     as they were
  *
  * The work slice may hold anything before the call: what it holds does not change the answer. Slices may be longer than asked for: the work slice
@@ -49,6 +49,13 @@ extern "C" {
     ((size_t)(n) * (2 * (size_t)(n) + ((size_t)(below) > (size_t)(above) ? (size_t)(below) : (size_t)(above))))
 #define FILDWUK_LIBRARY_WORK_SLOTS_MOST FILDWUK_LIBRARY_WORK_SLOTS(FILDWUK_LIBRARY_CELLS, FILDWUK_LIBRARY_CELLS, FILDWUK_LIBRARY_CELLS)
 
+/* The slots to lend for the surface of a cycle, 8 bytes each, and the slots of the work slice of that call: `above` * `above` more than of the others.
+ * The most that any sheet asks for, 262,144, are 1 MiB. */
+#define FILDWUK_LIBRARY_SURFACE_SLOTS(above) ((size_t)(above))
+#define FILDWUK_LIBRARY_SURFACE_WORK_SLOTS(n, below, above) (FILDWUK_LIBRARY_WORK_SLOTS(n, below, above) + (size_t)(above) * (size_t)(above))
+#define FILDWUK_LIBRARY_SURFACE_WORK_SLOTS_MOST \
+    FILDWUK_LIBRARY_SURFACE_WORK_SLOTS(FILDWUK_LIBRARY_CELLS, FILDWUK_LIBRARY_CELLS, FILDWUK_LIBRARY_CELLS)
+
 /* The bytes to lend for the sheet of an import: enough for every sheet that the calls accept. */
 #define FILDWUK_LIBRARY_SHEET_BYTES (16 + 2 * (1 + 2 + 3 + 4) * (size_t)FILDWUK_LIBRARY_CELLS)
 
@@ -74,6 +81,12 @@ uint32_t fildwuk_library_coordinates(const uint8_t *sheet, size_t sheet_len, uin
  * i * n, its first t + b slots get the coordinates of chain i, its other slots stay as they were. */
 uint32_t fildwuk_library_coordinate_lists(const uint8_t *sheet, size_t sheet_len, uint32_t dimension, size_t number, const int32_t *chains,
                                           size_t chains_len, int64_t *coordinates, size_t coordinates_len, int32_t *work, size_t work_len);
+
+/* The surface that a cycle bounds: a chain of the next dimension whose boundary is the given chain exactly, as fildwuk_surface has it. `chain_len` must
+ * be n, with coefficients within FILDWUK_SURFACE_COEFFICIENT_MOST, `surface_len` at least FILDWUK_LIBRARY_SURFACE_SLOTS(above) and `work_len` at least
+ * FILDWUK_LIBRARY_SURFACE_WORK_SLOTS(n, below, above). */
+uint32_t fildwuk_library_surface(const uint8_t *sheet, size_t sheet_len, uint32_t dimension, const int32_t *chain, size_t chain_len, int64_t *surface,
+                                 size_t surface_len, int32_t *work, size_t work_len);
 
 /* Reads a mesh text and writes its sheet, as fildwuk_import does, with up to FILDWUK_LIBRARY_CELLS cells in a dimension. No work slice is lent. */
 uint32_t fildwuk_library_import(const uint8_t *text, size_t text_len, uint8_t *sheet, size_t sheet_len);
