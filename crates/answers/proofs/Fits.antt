@@ -50,7 +50,7 @@ module _ {bound : ℕ} where
   bounded-map f h [] = bounded-nil
   bounded-map f h (i ∷ l) = bounded-cons (f i) (map f l) (h i) (bounded-map f h l)
 
-  bounded-tabulate : (n : ℕ) (f : ℕ → ℤ) → ((i : ℕ) → natAbs (f i) ≤ bound) → Bounded bound (tabulate n f)
+  pub bounded-tabulate : (n : ℕ) (f : ℕ → ℤ) → ((i : ℕ) → natAbs (f i) ≤ bound) → Bounded bound (tabulate n f)
   unfolding tabulate
   bounded-tabulate zero f h = bounded-nil
   bounded-tabulate (suc n) f h = bounded-cons (f 0) (tabulate n (λ i. f (suc i))) (h 0) (bounded-tabulate n (λ i. f (suc i)) (λ i. h (suc i)))
@@ -62,7 +62,7 @@ module _ {bound : ℕ} where
       bounded-append (tabulate n (λ j. entry G i j)) (columnsOf G n l) (bounded-tabulate n (λ j. entry G i j) (h i)) (bounded-columns G n h l)
 
 -- a number within 2 ^ 62 fits 64 bits
-small-word : {bound : ℕ} (x : ℤ) → natAbs x ≤ bound → bound ≤ 4611686018427387904 → Word x
+pub small-word : {bound : ℕ} (x : ℤ) → natAbs x ≤ bound → bound ≤ 4611686018427387904 → Word x
 small-word (pos n) h k = record { within = omega arith }
 small-word (negsuc n) h k = record { within = omega arith }
 
@@ -89,18 +89,20 @@ module _ {K : Sections} {p s r : ℕ} {x : State} (R : Right K p s r x) (within-
 
   -- ---- the coordinates of a chain with small coefficients
 
+  -- a row of Q times a chain
+  pub row-small : (coefficient : ℕ) (z : List ℤ) → ((i : ℕ) → natAbs (slot z i) ≤ coefficient) → (i : ℕ)
+      → natAbs (apply (count K p) (entry (x .rowFollower)) (slot z) i) ≤ libraryLimit * (entryLimit * coefficient)
+  unfolding apply
+  row-small coefficient z small i =
+      le-trans
+      (natAbs-sum (count K p) (λ j. entry (x .rowFollower) i j *ℤ slot z j) (entryLimit * coefficient) (λ j l.
+      rw (natAbs-mul (entry (x .rowFollower) i j) (slot z j))
+      (mul-le-mul (table-small (x .rowFollower) (within-iff entryLimit x .0 within-limit .rowFollower) i j) (small j))))
+      (mul-le-mul-right (entryLimit * coefficient) few)
+
   module _ (z : List ℤ) (small : (i : ℕ) → natAbs (slot z i) ≤ coefficientLimit) where
     abbrev most : ℕ
     most = libraryLimit * (entryLimit * coefficientLimit)
-
-    row-small : (i : ℕ) → natAbs (apply (count K p) (entry (x .rowFollower)) (slot z) i) ≤ most
-    unfolding apply
-    row-small i =
-        le-trans
-        (natAbs-sum (count K p) (λ j. entry (x .rowFollower) i j *ℤ slot z j) (entryLimit * coefficientLimit) (λ j l.
-        rw (natAbs-mul (entry (x .rowFollower) i j) (slot z j))
-        (mul-le-mul (table-small (x .rowFollower) (within-iff entryLimit x .0 within-limit .rowFollower) i j) (small j))))
-        (mul-le-mul-right (entryLimit * coefficientLimit) few)
 
     residue-small : (a d : ℤ) → pos 0 ≤ℤ d → natAbs d ≤ entryLimit → natAbs a ≤ most → natAbs (residue a d) ≤ most
     residue-small a (pos zero) h k l = rw (residue-zero a) l
@@ -110,7 +112,7 @@ module _ {K : Sections} {p s r : ℕ} {x : State} (R : Right K p s r x) (within-
     coordinate-small : (i : ℕ) → natAbs (coordinateAt (count K p) x z i) ≤ most
     unfolding coordinateAt
     coordinate-small i =
-        residue-small (apply (count K p) (entry (x .rowFollower)) (slot z) i) (kind x i) (R .reduced .second .nonneg i) (kind-small i) (row-small i)
+        residue-small (apply (count K p) (entry (x .rowFollower)) (slot z) i) (kind x i) (R .reduced .second .nonneg i) (kind-small i) (row-small coefficientLimit z small i)
 
     pub coordinates-word : (i : ℕ) → Word (slot (coordinateList (count K p) s x z) i)
     unfolding coordinateList

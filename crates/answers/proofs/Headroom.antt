@@ -3,8 +3,8 @@
 -- entries where there are no cells; `Bare`: none has.
 use mathlib.Core.Path.{_≡_, sym, _∙_, ap, subst}
 use mathlib.Core.Logic.{_↔_}
-use mathlib.Core.Bool.{true}
-use Prim.Native.Nat.{ℕ, _≤_, _<_}
+use mathlib.Core.Bool.{Bool, true}
+use Prim.Native.Nat.{ℕ, suc, _≤_, _<_}
 use native.Mathlib.Nat.{le-refl}
 use native.Mathlib.Omega.{arith}
 use native.Mathlib.Decide.{decLt}
@@ -22,7 +22,7 @@ use Rattle.reduction_laws.specs.Moves.{Moves, moves-keep}
 use Rattle.reduction_laws.proofs.SmithForm as machine
 use Rattle.reduction_laws.proofs.Peaks.{largest-le, peak-row, peak-column, covered-moves, peak-rises, peak-within}
 use Rattle.reports.specs.ReductionsLaws.{first-peak, second-peak, BothDone, reductions-done}
-use Rattle.reports.specs.Reductions.{Transforms, noTransforms, firstSizes, firstStart, secondSizes, secondStart, reduced, reductions}
+use Rattle.reports.specs.Reductions.{Transforms, secondColumnsOnly, firstSizes, firstStart, secondSizes, secondStart, reduced, reductions}
 use Rattle.answers.proofs.Starts.{first-shaped, first-within, second-shaped, second-within}
 use Rattle.answers.proofs.TwoReductions.{first-smith, second-smith}
 
@@ -80,8 +80,9 @@ pub record Bare (t : Transforms) (K : Sections) (p : ℕ) : Type 0 where
   pub first : count K p ≡ 0 → Empty (firstSizes t K p)
   pub second : (r : ℕ) → count K p ≡ 0 → Empty (secondSizes t K p r)
 
-pub no-transforms-bare : (K : Sections) (p : ℕ) → Bare noTransforms K p
-no-transforms-bare K p = record {
+-- so it is with the transform of the columns of the second, where a dimension without cells is followed by none
+pub second-columns-bare : {K : Sections} {p : ℕ} → (count K p ≡ 0 → count K (suc p) ≡ 0) → (kept : Bool) → Bare (secondColumnsOnly kept) K p
+second-columns-bare {K} {p} none kept = record {
   first = λ h. record {
     matrix = λ i j a c. omega (arith, h);
     rowFollower = λ i j a c. omega arith;
@@ -93,7 +94,7 @@ no-transforms-bare K p = record {
     matrix = λ i j a c. omega (arith, h);
     rowFollower = λ i j a c. omega (arith, h);
     rowInverse = λ i j a c. omega (arith, h);
-    columnFollower = λ i j a c. omega arith;
+    columnFollower = λ i j a c. omega (arith, none h);
     columnInverse = λ i j a c. omega arith;
   };
 }

@@ -11,23 +11,23 @@ use lib.IntN.{ℤ}
 use Rattle.limits.specs.Limits.{hostLimit}
 use Rattle.lists.specs.Splice.{splices}
 use Rattle.lists.proofs.SplicesLaws.{Fit, length-splices, splices-in, splices-between, splices-past, splices-each}
-use Rattle.trials.specs.Trial.{firstRefusal, done, numberTold, Called}
+use Rattle.trials.specs.Trial.{firstRefusal, done, numberTold, Called, concluded}
 use Rattle.sheet_format.specs.Sheet.{Bytes}
 use Rattle.reduction_steps.specs.State.{State}
 use Rattle.reports.specs.Reductions.{Reductions, tooWide, reduced}
 use Rattle.reports.specs.Report.{Counts, freeRank, torsionCount, countsOf}
 use Rattle.requests.specs.Question.{Question, cells, two}
-use Rattle.requests.specs.Call.{Request, listCount, listSlots, numbersOf, workSlots, earlyChecks, callWith, call}
-use Rattle.requests.proofs.CallLaws.{early-iff}
+use Rattle.requests.specs.Call.{Request, transformsOf, listCount, listSlots, numbersOf, endChecks, workSlotsFor, earlyChecks, callWith, call}
+use Rattle.requests.proofs.CallLaws.{Ending, early-iff}
 use Rattle.host_calls.specs.Bytes.{numbersBytes, numberAt}
 use Rattle.host_calls.proofs.BytesLaws.{numbersBytes-small, length-numbersBytes, numberAt-numbersBytes, numberAt-same}
 use Rattle.host_calls.specs.Host.{HostCalled, slotsIn, hostEarly, bytesLeft, hostAnswer, hostCall}
 use Rattle.host_calls.proofs.HostCallLaws.{host-done, host-number, early-same}
 use Rattle.integers.specs.Slot.{slot}
 use Rattle.answers.specs.Outcome.{listWidth, Carries}
-use Rattle.answers.proofs.Behind.{Behind, early-chains, behind, same-behind}
+use Rattle.answers.proofs.Behind.{Behind, same-behind}
 use Rattle.answers.proofs.ListLaws.{numbers-width, width-fits, numbers-word}
-use Rattle.answers.proofs.CallRight.{Answered, done-number, answered, counts-behind, list-reads}
+use Rattle.answers.proofs.CallRight.{Answered, answered-by, done-number, answered, counts-behind, list-reads}
 
 module _ (q : Question) (request : Request) (output : List ℕ) (bytes : Bytes (q .sheet)) where
   abbrev host : HostCalled
@@ -35,30 +35,28 @@ module _ (q : Question) (request : Request) (output : List ℕ) (bytes : Bytes (
 
   pub host-left : host .number ≢ 0 → host .output ≡ output
   unfolding hostCall
-  host-left d = go (hostEarly q request output) (two q) d
+  host-left d = go (hostEarly q request output) (two q (transformsOf request)) d
     where
       answer : ℕ → Reductions → HostCalled
-      answer k R = hostAnswer (callWith k R (bytesLeft q request output) output [])
+      answer k R = hostAnswer (callWith k (endChecks q request) R (bytesLeft q request output) output [])
+
+      at-end : (s r : ℕ) (x : State) (n : ℕ)
+          → numberTold (concluded {B = ℕ} 0 n (countsOf s r x) (bytesLeft q request output s r x) output [] .answer) ≢ 0
+          → concluded 0 n (countsOf s r x) (bytesLeft q request output s r x) output [] .output ≡ output
+      at-end s r x zero d = absurd (d refl)
+      at-end s r x (suc n) d = refl
 
       go : (k : ℕ) (R : Reductions) → answer k R .number ≢ 0 → answer k R .output ≡ output
       go (suc k) R d = refl
       go zero tooWide d = refl
-      go zero (reduced s r x) d = absurd (d refl)
+      go zero (reduced s r x) d = at-end s r x (firstRefusal (endChecks q request s r x)) d
 
   module _ (e : host .number ≡ 0) where
-    pub host-answered : Answered hostLimit q request (slotsIn output) (workSlots (cells q) (q .dimension))
+    pub host-answered : Answered hostLimit q request (slotsIn output) (workSlotsFor (transformsOf request) (cells q) (q .dimension))
     host-answered =
-        let d = host-number q request output e in
-        let both = early-iff hostLimit q request (slotsIn output) (workSlots (cells q) (q .dimension)) .0 (d .passes) in
-        let complex = early-chains hostLimit q request (slotsIn output) (workSlots (cells q) (q .dimension)) bytes (d .passes) in
-        record {
-          passed = both .0;
-          request-passed = both .1;
-          complex = complex;
-          reductions-behind = behind q complex (d .rows) (d .rank) (d .state) (d .reductions);
-        }
+        answered-by hostLimit q request (slotsIn output) (workSlotsFor (transformsOf request) (cells q) (q .dimension)) bytes (host-number q request output e)
 
-    abbrev B : Behind q
+    abbrev B : Behind q (transformsOf request)
     B = host-answered .reductions-behind
 
     abbrev width : ℕ
@@ -74,8 +72,8 @@ module _ (q : Question) (request : Request) (output : List ℕ) (bytes : Bytes (
     output-is =
         ap (λ (c : HostCalled). c .output)
         (host-done q request output
-        (early-iff hostLimit q request (slotsIn output) (workSlots (cells q) (q .dimension)) .1 (host-answered .passed, host-answered .request-passed))
-        (B .rows) (B .rank) (B .state) (B .reductions-are))
+        (early-iff hostLimit q request (slotsIn output) (workSlotsFor (transformsOf request) (cells q) (q .dimension)) .1 (host-answered .passed, host-answered .request-passed))
+        (B .rows) (B .rank) (B .state) (B .reductions-are) (host-answered .ends))
 
     bytes-width : (i : ℕ) → length (written i) ≡ 8 * width
     bytes-width i = omega (arith, length-numbersBytes (numbers i), numbers-width q (B .right) request i)
@@ -139,32 +137,37 @@ module _ (q : Question) (request : Request) (output : List ℕ) (bytes : Bytes (
 -- ---- beside the library's call
 
 -- two numbers by the same early check and reductions
-same-number : {B C : Type 0} (k : ℕ) (R : Reductions) (left : ℕ → ℕ → State → List B) (left′ : ℕ → ℕ → State → List C) (output : List B) (output′ : List C) (work work′ : List ℤ)
-    → numberTold (callWith k R left output work .answer) ≡ numberTold (callWith k R left′ output′ work′ .answer)
-same-number (suc k) R left left′ output output′ work work′ = refl
-same-number zero tooWide left left′ output output′ work work′ = refl
-same-number zero (reduced s r x) left left′ output output′ work work′ = refl
+same-number : {B C : Type 0} (k : ℕ) (ending : Ending) (R : Reductions) (left : ℕ → ℕ → State → List B) (left′ : ℕ → ℕ → State → List C) (output : List B) (output′ : List C)
+    (work work′ : List ℤ) → numberTold (callWith k ending R left output work .answer) ≡ numberTold (callWith k ending R left′ output′ work′ .answer)
+same-number (suc k) ending R left left′ output output′ work work′ = refl
+same-number zero ending tooWide left left′ output output′ work work′ = refl
+same-number {B} {C} zero ending (reduced s r x) left left′ output output′ work work′ = go (firstRefusal (ending s r x))
+  where
+    go : (n : ℕ)
+        → numberTold (concluded {B = B} 0 n (countsOf s r x) (left s r x) output work .answer) ≡ numberTold (concluded {B = C} 0 n (countsOf s r x) (left′ s r x) output′ work′ .answer)
+    go zero = refl
+    go (suc n) = refl
 
 module _ (q : Question) (request : Request) (output : List ℕ) (bytes : Bytes (q .sheet)) (slots work : List ℤ) (size : length slots ≡ slotsIn output)
-    (room : workSlots (cells q) (q .dimension) ≤ length work) where
+    (room : workSlotsFor (transformsOf request) (cells q) (q .dimension) ≤ length work) where
   abbrev library : Called Counts ℤ
   library = call hostLimit q request slots work
 
   number-is : hostCall q request output .number ≡ numberTold (library .answer)
   unfolding hostCall call
   number-is =
-      ap (λ (k : ℕ). numberTold (callWith k (two q) (bytesLeft q request output) output [] .answer)) (sym (early-same q request output (length slots) (length work) (λ a. rw size) (λ a. room)))
-      ∙ same-number (firstRefusal (earlyChecks hostLimit q request (length slots) (length work))) (two q) (bytesLeft q request output)
+      ap (λ (k : ℕ). numberTold (callWith k (endChecks q request) (two q (transformsOf request)) (bytesLeft q request output) output [] .answer)) (sym (early-same q request output (length slots) (length work) (λ a. rw size) (λ a. room)))
+      ∙ same-number (firstRefusal (earlyChecks hostLimit q request (length slots) (length work))) (endChecks q request) (two q (transformsOf request)) (bytesLeft q request output)
       (λ s r x. splices (listSlots q request) (numbersOf q request s r x) (listCount request) slots) output slots [] work
 
   module _ (counts : Counts) (e : library .answer ≡ done counts) where
     is-zero : hostCall q request output .number ≡ 0
     is-zero = number-is ∙ done-number e
 
-    abbrev H : Behind q
+    abbrev H : Behind q (transformsOf request)
     H = host-answered q request output bytes is-zero .reductions-behind
 
-    abbrev L : Behind q
+    abbrev L : Behind q (transformsOf request)
     L = answered hostLimit q request slots work bytes (done-number e) .reductions-behind
 
     counts-are : counts ≡ countsOf (L .rows) (L .rank) (L .state)

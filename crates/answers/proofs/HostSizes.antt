@@ -15,12 +15,12 @@ use Rattle.sheet_format.specs.Layout.{top}
 use Rattle.sheet_format.specs.Check.{refusal}
 use Rattle.sheet_format.specs.Sheet.{Bytes}
 use Rattle.reduction_steps.specs.State.{State}
-use Rattle.reports.specs.Reductions.{Reductions, tooWide, reduced}
+use Rattle.reports.specs.Reductions.{Reductions, noTransforms, tooWide, reduced}
 use Rattle.reports.specs.Report.{Counts, countsOf, freeRank, torsionCount, reportList, coordinateList}
 use Rattle.requests.specs.Question.{Question, cells, cellCount, two}
 use Rattle.requests.specs.Call.{report, coordinates, listSlots, numbersOf, earlyChecks, callWith, call}
 use Rattle.lists.specs.Splice.{splices}
-use Rattle.requests.proofs.CallLaws.{early-iff}
+use Rattle.requests.proofs.CallLaws.{noEnding, early-iff}
 use Rattle.host_calls.specs.Host.{reportRoom, workRoom}
 use Rattle.host_calls.proofs.HostCallLaws.{counts-within, report-room, work-room}
 use Rattle.answers.specs.Right.{reportLength}
@@ -31,7 +31,7 @@ use Rattle.answers.proofs.CallRight.{Answered, done-number, answered, c
 
 -- the question, whose sheet is accepted, has these counts
 pub record Sized (q : Question) (counts : Counts) : Type 0 where
-  pub reductions-behind : Behind q
+  pub reductions-behind : Behind q noTransforms
   pub counts-are : counts ≡ countsOf (reductions-behind .rows) (reductions-behind .rank) (reductions-behind .state)
   pub cells-within : cellCount q ≤ hostLimit
   pub total-within : counts .torsion + counts .free ≤ cellCount q
@@ -48,7 +48,7 @@ module _ (q : Question) (bytes : Bytes (q .sheet)) (output work : List ℤ) (cou
   abbrev A : Answered hostLimit q report (length output) (length work)
   A = answered hostLimit q report output work bytes (done-number e)
 
-  abbrev B : Behind q
+  abbrev B : Behind q noTransforms
   B = A .reductions-behind
 
   counts-are : counts ≡ countsOf (B .rows) (B .rank) (B .state)
@@ -83,7 +83,7 @@ module _ (q : Question) (bytes : Bytes (q .sheet)) (output work : List ℤ) (cou
 
 -- the question goes too wide, and k is the number for that
 pub record WentWide (q : Question) (k : ℕ) : Type 0 where
-  pub is-wide : two q ≡ tooWide
+  pub is-wide : two q noTransforms ≡ tooWide
   pub number-is : k ≡ 13
 
 module _ (q : Question) (accepted : refusal hostLimit (q .sheet) ≡ 0) (dimension : q .dimension ≤ top) (output work : List ℤ) (size : length output ≡ reportRoom)
@@ -102,12 +102,12 @@ module _ (q : Question) (accepted : refusal hostLimit (q .sheet) ≡ 0) (dimensi
 
   pub accepted-refused : (k : ℕ) → call hostLimit q report output work .answer ≡ refused k → WentWide q k
   unfolding call
-  accepted-refused k e = go (firstRefusal (earlyChecks hostLimit q report (length output) (length work))) (two q) accepted-passes refl e
+  accepted-refused k e = go (firstRefusal (earlyChecks hostLimit q report (length output) (length work))) (two q noTransforms) accepted-passes refl e
     where
       left : ℕ → ℕ → State → List ℤ
       left s r x = splices (listSlots q report) (numbersOf q report s r x) 1 output
 
-      go : (n : ℕ) (R : Reductions) → n ≡ 0 → two q ≡ R → callWith n R left output work .answer ≡ refused k → WentWide q k
+      go : (n : ℕ) (R : Reductions) → n ≡ 0 → two q noTransforms ≡ R → callWith n noEnding R left output work .answer ≡ refused k → WentWide q k
       go (suc n) R z f e = absurd (suc-ne-zero n z)
       go zero tooWide z f e = record { is-wide = f; number-is = cc }
       go zero (reduced s r x) z f e = absurd (refused≢done (sym e))

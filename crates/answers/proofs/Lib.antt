@@ -12,6 +12,8 @@ pub mod ReportRight
 pub mod CoordinatesRight
 pub mod OnlyCoordinates
 pub mod Fits
+pub mod SurfaceRight
+pub mod EndLaws
 pub mod Behind
 pub mod ListLaws
 pub mod CallRight

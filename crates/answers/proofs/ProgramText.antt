@@ -18,12 +18,12 @@ use Rattle.sheet_format.specs.Check.{refusal}
 use Rattle.sheet_format.specs.Sheet.{Bytes}
 use Rattle.sheet_format.proofs.Accept.{accepted-chains}
 use Rattle.reduction_steps.specs.State.{State}
-use Rattle.reports.specs.Reductions.{Reductions, tooWide, reduced}
+use Rattle.reports.specs.Reductions.{Reductions, noTransforms, tooWide, reduced}
 use Rattle.reports.specs.Report.{Counts, kind, reported, freeRank, torsionCount, countsOf, reportList}
 use Rattle.reports.proofs.ReportLaws.{length-coordinateList}
 use Rattle.requests.specs.Question.{Question, asked, cells, cellCount, two}
 use Rattle.requests.specs.Call.{report, listSlots, numbersOf, workSlots, earlyChecks, call}
-use Rattle.requests.proofs.CallLaws.{with-done, early-iff}
+use Rattle.requests.proofs.CallLaws.{noEnding, with-done, early-iff}
 use Rattle.program_text.specs.Text.{line, refusalLine, generatorLines, reportText, dimensionText, dimensionsText, textFor, programText}
 use Rattle.program_text.proofs.TextLaws.{reportText-reportList}
 use Rattle.program_text.proofs.LineLaws.{refusalLine-injective, feeds, feeds-append, feeds-line}
@@ -33,7 +33,7 @@ use Rattle.answers.proofs.Behind.{two-right, two-wide}
 
 -- the text of dimension p
 abbrev textOf : List ℕ → ℕ → List ℕ
-textOf b p = dimensionText p (cellCount (asked b p)) (two (asked b p))
+textOf b p = dimensionText p (cellCount (asked b p)) (two (asked b p) noTransforms)
 
 turns : (b : List ℕ) (more p : ℕ) → inTurn (p + more) (textOf b) ≡ inTurn p (textOf b) ++ dimensionsText b more p
 unfolding inTurn dimensionsText
@@ -80,13 +80,13 @@ module _ (b : List ℕ) (bytes : Bytes b) (accepted : refusal hostLimit b ≡ 0)
           refl,
         )
 
-    module _ (h : p ≤ top) (s r : ℕ) (x : State) (e : two q ≡ reduced s r x) where
+    module _ (h : p ≤ top) (s r : ℕ) (x : State) (e : two q noTransforms ≡ reduced s r x) where
       abbrev left : ℕ → ℕ → State → List ℤ
       left s r x = splices (listSlots q report) (numbersOf q report s r x) 1 output
 
       called : call hostLimit q report output work ≡ record { answer = done (countsOf s r x); output = left s r x; work = cleared work }
       unfolding call
-      called = with-done (firstRefusal (earlyChecks hostLimit q report (length output) (length work))) (two q) left output work (passes h) s r x e
+      called = with-done (firstRefusal (earlyChecks hostLimit q report (length output) (length work))) noEnding (two q noTransforms) left output work (passes h) s r x e refl
 
       report-left : call hostLimit q report output work .output ≡ written (reportList (cellCount q) s r x) output
       report-left = ap (λ (c : Called Counts ℤ). c .output) called ∙ splices-single (listSlots q report) (numbersOf q report s r x) output
@@ -98,11 +98,11 @@ module _ (b : List ℕ) (bytes : Bytes b) (accepted : refusal hostLimit b ≡ 0)
           sym (reportText-reportList p (cellCount q) s r x (drop (length (reportList (cellCount q) s r x)) output))
           ∙ ap (λ (l : List ℤ). reportText p (cellCount q) (torsionCount r x) (length (reported (kind x) s)) l) (sym report-left)
           ∙ ap (λ (k : ℕ). reportText p (cellCount q) (torsionCount r x) k (call hostLimit q report output work .output))
-          (sym (length-coordinateList (cellCount q) s x []) ∙ coordinates-length (two-right q complex s r x e) [])
+          (sym (length-coordinateList (cellCount q) s x []) ∙ coordinates-length (two-right q noTransforms complex s r x e) [])
 
-    printed : p ≤ top → (R : Reductions) → two q ≡ R → DimensionPrinted b p (dimensionText p (cellCount q) R)
+    printed : p ≤ top → (R : Reductions) → two q noTransforms ≡ R → DimensionPrinted b p (dimensionText p (cellCount q) R)
     unfolding dimensionText
-    printed h tooWide e = too-wide (two-wide q complex .0 e) refl
+    printed h tooWide e = too-wide (two-wide q noTransforms complex .0 e) refl
     printed h (reduced s r x) e = reports output work (countsOf s r x) (ap (λ (c : Called Counts ℤ). c .answer) (called h s r x e)) (report-text h s r x e)
 
   -- ---- all dimensions
@@ -112,7 +112,7 @@ module _ (b : List ℕ) (bytes : Bytes b) (accepted : refusal hostLimit b ≡ 0)
   dimensions-printed = record {
     texts = textOf b;
     in-turn = ap (λ (k : ℕ). textFor k b) accepted ∙ sym (turns-all b);
-    each = λ p l. printed p l (two (asked b p)) refl;
+    each = λ p l. printed p l (two (asked b p) noTransforms) refl;
   }
 
 -- ---- a refused sheet
@@ -135,7 +135,7 @@ turns-feeds : (b : List ℕ) (n : ℕ) → n ≤ feeds (inTurn n (textOf b))
 unfolding inTurn
 turns-feeds b zero = omega arith
 turns-feeds b (suc n) =
-    omega (arith, turns-feeds b n, text-feeds n (cellCount (asked b n)) (two (asked b n)), feeds-append (inTurn n (textOf b)) (textOf b n))
+    omega (arith, turns-feeds b n, text-feeds n (cellCount (asked b n)) (two (asked b n) noTransforms), feeds-append (inTurn n (textOf b)) (textOf b n))
 
 module _ (b : List ℕ) where
   accepted-other : refusal hostLimit b ≡ 0 → (k : ℕ) → programText b ≢ refusalLine k

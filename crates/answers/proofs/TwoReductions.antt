@@ -1,6 +1,6 @@
 -- The two reductions of a dimension of a chain complex, both done, leave what `homology_groups` asks for (reductions-right), within the limit
 -- (reductions-within).
-use mathlib.Core.Path.{_≡_, sym, _∙_, subst}
+use mathlib.Core.Path.{_≡_, refl, sym, _∙_, subst}
 use mathlib.Core.Bool.{true}
 use Prim.Native.Nat.{ℕ, suc, _+_, _-_, _≤_}
 use native.Mathlib.Nat.{le-trans, min-le-left, min-le-right}
@@ -118,7 +118,7 @@ module _ {most : ℕ} {K : Sections} (complex : ChainComplex most K) (t : Transf
     unfolding secondStart
     G-left = Eq-transpose (beside-left (n - r₁) n (drop r₁ (x₁ .columnFollower)) (t .secondRows))
 
-    both-right : Right K p (n - r₁) r x
+    pub both-right : Right K p (n - r₁) r x
     unfolding firstStart secondStart
     both-right = record {
       reduced = record {
@@ -145,11 +145,16 @@ module _ {most : ℕ} {K : Sections} (complex : ChainComplex most K) (t : Transf
       rows-bound = omega arith;
     }
 
+    -- its second column transform is that of the second reduction
+    pub both-columns : both-right .reduced .W ≡ S₂ .C
+    unfolding both-right
+    both-columns = refl
+
   pub first-reduced : (r₁ : ℕ) (x₁ : State) → reduce limit (firstSizes t K p) rule (firstStart t K p) ≡ done r₁ x₁ → machine.Reduced limit (firstSizes t K p) (firstStart t K p) r₁ x₁
   first-reduced = reduce-smith limit (firstSizes t K p) rule is (firstStart t K p) (first-shaped t K p) (first-within t complex limit p one)
 
   module _ (s r : ℕ) (x : State) (e : reductions t rule limit K p ≡ reduced s r x) where
-    abbrev both : BothDone t rule limit K p s r x
+    abbrev pub both : BothDone t rule limit K p s r x
     both = reductions-done t rule limit K p s r x e
 
     abbrev r₁ : ℕ

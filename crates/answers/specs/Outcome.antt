@@ -1,5 +1,5 @@
--- What a call answers and leaves: document 01, "The reduction" and "The report and the coordinates". The machine of document 01 is run from its start; how
--- the calls compute need not be read.
+-- What a call answers and leaves: document 01, "The reduction" and "The report and the coordinates"; document 02, Note 6. The machine of document 01 is run
+-- from its start; how the calls compute need not be read.
 use mathlib.Core.Path.{_≡_}
 use mathlib.Core.Logic.{_≢_}
 use mathlib.Core.Bool.{true}
@@ -14,45 +14,56 @@ use Rattle.complexes.specs.Complex.{Sections, count}
 use Rattle.reduction_steps.specs.Table.{tableWithin}
 use Rattle.reduction_steps.specs.State.{State}
 use Rattle.reduction_steps.specs.Step as machine
-use Rattle.reports.specs.Reductions.{noTransforms, product}
+use Rattle.reports.specs.Reductions.{Transforms, product}
 use Rattle.reports.specs.Report.{Counts, countsOf}
-use Rattle.requests.specs.Question.{Question, cells, cellCount, rule}
-use Rattle.requests.specs.Call.{Request, report, coordinates, lists, listCount, listSlots, numbersOf, earlyChecks}
+use Rattle.requests.specs.Question.{Question, cells, cellCount, nextCount, rule}
+use Rattle.requests.specs.Call.{Request, report, coordinates, lists, surface, transformsOf, listCount, listSlots, numbersOf, earlyChecks}
 use Rattle.host_calls.specs.Bytes.{numberAt}
 use Rattle.host_calls.specs.Host.{HostCalled}
-use Rattle.answers.specs.Homology.{IsCycle}
+use Rattle.answers.specs.Homology.{IsCycle, IsBoundary}
 use Rattle.integers.specs.Slot.{slot}
 use Rattle.answers.specs.Right.{reportLength}
 use Rattle.answers.specs.Wide.{FirstReaches, SecondReaches, GoesWide}
 
--- the reductions of document 01 make an entry beyond its limit
-abbrev pub TooWide : Question → Type 0
-TooWide q = GoesWide noTransforms entryLimit (rule q) (cells q) (q .dimension)
+-- the reductions of document 01, with the transforms t that they keep, make an entry beyond its limit
+abbrev pub TooWide : Question → Transforms → Type 0
+TooWide q t = GoesWide t entryLimit (rule q) (cells q) (q .dimension)
 
 -- With an entry limit the reductions come to their end: s rows of Q, and the second reduction, of rank r, leaves x.
-pub record EndsAt (limit : ℕ) (q : Question) (s r : ℕ) (x : State) : Type 0 where
+pub record EndsAt (limit : ℕ) (q : Question) (t : Transforms) (s r : ℕ) (x : State) : Type 0 where
   pub firstRank : ℕ
   pub firstState : State
-  pub first : FirstReaches noTransforms limit (rule q) (cells q) (q .dimension) (machine.done firstRank firstState)
+  pub first : FirstReaches t limit (rule q) (cells q) (q .dimension) (machine.done firstRank firstState)
   pub narrow : tableWithin limit (product (cells q) (q .dimension) firstRank firstState) ≡ true
   pub rows : s ≡ cellCount q - firstRank
-  pub second : SecondReaches noTransforms limit (rule q) (cells q) (q .dimension) firstRank firstState (machine.done r x)
+  pub second : SecondReaches t limit (rule q) (cells q) (q .dimension) firstRank firstState (machine.done r x)
 
-abbrev pub Ends : Question → ℕ → ℕ → State → Type 0
-Ends q s r x = EndsAt entryLimit q s r x
+abbrev pub Ends : Question → Transforms → ℕ → ℕ → State → Type 0
+Ends q t s r x = EndsAt entryLimit q t s r x
 
--- A call of the library at a count limit: refused with the first early check that applies, never 13, and every slice left alone; or refused 13,
--- exactly where the reductions go too wide, and the work slice reads 0; or done with the counts of their end, its lists written over the output and
--- nothing else, and the work slice reads 0.
+-- what a request wants of its chain beyond its checks: a surface, that it is the boundary of some chain with whole coefficients, however large
+abbrev pub Bounds : Question → Request → Type 0
+Bounds q report = Unit {0}
+Bounds q (coordinates z) = Unit {0}
+Bounds q (lists many chains) = Unit {0}
+Bounds q (surface z) = IsBoundary (cells q) (q .dimension) (slot z)
+
+-- A call of the library at a count limit: refused with the first early check that applies, never 13 or 17, and every slice left alone; or refused 13,
+-- exactly where the reductions go too wide, and the work slice reads 0; or refused 17, exactly where they do not and the chain bounds nothing, and the
+-- work slice reads 0; or done with the counts of their end, its lists written over the output and nothing else, and the work slice reads 0.
 pub data Outcome (limit : ℕ) (q : Question) (request : Request) (output work : List ℤ) (called : Called Counts ℤ) : Type 0 where
   refused-early :
-      (k : ℕ) → k ≢ 0 → k ≢ 13 → firstRefusal (earlyChecks limit q request (length output) (length work)) ≡ k →
+      (k : ℕ) → k ≢ 0 → k ≢ 13 → k ≢ 17 → firstRefusal (earlyChecks limit q request (length output) (length work)) ≡ k →
       called ≡ record { answer = refused k; output = output; work = work } → Outcome limit q request output work called
   too-wide :
-      firstRefusal (earlyChecks limit q request (length output) (length work)) ≡ 0 → TooWide q →
+      firstRefusal (earlyChecks limit q request (length output) (length work)) ≡ 0 → TooWide q (transformsOf request) →
       called ≡ record { answer = refused 13; output = output; work = cleared work } → Outcome limit q request output work called
+  bounds-nothing :
+      firstRefusal (earlyChecks limit q request (length output) (length work)) ≡ 0 → (TooWide q (transformsOf request) → ⊥) → (Bounds q request → ⊥) →
+      called ≡ record { answer = refused 17; output = output; work = cleared work } → Outcome limit q request output work called
   is-done :
-      firstRefusal (earlyChecks limit q request (length output) (length work)) ≡ 0 → (TooWide q → ⊥) → (s r : ℕ) (x : State) → Ends q s r x →
+      firstRefusal (earlyChecks limit q request (length output) (length work)) ≡ 0 → (TooWide q (transformsOf request) → ⊥) → Bounds q request →
+      (s r : ℕ) (x : State) → Ends q (transformsOf request) s r x →
       called
       ≡ record {
         answer = done (countsOf s r x);
@@ -71,6 +82,7 @@ abbrev pub listWidth : Question → Request → ℕ → ℕ → ℕ
 listWidth q report f t = reportLength (cells q) (q .dimension) f t
 listWidth q (coordinates z) f t = t + f
 listWidth q (lists many chains) f t = t + f
+listWidth q (surface z) f t = nextCount q
 
 -- A host call on an output beside the library's on as many slots: its number is that of the library's answer, a refusal leaves the output, the numbers
 -- read from its bytes are those that the library's call leaves, every other byte stays, and bytes stay bytes.

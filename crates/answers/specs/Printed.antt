@@ -6,6 +6,7 @@ use lib.IntN.{ℤ}
 use Rattle.limits.specs.Limits.{hostLimit}
 use Rattle.trials.specs.Trial.{done}
 use Rattle.sheet_format.specs.Layout.{top}
+use Rattle.reports.specs.Reductions.{noTransforms}
 use Rattle.reports.specs.Report.{Counts}
 use Rattle.requests.specs.Question.{asked, cellCount}
 use Rattle.requests.specs.Call.{report, call}
@@ -14,7 +15,7 @@ use Rattle.answers.specs.Outcome.{TooWide}
 
 -- the text of dimension p: `R 13` where the reduction goes too wide, else the text of the report that a report call at the same count limit leaves
 pub data DimensionPrinted (b : List ℕ) (p : ℕ) (text : List ℕ) : Type 0 where
-  too-wide : TooWide (asked b p) → text ≡ refusalLine 13 → DimensionPrinted b p text
+  too-wide : TooWide (asked b p) noTransforms → text ≡ refusalLine 13 → DimensionPrinted b p text
   reports :
       (output work : List ℤ) (counts : Counts) → call hostLimit (asked b p) report output work .answer ≡ done counts →
       text ≡ reportText p (cellCount (asked b p)) (counts .torsion) (counts .torsion + counts .free) (call hostLimit (asked b p) report output work .output) →

@@ -22,14 +22,14 @@ module _ {m n l : ℕ} {A B : Matrix} {s : ℕ} {e : ℕ → ℤ} {G Q : Matrix}
   G₀ : Matrix
   G₀ = kernelBasis (R .rank) (R .C)
 
-  Q₀ : Matrix
+  unfoldable pub Q₀ : Matrix
   Q₀ = kernelRows (R .rank) (R .Ci)
 
   generators-apply : (w : Chain) → Same n (apply s G w) (apply s G₀ (apply s (R .Pi) w))
   unfolding G₀
   generators-apply w = record { at = λ i h. apply-eq (R .isGenerators) w .at i h ∙ apply-mul s s G₀ (R .Pi) w i }
 
-  coordinates-apply : (z : Chain) → Same s (apply n Q z) (apply s (R .P) (apply n Q₀ z))
+  pub coordinates-apply : (z : Chain) → Same s (apply n Q z) (apply s (R .P) (apply n Q₀ z))
   unfolding Q₀
   coordinates-apply z = record { at = λ i h. apply-eq (R .isCoordinates) z .at i h ∙ apply-mul s n (R .P) Q₀ z i }
 

@@ -6,6 +6,7 @@ pub mod Shift
 pub mod SmithChain
 pub mod Kernel
 pub mod Coordinates
+pub mod Fillings
 pub mod Presents
 pub mod CoordinateList
 pub mod BoundaryLaws

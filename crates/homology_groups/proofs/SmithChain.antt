@@ -32,7 +32,7 @@ module _ {m n : ℕ} {A : Matrix} {d : ℕ → ℤ} {U Ui W Wi : Matrix} (smith 
           ∙ sym (zero-mul (y i))
           ∙ sym (ap (λ (t : ℤ). t *ℤ y i) (smith .beyond i (omega arith)))
 
-  column-row : (y : Chain) (i : ℕ) → i < m → apply m U (apply n A (apply n W y)) i ≡ d i *ℤ y i
+  pub column-row : (y : Chain) (i : ℕ) → i < m → apply m U (apply n A (apply n W y)) i ≡ d i *ℤ y i
   column-row y i h =
       sym (apply-mul m n U A (apply n W y) i)
       ∙ sym (apply-mul n n (mul m U A) W y i)

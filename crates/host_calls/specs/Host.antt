@@ -1,4 +1,5 @@
 -- The host calls: document 01, "The report and the coordinates". They have their own work arrays, carry numbers as bytes, and answer 0 for done.
+use mathlib.Core.Bool.{cond}
 use mathlib.Core.List.{List, []}
 use Prim.Native.Nat.{ℕ, _+_, _*_, _/_}
 use lib.ListN.{length}
@@ -6,9 +7,10 @@ use Rattle.limits.specs.Limits.{hostLimit}
 use Rattle.lists.specs.Splice.{splices}
 use Rattle.trials.specs.Trial.{firstRefusal, Called, numberTold}
 use Rattle.reduction_steps.specs.State.{State}
+use Rattle.reports.specs.Reductions.{Transforms}
 use Rattle.reports.specs.Report.{Counts}
 use Rattle.requests.specs.Question.{Question, cells, cellCount, two}
-use Rattle.requests.specs.Call.{Request, coordinates, lists, listCount, listSlots, numbersOf, workSlots, earlyChecks, callWith}
+use Rattle.requests.specs.Call.{Request, coordinates, lists, transformsOf, listCount, listSlots, numbersOf, endChecks, workSlotsFor, earlyChecks, callWith}
 use Rattle.host_calls.specs.Bytes.{numbersBytes, chainFrom}
 
 -- the number answered and the output as the call leaves it
@@ -27,9 +29,13 @@ reportRoom = 2 + hostLimit + hostLimit * hostLimit
 abbrev pub workRoom : ℕ
 workRoom = hostLimit * (3 * hostLimit)
 
+-- with room for the transform of the columns of the second reduction where that is kept
+abbrev pub workRoomFor : Transforms → ℕ
+workRoomFor t = cond (t .secondColumns) (workRoom + hostLimit * hostLimit) workRoom
+
 -- the first of the early checks: a host call has work slots enough
 abbrev pub hostEarly : Question → Request → List ℕ → ℕ
-hostEarly q request output = firstRefusal (earlyChecks hostLimit q request (slotsIn output) (workSlots (cells q) (q .dimension)))
+hostEarly q request output = firstRefusal (earlyChecks hostLimit q request (slotsIn output) (workSlotsFor (transformsOf request) (cells q) (q .dimension)))
 
 -- the output where the lists are written as bytes
 abbrev pub bytesLeft : Question → Request → List ℕ → ℕ → ℕ → State → List ℕ
@@ -40,7 +46,8 @@ hostAnswer called = record { number = numberTold (called .answer); output = call
 
 -- the host's call on a question, a request and an output
 unfoldable pub hostCall : Question → Request → List ℕ → HostCalled
-hostCall q request output = hostAnswer (callWith (hostEarly q request output) (two q) (bytesLeft q request output) output [])
+hostCall q request output =
+    hostAnswer (callWith (hostEarly q request output) (endChecks q request) (two q (transformsOf request)) (bytesLeft q request output) output [])
 
 -- ---- requests with their chains in bytes
 

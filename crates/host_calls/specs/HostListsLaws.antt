@@ -13,6 +13,8 @@ use Rattle.lists.proofs.SplicesLaws.{splices-same, splices-nothing}
 use Rattle.requests.specs.Question.{Question, cells, cellCount, two}
 use Rattle.requests.specs.Call.{coordinates, lists, numbersOf, workSlots, callWith}
 use Rattle.requests.specs.Chains.{nonempty}
+use Rattle.requests.proofs.CallLaws.{noEnding}
+use Rattle.reports.specs.Reductions.{noTransforms}
 use Rattle.requests.proofs.ListsLaws.{same-with, one-early, one-numbers, none-early, none-numbers}
 use Rattle.host_calls.specs.Bytes.{numbersBytes, chainFrom}
 use Rattle.host_calls.specs.Host.{slotsIn, hostEarly, bytesLeft, hostAnswer, hostCall, coordinatesIn, listsIn}
@@ -26,20 +28,20 @@ host-one-chain q chain output = ap (λ (m : ℕ). hostCall q (lists 1 (chainFrom
 
     single : hostCall q (lists 1 z) output ≡ hostCall q (coordinates z) output
     single =
-        ap hostAnswer (same-with (hostEarly q (lists 1 z) output) (two q) (bytesLeft q (lists 1 z) output) (bytesLeft q (coordinates z) output) output []
+        ap hostAnswer (same-with (hostEarly q (lists 1 z) output) noEnding (two q noTransforms) (bytesLeft q (lists 1 z) output) (bytesLeft q (coordinates z) output) output []
         (λ e s r x d. splices-same (8 * cellCount q) (λ i. numbersBytes (numbersOf q (lists 1 z) s r x i)) (λ i. numbersBytes (numbersOf q (coordinates z) s r x i)) 1 output
         (λ i l. ap numbersBytes (one-numbers hostLimit q z (slotsIn output) (workSlots (cells q) (q .dimension)) e s r x i l))))
-        ∙ ap (λ (early : ℕ). hostAnswer (callWith early (two q) (bytesLeft q (coordinates z) output) output []))
+        ∙ ap (λ (early : ℕ). hostAnswer (callWith early noEnding (two q noTransforms) (bytesLeft q (coordinates z) output) output []))
         (one-early hostLimit q z (slotsIn output) (workSlots (cells q) (q .dimension)))
 
 pub host-no-cells : (q : Question) → cellCount q ≡ 0 → (many : ℕ) (chains output : List ℕ) → hostCall q (listsIn q many chains) output ≡ hostCall q (listsIn q 0 chains) output
 unfolding hostCall splices numbersBytes
 host-no-cells q empty many chains output =
     ap (λ (m : ℕ). hostCall q (lists many (chainFrom m chains)) output) none
-    ∙ ap hostAnswer (same-with (hostEarly q (lists many z) output) (two q) (bytesLeft q (lists many z) output) (λ s r x. output) output []
+    ∙ ap hostAnswer (same-with (hostEarly q (lists many z) output) noEnding (two q noTransforms) (bytesLeft q (lists many z) output) (λ s r x. output) output []
     (λ e s r x d. splices-nothing (8 * cellCount q) (λ i. numbersBytes (numbersOf q (lists many z) s r x i)) many output
     (λ i l. ap numbersBytes (none-numbers q empty s r x d many z i))))
-    ∙ ap (λ (early : ℕ). hostAnswer (callWith early (two q) (λ s r x. output) output []))
+    ∙ ap (λ (early : ℕ). hostAnswer (callWith early noEnding (two q noTransforms) (λ s r x. output) output []))
     (none-early q empty hostLimit many (slotsIn output) (workSlots (cells q) (q .dimension)) z)
   where
     none : many * cellCount q ≡ 0 * cellCount q

@@ -1,5 +1,5 @@
 -- Laws of division rounded towards minus infinity. `Division a d q r`: a = q·d + r with 0 ≤ r < d.
--- For a positive divisor: `floor-division`, `natAbs-modulo`, `floor-unique`, `modulo-unique`, `dvd-iff-modulo`, `modulo-eq-iff`.
+-- For a positive divisor: `floor-division`, `natAbs-modulo`, `floor-unique`, `modulo-unique`, `dvd-iff-modulo`, `modulo-eq-iff`; from 0 on: `dvd-floor`.
 -- For every divisor: `modulo-zero`, `floor-zero`, `floor-modulo`, `natAbs-floor`.
 use mathlib.Core.Path.{_≡_, refl, sym, _∙_, ap, subst}
 use mathlib.Core.Logic.{_↔_}
@@ -10,9 +10,10 @@ use native.Mathlib.Decide.{decLe}
 use native.Mathlib.Omega.{arith}
 use lib.IntN.{ℤ, pos, negsuc, negℤ, natAbs, _+ℤ_, _-ℤ_, _*ℤ_}
 use lib.Signed.{_≤ℤ_, _<ℤ_, ≤ℤ-refl}
-use Rattle.integers.proofs.Ring.{add-zero, mul-zero}
+use Rattle.integers.proofs.Ring.{add-zero, zero-mul, mul-zero, mul-comm}
 use Rattle.integers.proofs.Solve.{solve, terms}
 use Rattle.integers.proofs.Order.{le-pos, lt-pos, pos-lt, natAbs-mul, natAbs-zero, eq-of-sub}
+use Rattle.integers.proofs.Divides.{zero-dvd}
 use Rattle.integers.specs.Division.{floor, modulo, _∣ℤ_}
 
 pub modulo-is : (a d : ℤ) → modulo a d ≡ a -ℤ floor a d *ℤ d
@@ -163,6 +164,16 @@ dvd-iff-modulo a d h = (forth, back)
 
     back : modulo a d ≡ pos 0 → d ∣ℤ a
     back e = record { quotient = floor a d; is = floor-modulo a d ∙ ap (λ (x : ℤ). floor a d *ℤ d +ℤ x) e ∙ add-zero (floor a d *ℤ d) }
+
+-- the quotient of a multiple is exact
+pub dvd-floor : (a d : ℤ) → pos 0 ≤ℤ d → d ∣ℤ a → a ≡ d *ℤ floor a d
+dvd-floor a (pos zero) h k = zero-dvd k ∙ sym (zero-mul (floor a (pos 0)))
+dvd-floor a (pos (suc n)) h k =
+    floor-modulo a (pos (suc n))
+    ∙ ap (λ (r : ℤ). floor a (pos (suc n)) *ℤ pos (suc n) +ℤ r) (dvd-iff-modulo a (pos (suc n)) (lt-pos (omega arith)) .0 k)
+    ∙ add-zero (floor a (pos (suc n)) *ℤ pos (suc n))
+    ∙ mul-comm (floor a (pos (suc n))) (pos (suc n))
+dvd-floor a (negsuc n) h k = absurd (h .le)
 
 pub modulo-eq-iff : (a b d : ℤ) → pos 0 <ℤ d → (modulo a d ≡ modulo b d) ↔ (d ∣ℤ (a -ℤ b))
 modulo-eq-iff a b d h = (forth, back)

@@ -14,3 +14,7 @@ entryLimit = 1048575
 
 abbrev pub coefficientLimit : ℕ
 coefficientLimit = 32767
+
+-- and of one given to the surface call: document 02, Note 6
+abbrev pub surfaceCoefficientLimit : ℕ
+surfaceCoefficientLimit = 15

@@ -22,7 +22,7 @@ use Rattle.reduction_steps.specs.Lines.{onList, lineLess, onLines, onEntries}
 use Rattle.reduction_steps.specs.State.{largest, rowOperation, columnOperation, within, checked, andThen, onRow, onColumn}
 use Rattle.reduction_steps.specs.Pivot.{better, alongRow, downRows, release1}
 use Rattle.reduction_steps.specs.Step.{columnKeeps, rowKeeps, rowIndivisible, firstIndivisible, positive, bring, quotient, rowPass, columnPass, next, step, run, reduce}
-use Rattle.reports.specs.Reductions.{reduced, firstStart, product, secondStart, afterSecond, second, afterFirst, reductions}
+use Rattle.reports.specs.Reductions.{reduced, noTransforms, firstStart, product, secondStart, afterSecond, second, afterFirst, reductions}
 use Rattle.reports.specs.Report.{Counts, reported, columnsOf, torsionCount, halvings, bitsOf, reportList, coordinateAt, coordinateList}
 use Rattle.trials.specs.Trial.{Called, done}
 use Rattle.requests.specs.Question.{Question, asked, rule, two}
@@ -43,7 +43,7 @@ abbrev pub loops : Question
 loops = asked sheet 1
 
 -- 17 rows of Q, 17 pivots
-pub reductions-space : two loops ≡ reduced 17 17 left
+pub reductions-space : two loops noTransforms ≡ reduced 17 17 left
 unfolding question.cells rule two reductions firstStart afterFirst second product secondStart afterSecond countBelow boundary coefficient sign
     countField cellOf cellsOf sectionsOf without same start
     reduce run step next bring positive quotient rowPass columnPass columnKeeps rowKeeps rowIndivisible firstIndivisible

@@ -39,7 +39,7 @@ use Rattle.calls.specs.CallAnswers.{answered, countsIn, CallAnswers}
 
 -- the text of dimension p of the sheet b
 abbrev pub textOf : List ℕ → ℕ → List ℕ
-textOf b p = dimensionText p (cellCount (asked b p)) (two (asked b p))
+textOf b p = dimensionText p (cellCount (asked b p)) (two (asked b p) noTransforms)
 
 -- what `put_report` asks for
 pub record ReportRoom (cells t f : ℕ) (report : List ℤ) : Type 0 where

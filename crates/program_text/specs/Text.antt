@@ -10,7 +10,7 @@ use Rattle.sheet_format.specs.Layout.{top}
 use Rattle.sheet_format.specs.Check.{refusal}
 use Rattle.reduction_steps.specs.Table.{entry}
 use Rattle.reduction_steps.specs.State.{State}
-use Rattle.reports.specs.Reductions.{Reductions, tooWide, reduced}
+use Rattle.reports.specs.Reductions.{Reductions, noTransforms, tooWide, reduced}
 use Rattle.reports.specs.Report.{kind, reported, freeRank, torsionCount}
 use Rattle.requests.specs.Question.{asked, cellCount, two}
 use Rattle.limits.specs.Limits.{hostLimit}
@@ -52,7 +52,7 @@ dimensionText p n (reduced s r x) =
 -- `more` dimensions from p on
 unfoldable pub dimensionsText : List ℕ → ℕ → ℕ → List ℕ
 dimensionsText b zero p = []
-dimensionsText b (suc more) p = dimensionText p (cellCount (asked b p)) (two (asked b p)) ++ dimensionsText b more (suc p)
+dimensionsText b (suc more) p = dimensionText p (cellCount (asked b p)) (two (asked b p) noTransforms) ++ dimensionsText b more (suc p)
 
 -- a sheet refused by 1 to 7 gives the single line `R` and the number, any other a text for each dimension
 unfoldable pub textFor : ℕ → List ℕ → List ℕ

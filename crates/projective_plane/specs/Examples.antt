@@ -39,7 +39,7 @@ abbrev pub loops : Question
 loops = asked sheet 1
 
 -- ten rows of Q, ten pivots
-pub reductions-plane : two loops ≡ reduced 10 10 left
+pub reductions-plane : two loops noTransforms ≡ reduced 10 10 left
 unfolding question.cells rule two reductions firstStart afterFirst second product secondStart afterSecond countBelow boundary coefficient sign
     countField cellOf cellsOf sectionsOf without same start
     reduce run step next bring positive quotient rowPass columnPass columnKeeps rowKeeps rowIndivisible firstIndivisible

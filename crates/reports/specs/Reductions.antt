@@ -22,9 +22,13 @@ pub record Transforms : Type 0 where
   pub secondColumns : Bool
   pub secondColumnsInverse : Bool
 
+-- that of the columns of the second alone, or none
+abbrev pub secondColumnsOnly : Bool → Transforms
+secondColumnsOnly kept = record { firstRows = false; secondRows = false; secondColumns = kept; secondColumnsInverse = false }
+
 -- the report and the coordinates need none
 abbrev pub noTransforms : Transforms
-noTransforms = record { firstRows = false; secondRows = false; secondColumns = false; secondColumnsInverse = false }
+noTransforms = secondColumnsOnly false
 
 -- a companion that is absent
 abbrev pub absent : ℕ → Table
@@ -126,6 +130,6 @@ module _ (t : Transforms) (rule : Rule) (limit : ℕ) (K : Sections) (p : ℕ) w
   unfoldable pub reductions : Reductions
   reductions = afterFirst (reduce limit (firstSizes t K p) rule (firstStart t K p))
 
--- with document 01's entry limit, and no transforms besides V, its inverse, Q and G
-abbrev pub reductionsOf : Rule → Sections → ℕ → Reductions
-reductionsOf rule K p = reductions noTransforms rule entryLimit K p
+-- with document 01's entry limit
+abbrev pub reductionsOf : Transforms → Rule → Sections → ℕ → Reductions
+reductionsOf t rule K p = reductions t rule entryLimit K p

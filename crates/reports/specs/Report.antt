@@ -61,9 +61,13 @@ unfoldable pub reportList : ℕ → ℕ → ℕ → State → List ℤ
 reportList n s r x =
     pos (freeRank s r) ∷ pos (torsionCount r x) ∷ (map (kind x) (reported (kind x) r) ++ columnsOf (x .rowInverse) n (reported (kind x) s))
 
--- row i of Q times the chain z; of a row of order d the residue above -d/2 and up to d/2; a free row, of order 0, is kept
+-- row i of Q times the chain z
+abbrev pub rowTimes : ℕ → State → List ℤ → ℕ → ℤ
+rowTimes n x z i = apply n (entry (x .rowFollower)) (λ j. getD z j (pos 0)) i
+
+-- of a row of order d the residue above -d/2 and up to d/2; a free row, of order 0, is kept
 unfoldable pub coordinateAt : ℕ → State → List ℤ → ℕ → ℤ
-coordinateAt n x z i = residue (apply n (entry (x .rowFollower)) (λ j. getD z j (pos 0)) i) (kind x i)
+coordinateAt n x z i = residue (rowTimes n x z i) (kind x i)
 
 -- the coordinates of z, in the report's order
 unfoldable pub coordinateList : ℕ → ℕ → State → List ℤ → List ℤ

@@ -3,7 +3,7 @@
 --     length-chainAt, chain-part  one of many chains, and the part of a slice that it is
 --     cycles-zero, cycles-told    11 and 12: none is told, or the first faulty chain decides
 --     chains-sized, chains-zero   10 to 12
---     chains-narrow               13 is none of them
+--     chains-late                 13 and 17 are none of them
 --     cycles-no-cells             where there are no cells, no chain is at fault
 use mathlib.Core.Path.{_≡_, refl, sym, _∙_, ap}
 use mathlib.Core.Logic.{_↔_, _≢_}
@@ -27,6 +27,11 @@ use Rattle.sheet_format.specs.Check.{some}
 use Rattle.sheet_format.specs.CheckLaws.{some-false}
 use Rattle.trials.proofs.FirstLaws.{absent, absent-append, orElse, first-zero, first-append}
 use Rattle.requests.specs.Chains.{chainAt, coefficientExceeds, boundaryNotZero, cycleChecks, cyclesChecks, chainsChecks, FirstFault}
+
+-- the numbers of the late checks
+pub data Late : ℕ → Type 0 where
+  wide : Late 13
+  bounds : Late 17
 
 pub coefficients-iff : (limit : ℕ) (z : List ℤ) → (coefficientExceeds limit z ≡ false) ↔ ((i : ℕ) → natAbs (getD z i (pos 0)) ≤ limit)
 unfolding coefficientExceeds
@@ -146,9 +151,10 @@ module _ (limit : ℕ) (K : Sections) (p : ℕ) (chains : List ℤ) where
 
   -- ---- with 10 before them
 
-  pub chains-narrow : (many : ℕ) → absent 13 (chainsChecks limit K p many chains) ≡ true
+  pub chains-late : {k : ℕ} → Late k → (many : ℕ) → absent k (chainsChecks limit K p many chains) ≡ true
   unfolding chainsChecks
-  chains-narrow many = cycles-absent 13 refl many
+  chains-late wide many = cycles-absent 13 refl many
+  chains-late bounds many = cycles-absent 17 refl many
 
   pub chains-sized : (many : ℕ) → length chains ≡ many * count K p → firstRefusal (chainsChecks limit K p many chains) ≡ firstRefusal (cyclesChecks limit K p many chains)
   unfolding chainsChecks

@@ -17,7 +17,7 @@ use lib.IntN.{ℤ}
 use Rattle.limits.specs.Limits.{entryLimit, coefficientLimit}
 use Rattle.lists.specs.Splice.{splices}
 use Rattle.lists.proofs.SplicesLaws.{splices-same, splices-nothing}
-use Rattle.trials.specs.Trial.{firstRefusal, done, cleared}
+use Rattle.trials.specs.Trial.{firstRefusal, concluded}
 use Rattle.reduction_steps.specs.State.{State}
 use Rattle.reports.specs.Reductions.{Reductions, tooWide, reduced, noTransforms}
 use Rattle.reports.specs.ReductionsLaws.{reductions-done}
@@ -26,14 +26,16 @@ use Rattle.requests.specs.Question.{Question, cells, cellCount, rule, tw
 use Rattle.requests.specs.Chains.{chainAt, chainChecks, cyclesChecks, chainsChecks, nonempty}
 use Rattle.requests.specs.Call.{coordinates, lists, numbersOf, callChecks, earlyChecks, callWith, call}
 use Rattle.requests.proofs.ChainsLaws.{chains-zero, cycles-no-cells}
-use Rattle.requests.proofs.CallLaws.{early-iff}
+use Rattle.requests.proofs.CallLaws.{Ending, noEnding, early-iff}
 
 -- where nothing is refused, calls are the same if the reductions leave the same; where something is, whatever they would leave
-pub same-with : {B : Type 0} (early : ℕ) (R : Reductions) (left left′ : ℕ → ℕ → State → List B) (output : List B) (work : List ℤ)
-    → (early ≡ 0 → (s r : ℕ) (x : State) → R ≡ reduced s r x → left s r x ≡ left′ s r x) → callWith early R left output work ≡ callWith early R left′ output work
-same-with zero tooWide left left′ output work h = refl
-same-with zero (reduced s r x) left left′ output work h = λ i. record { answer = done (countsOf s r x); output = h refl s r x refl i; work = cleared work }
-same-with (suc k) R left left′ output work h = refl
+pub same-with : {B : Type 0} (early : ℕ) (ending : Ending) (R : Reductions) (left left′ : ℕ → ℕ → State → List B) (output : List B) (work : List ℤ)
+    → (early ≡ 0 → (s r : ℕ) (x : State) → R ≡ reduced s r x → left s r x ≡ left′ s r x)
+    → callWith early ending R left output work ≡ callWith early ending R left′ output work
+same-with zero ending tooWide left left′ output work h = refl
+same-with {B} zero ending (reduced s r x) left left′ output work h =
+    ap (λ (l : List B). concluded 0 (firstRefusal (ending s r x)) (countsOf s r x) l output work) (h refl s r x refl)
+same-with (suc k) ending R left left′ output work h = refl
 
 -- a chain of n coefficients is the first of them
 first-chain : (n : ℕ) (z : List ℤ) → length z ≡ n → chainAt n z 0 ≡ z
@@ -60,17 +62,17 @@ module _ (limit : ℕ) (q : Question) (z : List ℤ) (output work : ℕ) where
 pub one-chain : (limit : ℕ) (q : Question) (z output work : List ℤ) → call limit q (lists 1 z) output work ≡ call limit q (coordinates z) output work
 unfolding call
 one-chain limit q z output work =
-    same-with (firstRefusal (earlyChecks limit q (lists 1 z) (length output) (length work))) (two q)
+    same-with (firstRefusal (earlyChecks limit q (lists 1 z) (length output) (length work))) noEnding (two q noTransforms)
     (λ s r x. splices (cellCount q) (numbersOf q (lists 1 z) s r x) 1 output) (λ s r x. splices (cellCount q) (numbersOf q (coordinates z) s r x) 1 output) output work
     (λ e s r x d. splices-same (cellCount q) (numbersOf q (lists 1 z) s r x) (numbersOf q (coordinates z) s r x) 1 output (one-numbers limit q z (length output) (length work) e s r x))
-    ∙ ap (λ (early : ℕ). callWith early (two q) (λ s r x. splices (cellCount q) (numbersOf q (coordinates z) s r x) 1 output) output work)
+    ∙ ap (λ (early : ℕ). callWith early noEnding (two q noTransforms) (λ s r x. splices (cellCount q) (numbersOf q (coordinates z) s r x) 1 output) output work)
     (one-early limit q z (length output) (length work))
 
 -- ---- no cells
 
 module _ (q : Question) (empty : cellCount q ≡ 0) where
   -- no row of Q, and so no coordinate
-  pub none-numbers : (s r : ℕ) (x : State) → two q ≡ reduced s r x → (many : ℕ) (chains : List ℤ) (i : ℕ) → numbersOf q (lists many chains) s r x i ≡ []
+  pub none-numbers : (s r : ℕ) (x : State) → two q noTransforms ≡ reduced s r x → (many : ℕ) (chains : List ℤ) (i : ℕ) → numbersOf q (lists many chains) s r x i ≡ []
   unfolding two coordinateList reported
   none-numbers s r x e many chains i = rw rows
     where
@@ -88,10 +90,10 @@ module _ (q : Question) (empty : cellCount q ≡ 0) where
   pub no-cells : (limit many : ℕ) (chains output work : List ℤ) → call limit q (lists many chains) output work ≡ call limit q (lists 0 chains) output work
   unfolding call splices
   no-cells limit many chains output work =
-      same-with (firstRefusal (earlyChecks limit q (lists many chains) (length output) (length work))) (two q)
+      same-with (firstRefusal (earlyChecks limit q (lists many chains) (length output) (length work))) noEnding (two q noTransforms)
       (λ s r x. splices (cellCount q) (numbersOf q (lists many chains) s r x) many output) (λ s r x. output) output work
       (λ e s r x d. splices-nothing (cellCount q) (numbersOf q (lists many chains) s r x) many output (λ i l. none-numbers s r x d many chains i))
-      ∙ ap (λ (early : ℕ). callWith early (two q) (λ s r x. output) output work) (none-early limit many (length output) (length work) chains)
+      ∙ ap (λ (early : ℕ). callWith early noEnding (two q noTransforms) (λ s r x. output) output work) (none-early limit many (length output) (length work) chains)
 
 -- ---- any number of chains
 

@@ -92,7 +92,7 @@ module _ {rule : Rule} (is-rule : IsRule rule) (K : Sections) (p n : ℕ) (compl
     starts = rw (is, from) (ap (reduce entryLimit (firstSizes noTransforms K p) rule) (f .state))
 
     pub first-refused : {x : Refusal} {w′ : List ℤ} → ReductionRefused (reductionOf rule W peak w) (length w) x w′
-        → TwiceReduced K p (reductionsOf rule K p) n (Refused refusal.TooWide) w′
+        → TwiceReduced K p (reductionsOf noTransforms rule K p) n (Refused refusal.TooWide) w′
     first-refused h = (
       first-wide noTransforms rule entryLimit K p (sym starts ∙ h .outcome),
       cleared (f .kept .same-length) (h .cleared),
@@ -134,7 +134,7 @@ module _ {rule : Rule} (is-rule : IsRule rule) (K : Sections) (p n : ℕ) (compl
     abbrev pub asked : theory.Matrix
     asked = mul (W .«row_follower» .width) (contents (W .«row_follower») w) (boundary K (suc p))
 
-    pub product-refused : {w′ : List ℤ} → Exceeds (W .matrix) w asked w′ → reductionsOf rule K p ≡ reports.tooWide
+    pub product-refused : {w′ : List ℤ} → Exceeds (W .matrix) w asked w′ → reductionsOf noTransforms rule K p ≡ reports.tooWide
     unfolding secondWorkspace
     product-refused {w′} h =
         product-wide noTransforms rule entryLimit K p r (stateOf (firstWorkspaceOf K p) peak w) (f .outcome)
@@ -158,14 +158,14 @@ module _ {rule : Rule} (is-rule : IsRule rule) (K : Sections) (p n : ℕ) (compl
     starts-again = rw is (ap (reduce entryLimit (secondSizes noTransforms K p r) rule) (s .state))
 
     pub second-refused : {x : Refusal} {w″ : List ℤ} → ReductionRefused (reductionOf rule W peak′ w′) (length w′) x w″
-        → TwiceReduced K p (reductionsOf rule K p) n (Refused refusal.TooWide) w″
+        → TwiceReduced K p (reductionsOf noTransforms rule K p) n (Refused refusal.TooWide) w″
     second-refused h = (
       second-wide noTransforms rule entryLimit K p r (stateOf (firstWorkspaceOf K p) peak w) (s .first .outcome) (s .narrow) (sym starts-again ∙ h .outcome),
       cleared (s .kept .same-length) (h .cleared),
     )
 
     pub second-done : {last peak″ : ℕ} {w″ : List ℤ} → ReductionDone W (reductionOf rule W peak′ w′) (length w′) last peak″ w″
-        → TwiceReduced K p (reductionsOf rule K p) n (Done (record { workspace = W; rank = last; peak = peak″ })) w″
+        → TwiceReduced K p (reductionsOf noTransforms rule K p) n (Done (record { workspace = W; rank = last; peak = peak″ })) w″
     unfolding secondWorkspace afterSecond
     second-done {last} {peak″} {w″} h = record {
       first-rank = r;
@@ -176,7 +176,7 @@ module _ {rule : Rule} (is-rule : IsRule rule) (K : Sections) (p n : ℕ) (compl
       kept = record { same-length = h .kept .same-length ∙ s .kept .same-length; under = h .kept .under };
     }
       where
-        outcome : reductionsOf rule K p ≡ reports.reduced (W .matrix .lines) last (stateOf W peak″ w″)
+        outcome : reductionsOf noTransforms rule K p ≡ reports.reduced (W .matrix .lines) last (stateOf W peak″ w″)
         outcome =
             after-second noTransforms rule entryLimit K p r (stateOf (firstWorkspaceOf K p) peak w) (s .first .outcome) (s .narrow)
             (done last (stateOf W peak″ w″)) (sym starts-again ∙ h .outcome)

@@ -7,7 +7,7 @@ ghost use Rattle.sheet_format.specs.Layout.{top};
 ghost use Rattle.sheet_format.specs.Check.{sectionsOf};
 ghost use Rattle.reduction_steps.specs.Pivot.{pivotRule};
 ghost use Rattle.requests.specs.Call.{workSlots};
-ghost use Rattle.reports.specs.Reductions.{reductionsOf};
+ghost use Rattle.reports.specs.Reductions.{noTransforms, reductionsOf};
 ghost use Rattle.faces.specs.Face.{Accepted};
 ghost use Rattle.two_reductions.specs.CellCounts.{CellCountsRead};
 ghost use Rattle.two_reductions.specs.Slices.{firstWorkspaceOf, startPeak, Filled, TwiceReduced, ZeroFrom};
@@ -60,7 +60,7 @@ fn reduce_part(s: &[u8], p: usize, n: CellCounts, w: &mut [i32]) -> Reductions
     requires { ⌜ workSlots (sectionsOf (now s)) p ≤ length (now w) ⌝ }
     requires { ⌜ CellCountsRead (sectionsOf (now s)) p n ⌝ }
     requires { ⌜ now w ≡ replicate (length (now w)) (pos 0) ⌝ }
-    ensures { λ r. ⌜ TwiceReduced (sectionsOf (now (s .entry))) p (reductionsOf pivotRule (sectionsOf (now (s .entry))) p) (length (now (w .entry))) r (now (w .exit)) ⌝ }
+    ensures { λ r. ⌜ TwiceReduced (sectionsOf (now (s .entry))) p (reductionsOf noTransforms pivotRule (sectionsOf (now (s .entry))) p) (length (now (w .entry))) r (now (w .exit)) ⌝ }
 {
     let first = first_workspace(n.cells, n.rows, n.columns);
     fill_first(s, p, first, w);
@@ -88,7 +88,7 @@ pub fn reduce_twice(s: &[u8], p: usize, n: CellCounts, w: &mut [i32]) -> Reducti
     requires { ⌜ Accepted (now s) × (p ≤ top) ⌝ }
     requires { ⌜ workSlots (sectionsOf (now s)) p ≤ length (now w) ⌝ }
     requires { ⌜ CellCountsRead (sectionsOf (now s)) p n ⌝ }
-    ensures { λ r. ⌜ TwiceReduced (sectionsOf (now (s .entry))) p (reductionsOf pivotRule (sectionsOf (now (s .entry))) p) (length (now (w .entry))) r (now (w .exit)) ⌝ }
+    ensures { λ r. ⌜ TwiceReduced (sectionsOf (now (s .entry))) p (reductionsOf noTransforms pivotRule (sectionsOf (now (s .entry))) p) (length (now (w .entry))) r (now (w .exit)) ⌝ }
     ensures { λ r. ⌜ ZeroFrom (workSlots (sectionsOf (now (s .entry))) p) (now (w .exit)) ⌝ }
 {
     clear(w);

@@ -12,7 +12,7 @@ use lib.Seq.{length-take-le, length-front}
 use Rattle.sheet_format.specs.Check.{sectionsOf}
 use Rattle.reduction_steps.specs.Pivot.{pivotRule}
 use Rattle.requests.specs.Call.{workSlots}
-use Rattle.reports.specs.Reductions.{reductionsOf}
+use Rattle.reports.specs.Reductions.{noTransforms, reductionsOf}
 use Rattle.two_reductions.specs.Slices.{TwiceReduced, ZeroFrom}
 use Rattle.two_reductions.proofs.Sheet.{slots-of}
 use Rattle.two_reductions.proofs.Part.{zeros, part-zeros, rest-zeros, zero-behind, twice-whole}
@@ -88,8 +88,8 @@ returns c =
     let K = sectionsOf (now (start k .args .s)) in
     let p = start k .args .p in
     let behind = n k - m k in (
-      subst (TwiceReduced K p (reductionsOf pivotRule K p) (n k) (called .reduce-part .result)) (sym (whole called))
-          (twice-whole (left called) behind K p (reductionsOf pivotRule K p) (length (take (m k) (slice k))) (n k) (called .reduce-part .result) (omega (arith, part-length k, within k, ap length (slice-is k), length-replicate (n k) (pos 0)))
+      subst (TwiceReduced K p (reductionsOf noTransforms pivotRule K p) (n k) (called .reduce-part .result)) (sym (whole called))
+          (twice-whole (left called) behind K p (reductionsOf noTransforms pivotRule K p) (length (take (m k) (slice k))) (n k) (called .reduce-part .result) (omega (arith, part-length k, within k, ap length (slice-is k), length-replicate (n k) (pos 0)))
           (called .reduce-part .ensures)),
       subst (ZeroFrom (workSlots K p)) (sym (whole called)) (zero-behind (left called) behind (le-of-eq (called .reduce-part .kept .1 .1 .1 .0 ∙ part-length k ∙ slots-are k))),
     )
