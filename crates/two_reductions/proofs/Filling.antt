@@ -65,20 +65,30 @@ follower-largest s = omega arith
 -- ---- the first reduction
 
 -- the peak at the start lies within the limit, and is 1 where there are cells
-start-limit : (cells : ℕ) → startPeak cells ≤ entryLimit
+pub start-limit : (cells : ℕ) → startPeak cells ≤ entryLimit
 start-limit zero = omega arith
 start-limit (suc cells) = omega arith
 
-start-one : (cells j : ℕ) → j < cells → 1 ≤ startPeak cells
+pub start-one : (cells j : ℕ) → j < cells → 1 ≤ startPeak cells
 start-one zero j below = absurd (omega arith)
 start-one (suc cells) j below = le-refl 1
 
-identity-small : (i j : ℕ) → natAbs (identity i j) ≤ 1
+pub identity-small : (i j : ℕ) → natAbs (identity i j) ≤ 1
 identity-small i j = pick (ℕ-discrete i j)
   where
     pick : Dec (i ≡ j) → natAbs (identity i j) ≤ 1
     pick (yes e) = rw (e, identity-at j) (omega arith)
     pick (no d) = rw (identity-other i j d) (omega arith)
+
+-- an identity of n lines holds an entry that is the peak at its start
+pub identity-reached : (n : ℕ) (s : State) → s .columnFollower ≡ table n n identity → startPeak n ≤ largest s
+identity-reached zero s e = zero-le
+identity-reached (suc n) s e =
+    le-trans
+    (rw (identity-at 0) at
+    (tableLargest-table (tableLargest (s .columnFollower)) (suc n) (suc n) identity .0
+    (subst (λ (T : Table). tableLargest T ≤ tableLargest (s .columnFollower)) e (le-refl (tableLargest (s .columnFollower)))) 0 0 (omega arith) (omega arith)))
+    (follower-largest s)
 
 -- what `fill_identity` asks
 abbrev pub CanFill : Matrix → List ℤ → Type 0
@@ -156,19 +166,9 @@ module _ (K : Sections) (p n : ℕ) (slots : workSlots K p ≤ n) where
     unfolding firstStart
     first-state = tables start ∙ ap begun start-is
       where
-        -- V holds a 1 where there are cells
-        reached : (cells : ℕ) → count K p ≡ cells → startPeak cells ≤ largest (begun 0)
-        reached zero e = zero-le
-        reached (suc cells) e =
-            le-trans
-            (rw (identity-at 0) at
-            (tableLargest-table (tableLargest (begun 0 .columnFollower)) (count K p) (count K p) identity .0 (le-refl (tableLargest (begun 0 .columnFollower))) 0 0
-            (omega arith) (omega arith)))
-            (follower-largest (begun 0))
-
         start-is : start ≡ max 0 (largest (begun 0))
         start-is =
-            le-antisymm (le-trans (reached (count K p) refl) (le-max-right 0 (largest (begun 0))))
+            le-antisymm (le-trans (identity-reached (count K p) (begun 0) refl) (le-max-right 0 (largest (begun 0))))
             (max-le zero-le (subst (λ (s : State). largest s ≤ start) (tables 0) (largest-under (firstWorkspaceOf K p) 0 inverse-under)))
 
   module _ (W : Workspace) (is : W ≡ firstWorkspaceOf K p) where

@@ -1,22 +1,22 @@
--- A part of a slice of zeros is lent, and comes back with the rest behind it: part-zeros, rest-zeros, zero-behind. What the two reductions leave in
--- the part, they leave in the slice: twice-whole.
+-- A part of a slice of zeros is lent, and comes back with the rest behind it: part-zeros, rest-zeros, zero-behind. What the first reduction leaves in
+-- the part, it leaves in the slice: done-whole, cleared-whole.
 use mathlib.Core.Path.{_≡_, refl, sym, _∙_, ap}
 use mathlib.Core.List.{List, [], _∷_, _++_}
 use Prim.Native.Nat.{ℕ, zero, suc, _+_, _-_, _≤_}
 use native.Mathlib.Omega.{arith}
 use lib.IntN.{ℤ, pos}
 use lib.ListN.{length, take, drop, replicate, length-append, length-replicate, replicate-append-replicate, List·getD-eq-default}
-use Rattle.complexes.specs.Complex.{Sections}
 use Rattle.reduction_laws.specs.Tables.{table-ext}
-use Rattle.reports.specs.Reductions as reports
+use Rattle.reduction_steps.specs.Step.{Machine, done}
+use Rattle.refusal.specs.declared.Refusal.{Refusal}
+use Rattle.passes.specs.PassAnswers.{Cleared}
+use Rattle.reducer.specs.StageAnswers.{ReductionDone}
 use Rattle.integers.specs.Slot.{slot}
 use Rattle.matrix_lines.specs.Slice.{lineAt, Under}
 use Rattle.matrix_lines.specs.declared.matrix.Matrix.{Matrix}
 use Rattle.operations.specs.Laid.{linesOf, stateOf}
 use Rattle.operations.specs.declared.workspace.Workspace.{Workspace}
-use Rattle.two_reductions.specs.Slices.{TwiceReduced, ZeroFrom}
-use Rattle.two_reductions.specs.declared.reductions.Reductions.{Reductions}
-use Rattle.two_reductions.specs.declared.reductions.Reductions.the-variants.{Done, Refused}
+use Rattle.two_reductions.specs.Slices.{ZeroFrom}
 use Rattle.two_reductions.proofs.Filling.{state-is}
 
 abbrev pub zeros : ℕ → List ℤ
@@ -56,23 +56,18 @@ module _ (w : List ℤ) (k : ℕ) where
   under-front : {peak : ℕ} → Under peak w → Under peak (w ++ zeros k)
   under-front h = record { bound = λ i. rw (slot-front w k i) (h .bound i); limit = h .limit }
 
-  pub twice-whole : (K : Sections) (p : ℕ) (y : reports.Reductions) (m n : ℕ) (r : Reductions) → m + k ≡ n → TwiceReduced K p y m r w
-      → TwiceReduced K p y n r (w ++ zeros k)
-  twice-whole K p y m n (Done x) e h = record {
-    first-rank = h .first-rank;
-    rank-within = h .rank-within;
-    workspace-is = h .workspace-is;
-    is = h .is ∙ ap (reports.reduced (x .workspace .matrix .lines) (x .rank)) (sym (state-front (x .workspace) (x .peak)));
-    rank-below = h .rank-below;
+  -- what the first reduction leaves in the part, it leaves in the slice
+  pub done-whole : {W : Workspace} {y : Machine} {m n r peak : ℕ} → m + k ≡ n → ReductionDone W y m r peak w → ReductionDone W y n r peak (w ++ zeros k)
+  done-whole {W} {m} {r} {peak} e h = record {
+    outcome = h .outcome ∙ ap (done r) (sym (state-front W peak));
     kept = record {
       same-length = length-append w (zeros k) ∙ omega (arith, h .kept .same-length, length-replicate k (pos 0), e);
       under = under-front (h .kept .under);
     };
   }
-  twice-whole K p y m n (Refused x) e h = (
-    h .0,
-    record {
-      number = h .1 .number;
-      zeros = ap (λ (l : List ℤ). l ++ zeros k) (h .1 .zeros) ∙ replicate-append-replicate m k (pos 0) ∙ ap zeros e;
-    },
-  )
+
+  pub cleared-whole : {m n : ℕ} {x : Refusal} → m + k ≡ n → Cleared m x w → Cleared n x (w ++ zeros k)
+  cleared-whole {m} e h = record {
+    number = h .number;
+    zeros = ap (λ (l : List ℤ). l ++ zeros k) (h .zeros) ∙ replicate-append-replicate m k (pos 0) ∙ ap zeros e;
+  }

@@ -34,6 +34,12 @@ module _ {n : ℕ} (cells rows columns : ℕ) (slots : cells * (2 * cells + max 
     after-column-inverse = omega (arith, parts);
   }
 
+-- the second keeps columns of length `kept`
+module _ {n : ℕ} (cells rows columns kept : ℕ) (slots : cells * (2 * cells + max rows columns) + columns * kept ≤ n) where
+  parts-kept : cells * max rows columns + 2 * (cells * cells) + columns * kept ≤ n
+  parts-kept =
+      omega (arith, parts {n = cells * (2 * cells + max rows columns)} cells rows columns (le-refl (cells * (2 * cells + max rows columns))))
+
   module _ (rank : ℕ) (within : rank ≤ cells) where
     -- the lines before the rank and those from it on
     square : rank * cells + (cells - rank) * cells ≡ cells * cells
@@ -42,7 +48,7 @@ module _ {n : ℕ} (cells rows columns : ℕ) (slots : cells * (2 * cells + max 
     product-fits : (cells - rank) * columns ≤ cells * max rows columns
     product-fits = mul-le-mul (omega arith) (le-max-right rows columns)
 
-    pub second-laid : Laid n (secondWorkspace cells rows columns rank)
+    pub second-laid : Laid n (secondWorkspace cells rows columns kept rank)
     unfolding secondWorkspace
     second-laid = record {
       row-inverse-lines = refl;
@@ -52,8 +58,8 @@ module _ {n : ℕ} (cells rows columns : ℕ) (slots : cells * (2 * cells + max 
       after-matrix = omega (arith, product-fits);
       after-row-inverse = omega (arith, square);
       after-row-follower = omega (arith, square);
-      after-column-follower = omega (arith, mul-zero columns);
-      after-column-inverse = omega (arith, parts, mul-zero columns);
+      after-column-follower = omega arith;
+      after-column-inverse = omega (arith, parts-kept, mul-zero columns);
     }
 
 -- ---- each matrix lies within the slice

@@ -3,6 +3,7 @@
 -- sheet-chains.
 use mathlib.Core.Path.{_≡_, refl, sym, _∙_, ap}
 use mathlib.Core.Logic.{_≢_}
+use mathlib.Core.Bool.{Bool}
 use mathlib.Core.List.{List}
 use Prim.Native.Nat.{ℕ, zero, suc, _+_, _*_, _-_, _≤_, _<_, max}
 use native.Mathlib.Nat.{le-trans, pos-of-ne-zero}
@@ -18,6 +19,7 @@ use Rattle.sheet_format.specs.CheckLaws.{Passes, refusal-zero, countExceeds-fal
 use Rattle.sheet_format.specs.SheetLaws.{count-sectionsOf}
 use Rattle.fields.specs.Read.{ReadsBelow}
 use Rattle.limits.specs.Limits.{libraryLimit}
+use Rattle.reports.specs.Reductions.{width}
 use Rattle.requests.specs.Call.{workSlots}
 use Rattle.faces.specs.Face.{Accepted}
 use Rattle.two_reductions.specs.Workspaces.{firstWorkspace, secondWorkspace}
@@ -81,5 +83,8 @@ module _ {K : Sections} {p : ℕ} {n : CellCounts} (h : CellCountsRead K p n) wh
   pub first-of : firstWorkspace (n .cells) (n .rows) (n .columns) ≡ firstWorkspaceOf K p
   first-of = ap (λ (k : CellCounts). firstWorkspace (k .cells) (k .rows) (k .columns)) (h .is)
 
-  pub second-of : (rank : ℕ) → secondWorkspace (n .cells) (n .rows) (n .columns) rank ≡ secondWorkspaceOf K p rank
-  second-of rank = ap (λ (k : CellCounts). secondWorkspace (k .cells) (k .rows) (k .columns) rank) (h .is)
+  pub columns-of : n .columns ≡ count K (suc p)
+  columns-of = ap (λ (k : CellCounts). k .columns) (h .is)
+
+  pub second-of : (kept : Bool) (rank : ℕ) → secondWorkspace (n .cells) (n .rows) (n .columns) (width kept (n .columns)) rank ≡ secondWorkspaceOf K p kept rank
+  second-of kept rank = ap (λ (k : CellCounts). secondWorkspace (k .cells) (k .rows) (k .columns) (width kept (k .columns)) rank) (h .is)

@@ -1,19 +1,24 @@
 // The two reductions of a dimension.
 ghost use mathlib.Core.Path.{_≡_};
-ghost use Prim.Native.Nat.{_≤_};
+ghost use Prim.Native.Nat.{_<_, _≤_};
 ghost use lib.ListN.{length, replicate};
 ghost use lib.IntN.{pos};
+ghost use Rattle.matrices.specs.Matrix.{Eq, identity, null};
 ghost use Rattle.sheet_format.specs.Layout.{top};
 ghost use Rattle.sheet_format.specs.Check.{sectionsOf};
 ghost use Rattle.reduction_steps.specs.Pivot.{pivotRule};
-ghost use Rattle.requests.specs.Call.{workSlots};
-ghost use Rattle.reports.specs.Reductions.{noTransforms, reductionsOf};
+ghost use Rattle.requests.specs.Call.{workSlots, workSlotsFor};
+ghost use Rattle.reports.specs.Reductions.{secondColumnsOnly, reductionsOf};
+ghost use Rattle.matrix_lines.specs.Matrices.{Held, contents};
+ghost use Rattle.boundaries.specs.Filled.{MatrixFilled};
 ghost use Rattle.faces.specs.Face.{Accepted};
+ghost use Rattle.reducer.specs.StageAnswers.{Reduces, ReductionDone};
 ghost use Rattle.two_reductions.specs.CellCounts.{CellCountsRead};
-ghost use Rattle.two_reductions.specs.Slices.{firstWorkspaceOf, startPeak, Filled, TwiceReduced, ZeroFrom};
+ghost use Rattle.two_reductions.specs.Slices.{firstWorkspaceOf, firstReduction, startPeak, Filled, TwiceReduced, ZeroFrom};
 use crate::cell_counts::CellCounts;
 use crate::reduced::Reduced;
 use crate::workspaces::first_workspace;
+use crate::workspaces::kept_width;
 use crate::workspaces::second_workspace;
 use crate::workspaces::work_slots;
 use boundaries::fill::fill_boundary;
@@ -21,6 +26,7 @@ use boundaries::fill::fill_identity;
 use boundaries::product::multiply;
 use matrix_lines::line::Effect;
 use matrix_lines::line::clear;
+use matrix_lines::matrix::Matrix;
 use numbers::absolute::larger;
 use operations::workspace::Workspace;
 use reducer::reduction::Reduction;
@@ -54,44 +60,89 @@ fn start_peak(cells: usize) -> u64
     if cells == 0 { 0 } else { 1 }
 }
 
-// Reduces the boundary matrix of dimension p, then Q times the one of p + 1, in the part of the work slice that their workspaces use, which reads 0.
-fn reduce_part(s: &[u8], p: usize, n: CellCounts, w: &mut [i32]) -> Reductions
+// Writes the identity where a transform is kept; one that is absent has lines of length 0.
+fn fill_transform(m: Matrix, w: &mut [i32])
+    requires { ⌜ Held (length (now w)) m × (0 < m .width → m .lines ≡ m .width) × Eq (m .lines) (m .width) (contents m (now w)) null ⌝ }
+    ensures { λ r. ⌜ MatrixFilled m (now (w .entry)) identity (now (w .exit)) ⌝ }
+{
+    let width = m.width;
+    if 0 < width {
+        fill_identity(m, w);
+    }
+}
+
+// Reduces the boundary matrix of dimension p in a slice that reads 0.
+fn reduce_first(s: &[u8], p: usize, n: CellCounts, w: &mut [i32]) -> Reduction
     requires { ⌜ Accepted (now s) × (p ≤ top) ⌝ }
     requires { ⌜ workSlots (sectionsOf (now s)) p ≤ length (now w) ⌝ }
     requires { ⌜ CellCountsRead (sectionsOf (now s)) p n ⌝ }
     requires { ⌜ now w ≡ replicate (length (now w)) (pos 0) ⌝ }
-    ensures { λ r. ⌜ TwiceReduced (sectionsOf (now (s .entry))) p (reductionsOf noTransforms pivotRule (sectionsOf (now (s .entry))) p) (length (now (w .entry))) r (now (w .exit)) ⌝ }
+    ensures { λ r.
+        let K = sectionsOf (now (s .entry)) in ⌜
+        Reduces (firstWorkspaceOf K p) (firstReduction pivotRule K p) (length (now (w .entry))) r (now (w .exit))
+        ⌝ }
 {
     let first = first_workspace(n.cells, n.rows, n.columns);
     fill_first(s, p, first, w);
-    let Reduction::Done(rank, halfway) = reduce_matrix(first, w, start_peak(n.cells)) else {
-        return Reductions::Refused(Refusal::TooWide);
-    };
-    let second = second_workspace(n.cells, n.rows, n.columns, rank);
+    reduce_matrix(first, w, start_peak(n.cells))
+}
+
+// Reduces Q times the boundary matrix of dimension p + 1, after a first reduction of this rank and peak, with the transform of the columns where it is
+// tracked. The slots behind those of the first reduction read 0.
+fn reduce_second(
+    s: &[u8],
+    p: usize,
+    n: CellCounts,
+    tracked: bool,
+    rank: usize,
+    peak: u64,
+    w: &mut [i32],
+) -> Reductions
+    requires { ⌜ Accepted (now s) × (p ≤ top) ⌝ }
+    requires { ⌜ workSlotsFor (secondColumnsOnly tracked) (sectionsOf (now s)) p ≤ length (now w) ⌝ }
+    requires { ⌜ CellCountsRead (sectionsOf (now s)) p n ⌝ }
+    requires { ⌜
+        ReductionDone (firstWorkspaceOf (sectionsOf (now s)) p) (firstReduction pivotRule (sectionsOf (now s)) p) (length (now w)) rank peak (now w)
+        ⌝ }
+    requires { ⌜ ZeroFrom (workSlots (sectionsOf (now s)) p) (now w) ⌝ }
+    ensures { λ r.
+        let K = sectionsOf (now (s .entry)) in ⌜
+        TwiceReduced K p tracked (reductionsOf (secondColumnsOnly tracked) pivotRule K p) (length (now (w .entry))) r (now (w .exit))
+        ⌝ }
+{
+    let kept = kept_width(tracked, n.columns);
+    let second = second_workspace(n.cells, n.rows, n.columns, kept, rank);
+    fill_transform(second.column_follower, w);
     let Effect::Done(product) = multiply(s, p, second.row_follower, second.matrix, w) else {
         clear(w);
         return Reductions::Refused(Refusal::TooWide);
     };
-    let reached = larger(halfway, product);
-    let Reduction::Done(last, peak) = reduce_matrix(second, w, reached) else {
+    let started = larger(larger(peak, start_peak(kept)), product);
+    let Reduction::Done(last, reached) = reduce_matrix(second, w, started) else {
         return Reductions::Refused(Refusal::TooWide);
     };
     Reductions::Done(Reduced {
         workspace: second,
         rank: last,
-        peak,
+        peak: reached,
     })
 }
 
-// The two reductions of dimension p. The work slice is cleared first, and the slots behind those of the workspaces are not lent.
-pub fn reduce_twice(s: &[u8], p: usize, n: CellCounts, w: &mut [i32]) -> Reductions
+// The two reductions of dimension p. The work slice is cleared, and the first reduction is lent the slots that it uses, so that the room for the transform
+// reads 0 when the second begins.
+pub fn reduce_twice(s: &[u8], p: usize, n: CellCounts, tracked: bool, w: &mut [i32]) -> Reductions
     requires { ⌜ Accepted (now s) × (p ≤ top) ⌝ }
-    requires { ⌜ workSlots (sectionsOf (now s)) p ≤ length (now w) ⌝ }
+    requires { ⌜ workSlotsFor (secondColumnsOnly tracked) (sectionsOf (now s)) p ≤ length (now w) ⌝ }
     requires { ⌜ CellCountsRead (sectionsOf (now s)) p n ⌝ }
-    ensures { λ r. ⌜ TwiceReduced (sectionsOf (now (s .entry))) p (reductionsOf noTransforms pivotRule (sectionsOf (now (s .entry))) p) (length (now (w .entry))) r (now (w .exit)) ⌝ }
-    ensures { λ r. ⌜ ZeroFrom (workSlots (sectionsOf (now (s .entry))) p) (now (w .exit)) ⌝ }
+    ensures { λ r.
+        let K = sectionsOf (now (s .entry)) in ⌜
+        TwiceReduced K p tracked (reductionsOf (secondColumnsOnly tracked) pivotRule K p) (length (now (w .entry))) r (now (w .exit))
+        ⌝ }
 {
     clear(w);
     let slots = work_slots(n.cells, n.rows, n.columns);
-    reduce_part(s, p, n, &mut w[..slots])
+    let Reduction::Done(rank, peak) = reduce_first(s, p, n, &mut w[..slots]) else {
+        return Reductions::Refused(Refusal::TooWide);
+    };
+    reduce_second(s, p, n, tracked, rank, peak, w)
 }
