@@ -3,6 +3,7 @@
 --     regrant                          the same for other chains that want as many slots
 --     twice-refused, twice-done        the two reductions went too wide; they left the state that is written
 use mathlib.Core.Path.{_≡_, subst}
+use mathlib.Core.Bool.{Bool}
 use mathlib.Core.List.{List}
 use Prim.Native.Nat.{ℕ, _*_, _≤_}
 use Rattle.complexes.specs.Complex.{count}
@@ -14,7 +15,7 @@ use Rattle.sheet_format.specs.Sheet.{Bytes}
 use Rattle.sheet_format.specs.Check.{sectionsOf}
 use Rattle.limits.specs.Limits.{libraryLimit}
 use Rattle.faces.specs.Face.{Accepted}
-use Rattle.reports.specs.Reductions.{Reductions, tooWide, reductionsOf}
+use Rattle.reports.specs.Reductions.{Reductions, secondColumnsOnly, tooWide, reductionsOf}
 use Rattle.requests.specs.Question.{Question}
 use Rattle.requests.proofs.CheckLaws.{Passed, callChecks-zero}
 use Rattle.refusal.specs.Number.{numberOf}
@@ -102,15 +103,16 @@ regrant l e g =
 
 -- ---- the two reductions
 
-module _ (l : Lengths) where
+-- with the transform of the columns of the second, or without it
+module _ (l : Lengths) (kept : Bool) where
   abbrev pub twice : Reductions
-  twice = reductionsOf pivotRule (sectionsOf (l .question .sheet)) (l .question .dimension)
+  twice = reductionsOf (secondColumnsOnly kept) pivotRule (sectionsOf (l .question .sheet)) (l .question .dimension)
 
   abbrev Twice : answer.Reductions → List ℤ → Type 0
-  Twice r w = TwiceReduced (sectionsOf (l .question .sheet)) (l .question .dimension) twice (l .work) r w
+  Twice r w = TwiceReduced (sectionsOf (l .question .sheet)) (l .question .dimension) kept twice (l .work) r w
 
   abbrev pub Reduces : Reduced → List ℤ → Type 0
-  Reduces x w = ReducedTwice (sectionsOf (l .question .sheet)) (l .question .dimension) twice (l .work) x w
+  Reduces x w = ReducedTwice (sectionsOf (l .question .sheet)) (l .question .dimension) kept twice (l .work) x w
 
   module _ (r : answer.Reductions) {w : List ℤ} where
     pub twice-done : {x : Reduced} → r ≡ variants.Done x → Twice r w → Reduces x w

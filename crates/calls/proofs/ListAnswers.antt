@@ -1,6 +1,7 @@
 -- What the call on many chains answers: lists-refuse, for the checks 1 to 9; length-refuses, for 10; cycles-refuse, for 11 and 12; lists-wide,
 -- lists-done.
-use mathlib.Core.Path.{_≡_, _∙_, ap}
+use mathlib.Core.Path.{_≡_, refl, _∙_, ap}
+use mathlib.Core.Bool.{false}
 use mathlib.Core.Logic.{_≢_}
 use mathlib.Core.List.{List}
 use Prim.Native.Nat.{ℕ, _*_}
@@ -16,7 +17,8 @@ use Rattle.reduction_steps.specs.State.{State}
 use Rattle.reduction_steps.proofs.PivotLaws.{pivotRule-is-rule}
 use Rattle.reports.specs.Report as reports
 use Rattle.reports.specs.Report.{coordinateList}
-use Rattle.reports.specs.Reductions.{tooWide}
+use Rattle.reports.specs.Reductions.{noTransforms, tooWide}
+use Rattle.requests.proofs.CallLaws.{noEnding}
 use Rattle.requests.specs.Question.{cells, rule, two}
 use Rattle.requests.specs.Chains.{chainAt, cyclesChecks}
 use Rattle.requests.proofs.ChainsLaws.{chain-inside, length-chainAt}
@@ -62,7 +64,7 @@ module _ (l : Lent) (many : ℕ) (chains : List ℤ) where
 
   told : (x : Refusal) → early ≡ numberOf x → CallAnswers listsCalled (Refused x) (l .output) (l .work)
   unfolding call
-  told x e = refuses early (two (l .question)) left (l .output) (l .work) e
+  told x e = refuses early noEnding (two (l .question) noTransforms) left (l .output) (l .work) e
 
   pub lists-refuse : (x : Refusal) → admission (l .limit) (l .question) (Coordinates many) (length (l .output)) (length (l .work)) ≡ numberOf x
       → CallAnswers listsCalled (Refused x) (l .output) (l .work)
@@ -80,12 +82,12 @@ module _ (l : Lent) (many : ℕ) (chains : List ℤ) where
         passes : early ≡ 0
         passes = cycles-next (lengths l) many chains g size ∙ passed
 
-        pub lists-wide : {x : Refusal} {work′ : List ℤ} → (twice (lengths l) ≡ tooWide) × Cleared (length (l .work)) x work′
+        pub lists-wide : {x : Refusal} {work′ : List ℤ} → (twice (lengths l) false ≡ tooWide) × Cleared (length (l .work)) x work′
             → CallAnswers listsCalled (Refused refusal.TooWide) (l .output) work′
         unfolding call two rule cells
-        lists-wide h = goes-wide early (two (l .question)) left (l .output) (l .work) passes (h .0) (h .1 .zeros)
+        lists-wide h = goes-wide early noEnding (two (l .question) noTransforms) left (l .output) (l .work) passes (h .0) (h .1 .zeros)
 
-        module _ {x : Reduced} {w : List ℤ} (h : Reduces (lengths l) x w) where
+        module _ {x : Reduced} {w : List ℤ} (h : Reduces (lengths l) false x w) where
           -- the lists can be written
           pub can-list : CanList x w each many chains (length (l .output))
           can-list = record {
@@ -102,7 +104,7 @@ module _ (l : Lent) (many : ℕ) (chains : List ℤ) where
               → CallAnswers listsCalled (Done counts) coordinates′ work′
           unfolding call two rule cells
           lists-done k o e =
-              is-done early (two (l .question)) left (l .output) (l .work) passes (h .is) k
+              is-done early noEnding (two (l .question) noTransforms) left (l .output) (l .work) passes (h .is) refl k
               (o
               ∙ ap (λ (width : ℕ). splices each (λ i. coordinateList width (x .workspace .matrix .lines) (stateIn x w) (chainAt each chains i)) many (l .output))
               (follower-width pivotRule-is-rule (g .complex) (g .passed .work-slots) h))

@@ -1,5 +1,6 @@
 -- What the report call answers: report-refuses, report-wide, report-done.
-use mathlib.Core.Path.{_≡_, sym, _∙_, ap}
+use mathlib.Core.Path.{_≡_, refl, sym, _∙_, ap}
+use mathlib.Core.Bool.{false}
 use mathlib.Core.List.{List, append-nil}
 use Prim.Native.Nat.{ℕ, _*_}
 use native.Mathlib.Nat.{one-mul}
@@ -12,7 +13,8 @@ use Rattle.reduction_steps.specs.State.{State}
 use Rattle.reduction_steps.proofs.PivotLaws.{pivotRule-is-rule}
 use Rattle.reports.specs.Report as reports
 use Rattle.reports.specs.Report.{reportList}
-use Rattle.reports.specs.Reductions.{tooWide}
+use Rattle.reports.specs.Reductions.{noTransforms, tooWide}
+use Rattle.requests.proofs.CallLaws.{noEnding}
 use Rattle.requests.specs.Question.{cells, rule, two}
 use Rattle.requests.specs.Call.{report, listSlots, numbersOf, callChecks, earlyChecks, call}
 use Rattle.requests.proofs.CheckLaws.{callChecks-zero}
@@ -61,7 +63,7 @@ module _ (l : Lent) where
   pub report-refuses : {x : Refusal} → admission (l .limit) (l .question) Report (length (l .output)) (length (l .work)) ≡ numberOf x
       → CallAnswers called (Refused x) (l .output) (l .work)
   unfolding call
-  report-refuses e = refuses early (two (l .question)) left (l .output) (l .work) (early-is ∙ e)
+  report-refuses e = refuses early noEnding (two (l .question) noTransforms) left (l .output) (l .work) (early-is ∙ e)
 
   module _ {n : CellCounts} (g : Granted (lengths l) Report n) where
     passes : early ≡ 0
@@ -69,16 +71,16 @@ module _ (l : Lent) where
         early-is
         ∙ callChecks-zero (l .limit) (l .question) (slotsAsked (lengths l) Report) (spaceAsked (lengths l) Report) (length (l .output)) (length (l .work)) .1 (g .passed)
 
-    pub report-wide : {x : Refusal} {work′ : List ℤ} → (twice (lengths l) ≡ tooWide) × Cleared (length (l .work)) x work′
+    pub report-wide : {x : Refusal} {work′ : List ℤ} → (twice (lengths l) false ≡ tooWide) × Cleared (length (l .work)) x work′
         → CallAnswers called (Refused refusal.TooWide) (l .output) work′
     unfolding call two rule cells
-    report-wide h = goes-wide early (two (l .question)) left (l .output) (l .work) passes (h .0) (h .1 .zeros)
+    report-wide h = goes-wide early noEnding (two (l .question) noTransforms) left (l .output) (l .work) passes (h .0) (h .1 .zeros)
 
-    pub report-done : {x : Reduced} {w : List ℤ} → Reduces (lengths l) x w → {counts : Counts} {report′ work′ : List ℤ} → WroteReport x w (l .output) counts report′
+    pub report-done : {x : Reduced} {w : List ℤ} → Reduces (lengths l) false x w → {counts : Counts} {report′ work′ : List ℤ} → WroteReport x w (l .output) counts report′
         → work′ ≡ replicate (length w) (pos 0) → CallAnswers called (Done counts) report′ work′
     unfolding call two rule cells
     report-done {x} {w} h k e =
-        is-done early (two (l .question)) left (l .output) (l .work) passes (h .is) (k .counts)
+        is-done early noEnding (two (l .question) noTransforms) left (l .output) (l .work) passes (h .is) refl (k .counts)
         (k .is
         ∙ ap (λ (width : ℕ). written (reportList width (x .workspace .matrix .lines) (x .rank) (stateIn x w)) (l .output))
         (inverse-width pivotRule-is-rule (g .complex) (g .passed .work-slots) h)

@@ -1,5 +1,6 @@
 -- What the two reductions leave can be counted and written: rows-within, can-count, can-report, can-coordinate.
 use mathlib.Core.Path.{_≡_, refl, sym, _∙_}
+use mathlib.Core.Bool.{Bool}
 use mathlib.Core.List.{List}
 use Prim.Native.Nat.{ℕ, suc, _+_, _*_, _≤_}
 use native.Mathlib.Nat.{mul-le-mul, le-refl}
@@ -10,8 +11,8 @@ use Rattle.complexes.specs.Complex.{Sections, count}
 use Rattle.complexes.proofs.ChainComplex.{ChainComplex}
 use Rattle.complexes.specs.Boundary.{countBelow}
 use Rattle.reduction_steps.specs.Pivot.{Rule, IsRule}
-use Rattle.requests.specs.Call.{workSlots}
-use Rattle.reports.specs.Reductions.{noTransforms, reductionsOf}
+use Rattle.requests.specs.Call.{workSlotsFor}
+use Rattle.reports.specs.Reductions.{secondColumnsOnly, width, reductionsOf}
 use Rattle.limits.specs.Limits.{entryLimit, coefficientLimit, libraryLimit}
 use Rattle.answers.proofs.TwoReductions.{Right, reductions-right}
 use Rattle.integers.specs.Slot.{slot}
@@ -21,18 +22,18 @@ use Rattle.writers.specs.Written.{Kinds, CanReport, CanCount, CanCoordinate}
 use Rattle.two_reductions.specs.declared.reduced.Reduced.{Reduced}
 use Rattle.two_reductions.specs.Workspaces.{secondWorkspace}
 use Rattle.two_reductions.specs.Slices.{stateIn, ReducedTwice}
-use Rattle.two_reductions.proofs.Places.{second-laid}
+use Rattle.two_reductions.proofs.Places.{second-laid, room-kept}
 
-module _ {rule : Rule} (is : IsRule rule) {K : Sections} {p n : ℕ} {x : Reduced} {w : List ℤ} (complex : ChainComplex libraryLimit K) (slots : workSlots K p ≤ n)
-    (h : ReducedTwice K p (reductionsOf rule K p) n x w) where
+module _ {rule : Rule} (is : IsRule rule) {K : Sections} {p n : ℕ} {kept : Bool} {x : Reduced} {w : List ℤ} (complex : ChainComplex libraryLimit K)
+    (slots : workSlotsFor (secondColumnsOnly kept) K p ≤ n) (h : ReducedTwice K p kept (reductionsOf (secondColumnsOnly kept) rule K p) n x w) where
   laid : Laid (length w) (x .workspace)
   laid =
       rw (h .kept .same-length, h .workspace-is)
-      (second-laid (count K p) (countBelow K p) (count K (suc p)) slots (h .first-rank) (h .rank-within))
+      (second-laid (count K p) (countBelow K p) (count K (suc p)) (width kept (count K (suc p))) (omega (arith, room-kept K p kept, slots)) (h .first-rank) (h .rank-within))
 
   right : Right K p (x .workspace .matrix .lines) (x .rank) (stateIn x w)
   right =
-      reductions-right complex noTransforms rule is entryLimit p (omega arith) (x .workspace .matrix .lines) (x .rank) (stateIn x w) (h .is)
+      reductions-right complex (secondColumnsOnly kept) rule is entryLimit p (omega arith) (x .workspace .matrix .lines) (x .rank) (stateIn x w) (h .is)
 
   kinds : Kinds (x .workspace .matrix) w
   kinds = record { nonneg = right .reduced .second .nonneg }

@@ -9,7 +9,7 @@ use Rattle.refusal.specs.Number.{numberOf}
 use Rattle.two_reductions.specs.CellCounts.{cellCountsIn, CellCountsRead}
 use Rattle.two_reductions.specs.declared.cell_counts.CellCounts.{CellCounts}
 use Rattle.calls.specs.declared.admission.Request.{Request}
-use Rattle.calls.specs.declared.admission.Request.the-variants.{Report, Coordinates}
+use Rattle.calls.specs.declared.admission.Request.the-variants.{Report, Coordinates, Surface}
 use Rattle.calls.specs.declared.admission.Admission.{Admission}
 use Rattle.calls.specs.declared.admission.Admission.the-variants.{Admitted, Refused}
 
@@ -17,10 +17,13 @@ use Rattle.calls.specs.declared.admission.Admission.the-variants.{Admitt
 abbrev pub slotsFor : Request → CellCounts → ℕ
 slotsFor Report n = 2 + n .cells + n .cells * n .cells
 slotsFor (Coordinates many) n = many * n .cells
+slotsFor Surface n = n .columns
 
 -- .. and of the work slice
 abbrev pub spaceFor : Request → CellCounts → ℕ
-spaceFor request n = n .cells * (2 * n .cells + max (n .rows) (n .columns))
+spaceFor Report n = n .cells * (2 * n .cells + max (n .rows) (n .columns))
+spaceFor (Coordinates many) n = n .cells * (2 * n .cells + max (n .rows) (n .columns))
+spaceFor Surface n = n .cells * (2 * n .cells + max (n .rows) (n .columns)) + n .columns * n .columns
 
 -- the first of the checks 1 to 9 that applies, 0 for none
 abbrev pub admission : ℕ → Question → Request → ℕ → ℕ → ℕ

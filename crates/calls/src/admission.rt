@@ -12,10 +12,11 @@ use two_reductions::cell_counts::CellCounts;
 use two_reductions::cell_counts::cell_counts_of;
 use two_reductions::workspaces::work_slots;
 
-// What a call asks of a dimension: its report, or the coordinates of a number of chains.
+// What a call asks of a dimension: its report, the coordinates of a number of chains, or the surface that a chain bounds.
 pub enum Request {
     Report,
     Coordinates(usize),
+    Surface,
 }
 
 // The dimension may be worked on, or the call is refused.
@@ -34,15 +35,21 @@ impl Request {
         match self {
             Request::Report => output < 2 + cells + cells * cells,
             Request::Coordinates(many) => cells != 0 && output / cells < many,
+            Request::Surface => output < n.columns,
         }
     }
 
-    // The work slots that are wanted: those of the two reductions.
+    // The work slots that are wanted: those of the two reductions, and of the transform that a surface keeps.
     fn work_slots(self, n: CellCounts) -> usize
         requires { ⌜ (n .cells < 65536) × (n .rows < 65536) × (n .columns < 65536) ⌝ }
         ensures { λ r. ⌜ r ≡ spaceFor self n ⌝ }
     {
-        work_slots(n.cells, n.rows, n.columns)
+        let slots = work_slots(n.cells, n.rows, n.columns);
+        match self {
+            Request::Report => slots,
+            Request::Coordinates(_) => slots,
+            Request::Surface => slots + n.columns * n.columns,
+        }
     }
 }
 

@@ -56,7 +56,7 @@ pub fn coordinate_lists(
     if let Check::Refused(refusal) = check_chains(s, p, cells, lists, chains) {
         return Answer::Refused(refusal);
     }
-    let Reductions::Done(reduced) = reduce_twice(s, p, n, work) else {
+    let Reductions::Done(reduced) = reduce_twice(s, p, n, false, work) else {
         return Answer::Refused(Refusal::TooWide);
     };
     write_lists(reduced, work, cells, lists, chains, coordinates);

@@ -43,7 +43,7 @@ pub fn report_at(
         Admission::Admitted(n) => n,
     };
     let p = dimension as usize;
-    let Reductions::Done(reduced) = reduce_twice(s, p, n, work) else {
+    let Reductions::Done(reduced) = reduce_twice(s, p, n, false, work) else {
         return Answer::Refused(Refusal::TooWide);
     };
     let counts = write_report(reduced, work, report);

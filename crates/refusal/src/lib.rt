@@ -19,6 +19,7 @@ pub enum Refusal {
     MeshMalformed,
     ElementFaulty,
     SheetTooLong,
+    BoundsNothing,
 }
 
 impl Refusal {
@@ -43,6 +44,7 @@ impl Refusal {
             Refusal::MeshMalformed => 14,
             Refusal::ElementFaulty => 15,
             Refusal::SheetTooLong => 16,
+            Refusal::BoundsNothing => 17,
         }
     }
 }

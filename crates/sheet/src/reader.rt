@@ -32,6 +32,9 @@ impl Sheet {
     // The greatest absolute value of a coefficient of a given chain.
     pub const COEFFICIENT_LIMIT: u16 = 32767;
 
+    // .. and of one given to the surface call.
+    pub const SURFACE_COEFFICIENT_LIMIT: u16 = 15;
+
     // The sheet of the library's calls.
     pub fn library() -> Sheet
         ensures { λ r. ⌜ r .limit ≡ libraryLimit ⌝ }

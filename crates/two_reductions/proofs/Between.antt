@@ -6,7 +6,7 @@ use mathlib.Core.Bool.{Bool, true, false}
 use mathlib.Core.Logic.{_⊎_, inl, inr}
 use mathlib.Core.List.{List}
 use Prim.Native.Nat.{ℕ, suc, _+_, _*_, _-_, _≤_, _<_, zero-le, max}
-use native.Mathlib.Nat.{mul-zero, add-mul, le-refl, le-of-eq, le-trans, le-antisymm, le-max-left, le-max-right, max-le}
+use native.Mathlib.Nat.{add-mul, le-refl, le-of-eq, le-trans, le-antisymm, le-max-left, le-max-right, max-le}
 use native.Mathlib.Omega.{arith}
 use lib.IntN.{ℤ, pos, natAbs}
 use lib.ListN.{getD, drop}
@@ -32,7 +32,7 @@ use Rattle.operations.proofs.Regions.{lines-off, lines-on}
 use Rattle.operations.proofs.Operate.{largest-under}
 use Rattle.two_reductions.specs.Workspaces.{matrixAt, firstWorkspace, secondWorkspace}
 use Rattle.two_reductions.specs.Slices.{firstWorkspaceOf, secondWorkspaceOf, startPeak}
-use Rattle.two_reductions.proofs.Places.{second-laid, matrix-row-inverse, matrix-row-follower, matrix-column-follower}
+use Rattle.two_reductions.proofs.Places.{room-kept, second-laid, matrix-row-inverse, matrix-row-follower, matrix-column-follower}
 use Rattle.two_reductions.proofs.Filling.{state-is, lines-absent, identity-reached}
 
 -- the matrix of the later lines stands where they stand
@@ -50,11 +50,6 @@ later-lines at lines width r w = record {
 matrix-largest : (s : State) → tableLargest (s .matrix) ≤ largest s
 unfolding largest
 matrix-largest s = omega arith
-
--- the room of the matrices, the transform of the columns included where it is kept
-pub room-kept : (K : Sections) (p : ℕ) (kept : Bool) → workSlotsFor (secondColumnsOnly kept) K p ≡ workSlots K p + count K (suc p) * width kept (count K (suc p))
-room-kept K p true = refl
-room-kept K p false = omega (arith, mul-zero (count K (suc p)))
 
 -- an identity that is kept holds an entry that is the peak at its start
 transform-reached : (kept : Bool) (n : ℕ) (s : State) → s .columnFollower ≡ transform kept n → startPeak (width kept n) ≤ largest s

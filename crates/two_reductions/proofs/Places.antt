@@ -1,13 +1,22 @@
--- The matrices of the two reductions follow one another in a slice with room for them: first-laid, second-laid.
+-- The matrices of the two reductions follow one another in a slice with room for them (room-kept): first-laid, second-laid.
 use mathlib.Core.Path.{_≡_, refl, sym, _∙_, ap}
-use Prim.Native.Nat.{ℕ, _+_, _*_, _-_, _≤_, max}
+use mathlib.Core.Bool.{Bool, true, false}
+use Prim.Native.Nat.{ℕ, suc, _+_, _*_, _-_, _≤_, max}
 use native.Mathlib.Nat.{mul-comm, mul-zero, mul-add, add-mul, mul-le-mul, le-refl, le-max-left, le-max-right}
 use native.Mathlib.Omega.{arith}
+use Rattle.complexes.specs.Complex.{Sections, count}
+use Rattle.reports.specs.Reductions.{secondColumnsOnly, width}
+use Rattle.requests.specs.Call.{workSlots, workSlotsFor}
 use Rattle.matrix_lines.specs.Matrices.{Held}
 use Rattle.operations.specs.Laid.{Laid}
 use Rattle.operations.specs.declared.workspace.Workspace.{Workspace}
 use Rattle.operations.proofs.Regions.{Disjoint}
 use Rattle.two_reductions.specs.Workspaces.{firstWorkspace, secondWorkspace}
+
+-- the room of the matrices, the transform of the columns included where it is kept
+pub room-kept : (K : Sections) (p : ℕ) (kept : Bool) → workSlotsFor (secondColumnsOnly kept) K p ≡ workSlots K p + count K (suc p) * width kept (count K (suc p))
+room-kept K p true = refl
+room-kept K p false = omega (arith, mul-zero (count K (suc p)))
 
 module _ {n : ℕ} (cells rows columns : ℕ) (slots : cells * (2 * cells + max rows columns) ≤ n) where
   -- the room for the matrix, then two squares

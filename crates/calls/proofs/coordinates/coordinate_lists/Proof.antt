@@ -1,6 +1,7 @@
 -- `coordinates::coordinate_lists` meets its contract: each return is one case of the definition of the call (`Admitting`, `ListAnswers`), which on
 -- all chains is that on the chains with coefficients.
 use mathlib.Core.Path.{_≡_, sym, subst, ap, _∙_}
+use mathlib.Core.Bool.{false}
 use mathlib.Core.List.{List}
 use Prim.Native.Nat.{ℕ, _*_}
 use native.Mathlib.Nat.{le-refl}
@@ -172,7 +173,7 @@ enum-told-2 : tie.Need-enum-told-2
 enum-told-2 c = c .match3 .keys2
 
 same-length : tie.Need-same-length
-same-length c = c .before .before .before .reduce-twice .kept .1 .1 .1 .0
+same-length c = c .before .before .before .reduce-twice .kept .1 .1 .1 .1 .0
 
 returns-4 : tie.Need-returns-4
 returns-4 c =
@@ -181,7 +182,7 @@ returns-4 c =
     let m = counted t in
     on-lists m
     (lists-wide (given t) (lists m) (chains-of (known m)) (regranted m) (size m) (passed t)
-    (twice-refused (lengths (given t)) (reduce .reduce-twice .result) (c .enum-told2 .given .1) (reduce .reduce-twice .ensures .0)))
+    (twice-refused (lengths (given t)) false (reduce .reduce-twice .result) (c .enum-told2 .given .1) (reduce .reduce-twice .ensures)))
 
 -- ---- the coordinates
 
@@ -192,8 +193,8 @@ module _ (c : tie.After-known-told4) where
   abbrev checked : tie.After-enum-told
   checked = reduces .before .before
 
-  reduced : Reduces (lengths (given checked)) (c .before .reduced .given .0 .0) (reduces .reduce-twice .last .1 .1 .1 .0)
-  reduced = twice-done (lengths (given checked)) (reduces .reduce-twice .result) (c .before .reduced .given .1) (reduces .reduce-twice .ensures .0)
+  reduced : Reduces (lengths (given checked)) false (c .before .reduced .given .0 .0) (reduces .reduce-twice .last .1 .1 .1 .1 .0)
+  reduced = twice-done (lengths (given checked)) false (reduces .reduce-twice .result) (c .before .reduced .given .1) (reduces .reduce-twice .ensures)
 
 write-lists-requires : tie.Need-write-lists-requires
 write-lists-requires c κs =
@@ -213,7 +214,7 @@ same-length-2 c = c .before .before .before .before .before .before .write-lists
 
 same-length-3 : tie.Need-same-length-3
 same-length-3 c =
-    c .before .clear .kept .0 ∙ reduces (c .before .before .before .before .before .before .before .before .before) .reduce-twice .kept .1 .1 .1 .0
+    c .before .clear .kept .0 ∙ reduces (c .before .before .before .before .before .before .before .before .before) .reduce-twice .kept .1 .1 .1 .1 .0
 
 returns-5 : tie.Need-returns-5
 returns-5 c =
@@ -224,7 +225,7 @@ returns-5 c =
     on-lists m
     (lists-done (given t) (lists m) (chains-of (known m)) (regranted m) (size m) (passed t) (reduced k) (c .before .before .before .counts .ensures)
     (wrote .write-lists .ensures
-    ∙ ap (λ (n : ℕ). splices n (λ i. coordinatesOf (k .before .reduced .given .0 .0) (reduces k .reduce-twice .last .1 .1 .1 .0) (chainAt n (chains-of (known m)) i)) (lists m) (given t .output)) (cells-are (known m)))
+    ∙ ap (λ (n : ℕ). splices n (λ i. coordinatesOf (k .before .reduced .given .0 .0) (reduces k .reduce-twice .last .1 .1 .1 .1 .0) (chainAt n (chains-of (known m)) i)) (lists m) (given t .output)) (cells-are (known m)))
     (c .before .clear .ensures))
 
 pub coordinate-lists-spec : {M : Type 1} → statement M

@@ -1,5 +1,6 @@
 -- `report::report_at` meets its contract: each return is one case of the definition of the report call (`Admitting`, `ReportAnswers`).
 use mathlib.Core.Path.{_∙_}
+use mathlib.Core.Bool.{false}
 use borrow.Author.Needs.{needs}
 use denote.Ref.{now}
 use Rattle.reduction_steps.proofs.PivotLaws.{pivotRule-is-rule}
@@ -60,10 +61,10 @@ returns-2 : tie.Need-returns-2
 returns-2 c =
     let called = c .before .before .before in
     let l = given (admitted called) in
-    report-wide l (granted (admitted called)) (twice-refused (lengths l) (called .reduce-twice .result) (c .enum-told .given .1) (called .reduce-twice .ensures .0))
+    report-wide l (granted (admitted called)) (twice-refused (lengths l) false (called .reduce-twice .result) (c .enum-told .given .1) (called .reduce-twice .ensures))
 
 same-length : tie.Need-same-length
-same-length c = c .before .before .before .reduce-twice .kept .1 .1 .1 .0
+same-length c = c .before .before .before .reduce-twice .kept .1 .1 .1 .1 .0
 
 -- ---- the report
 
@@ -74,8 +75,8 @@ module _ (c : tie.After-known-told3) where
   abbrev sized : tie.After-n
   sized = admitted called
 
-  reduced : Reduces (lengths (given sized)) (c .before .reduced .given .0 .0) (called .reduce-twice .last .1 .1 .1 .0)
-  reduced = twice-done (lengths (given sized)) (called .reduce-twice .result) (c .before .reduced .given .1) (called .reduce-twice .ensures .0)
+  reduced : Reduces (lengths (given sized)) false (c .before .reduced .given .0 .0) (called .reduce-twice .last .1 .1 .1 .1 .0)
+  reduced = twice-done (lengths (given sized)) false (called .reduce-twice .result) (c .before .reduced .given .1) (called .reduce-twice .ensures)
 
 write-report-requires : tie.Need-write-report-requires
 write-report-requires c κs =
@@ -94,7 +95,7 @@ same-length-2 c = c .before .before .before .before .write-report .kept .1 .1 .0
 
 same-length-3 : tie.Need-same-length-3
 same-length-3 c =
-    c .before .clear .kept .0 ∙ called (c .before .before .before .before .before .before .before) .reduce-twice .kept .1 .1 .1 .0
+    c .before .clear .kept .0 ∙ called (c .before .before .before .before .before .before .before) .reduce-twice .kept .1 .1 .1 .1 .0
 
 pub report-at-spec : {M : Type 1} → statement M
 report-at-spec =

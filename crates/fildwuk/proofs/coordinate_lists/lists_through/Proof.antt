@@ -1,6 +1,7 @@
 -- `coordinate_lists::lists_through` meets its contract: each return is one case of the definition of the call (`HostListAnswers`), which on all chains
 -- is that on the chains with coefficients.
 use mathlib.Core.Path.{_≡_, sym, subst, ap, _∙_}
+use mathlib.Core.Bool.{false}
 use mathlib.Core.List.{List}
 use Prim.Native.Nat.{ℕ, _*_}
 use native.Mathlib.Omega.{arith}
@@ -188,7 +189,7 @@ returns-4 c =
     rw (c .number4 .ensures)
     (on-lists m
     (lists-wide (q k) (lists m) (bytes k) (output k) (entered k .pre) (regranted m) (size m) (passed t)
-    (twice-refused (given (entered k)) (reduce .reduce-twice .result) (c .before .enum-told2 .given .1) (reduce .reduce-twice .ensures .0) .0)))
+    (twice-refused (given (entered k)) false (reduce .reduce-twice .result) (c .before .enum-told2 .given .1) (reduce .reduce-twice .ensures) .0)))
 
 -- ---- the coordinates
 
@@ -199,9 +200,9 @@ module _ (c : tie.After-known-told4) where
   abbrev checked : tie.After-enum-told
   checked = reduces .before .before
 
-  reduced : Reduces (given (entered (known (counted checked)))) (c .before .reduced .given .0 .0) (reduces .reduce-twice .last .1 .1 .1 .0)
+  reduced : Reduces (given (entered (known (counted checked)))) false (c .before .reduced .given .0 .0) (reduces .reduce-twice .last .1 .1 .1 .1 .0)
   reduced =
-      twice-done (given (entered (known (counted checked)))) (reduces .reduce-twice .result) (c .before .reduced .given .1) (reduces .reduce-twice .ensures .0)
+      twice-done (given (entered (known (counted checked)))) false (reduces .reduce-twice .result) (c .before .reduced .given .1) (reduces .reduce-twice .ensures)
 
 write-bytes-requires : tie.Need-write-bytes-requires
 write-bytes-requires c κs =
@@ -219,7 +220,7 @@ returns-5 c =
     on-lists m
     (lists-done (q k) (lists m) (bytes k) (output k) (entered k .pre) (regranted m) (size m) (passed t) (reduced d)
     (wrote .write-bytes .ensures
-    ∙ ap (λ (n : ℕ). splices (8 * n) (listBytes (d .before .reduced .given .0 .0) (reduces d .reduce-twice .last .1 .1 .1 .0) n (lists m) (bytes k)) (lists m) (output k))
+    ∙ ap (λ (n : ℕ). splices (8 * n) (listBytes (d .before .reduced .given .0 .0) (reduces d .reduce-twice .last .1 .1 .1 .1 .0) n (lists m) (bytes k)) (lists m) (output k))
     (cells-are k)))
 
 pub lists-through-spec : {M : Type 1} → statement M
@@ -227,5 +228,5 @@ lists-through-spec =
     tie.close
     (tie.spec (λ c κs. search needs) (λ c κs. search needs) (λ c. c .match .keys1) (λ c κs. search needs) returns (λ c. c .match .keys2) mul-if1 mul-if1-2 (λ c κs. search needs) returns-2
     (λ c κs. search needs) check-bytes-requires (λ c. c .match2 .keys1) (λ c κs. search needs) returns-3 (λ c. c .match2 .keys2) reduce-twice-requires (λ c. c .match3 .keys1)
-    (λ c. c .match3 .keys2) (λ c κs. search needs) (λ c. c .before .before .before .before .reduce-twice .kept .1 .1 .1 .0) returns-4 write-bytes-requires (λ c. c .before .before .before .before .before .before .before .before .before .reduce-twice .kept .1 .1 .1 .0)
+    (λ c. c .match3 .keys2) (λ c κs. search needs) (λ c. c .before .before .before .before .reduce-twice .kept .1 .1 .1 .1 .0) returns-4 write-bytes-requires (λ c. c .before .before .before .before .before .before .before .before .before .reduce-twice .kept .1 .1 .1 .1 .0)
     (λ c. c .before .before .write-bytes .kept .1 .1 .1 .1 .1 .0) returns-5)

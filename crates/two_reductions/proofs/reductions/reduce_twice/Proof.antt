@@ -23,7 +23,7 @@ use Rattle.refusal.specs.declared.Refusal.the-variants.{TooWide}
 use Rattle.two_reductions.specs.Slices.{firstWorkspaceOf, TwiceReduced}
 use Rattle.two_reductions.specs.declared.reductions.Reductions.the-variants.{Refused}
 use Rattle.two_reductions.proofs.Sheet.{sheet-chains, slots-of}
-use Rattle.two_reductions.proofs.Between.{room-kept}
+use Rattle.two_reductions.proofs.Places.{room-kept}
 use Rattle.two_reductions.proofs.Outcomes.{reduces-done, reduces-refused, cleared-length, first-refused}
 use Rattle.two_reductions.proofs.Part.{zeros, part-zeros, rest-zeros, zero-behind, done-whole, cleared-whole}
 use Rattle.two_reductions.proofs.reductions.reduce_twice.Statement.{statement}

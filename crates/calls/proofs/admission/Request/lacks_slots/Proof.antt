@@ -53,7 +53,10 @@ returns-3 c =
     let a = c .before .before .before .before .args in
     empty (a .output) (c .before .before .self .given .0 .0) (a .n .cells) (c .if1 .left) ∙ asked (a .output) (a .n) (c .before .before .self .given .1)
 
+returns-4 : tie.Need-returns-4
+returns-4 c = let a = c .before .before .before .args in asked (a .output) (a .n) (c .before .enum-told2 .given .1)
+
 pub lacks-slots-spec : {M : Type 1} → statement M
 lacks-slots-spec =
     tie.close
-    (tie.spec (λ c. search needs) (λ c. search needs) mul-result add-result-2 (λ c. search needs) (λ c. search needs) returns returns-2 returns-3)
+    (tie.spec (λ c. search needs) (λ c. search needs) mul-result add-result-2 (λ c. search needs) (λ c. search needs) (λ c. search needs) returns returns-2 returns-3 returns-4)
