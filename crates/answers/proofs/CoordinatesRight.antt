@@ -61,6 +61,28 @@ module _ {K : Sections} {p s r : ℕ} {x : State} (R : Right K p s r x) where
       backward : IsBoundary K p (λ i. slot y i -ℤ slot z i) → (j : ℕ) → j < k → c₁ j ≡ c₂ j
       backward d j l = read reads₁ j l ∙ iff .1 d j (omega (arith, total R)) ∙ sym (read reads₂ j l)
 
+  -- the coordinates of a cycle are 0 exactly where it is a boundary
+  pub coordinates-zero : {z : List ℤ} {c : ℕ → ℤ} → ReadsCoordinates K p s r x z c → IsCycle K p (slot z) → ((j : ℕ) → j < k → c j ≡ pos 0) ↔ IsBoundary K p (slot z)
+  coordinates-zero {z} {c} reads cycle = (λ h. bounds (iff .0 h), λ b. iff .1 (boundary-same (record { at = λ i l. sym (less-zero (slot z i)) }) b))
+    where
+      less-zero : (a : ℤ) → a -ℤ pos 0 ≡ a
+      less-zero a = add-zero a
+
+      none : ReadsCoordinates K p s r x [] (λ j. pos 0)
+      unfolding coordinateAt
+      none = record {
+        places = λ j l. sym (map-all (coordinateAt n x []) (λ i. ap (λ (a : ℤ). residue a (kind x i)) (apply-zero n (entry (x .rowFollower)) i) ∙ residue-of-zero (kind x i) (R .reduced .second .nonneg i)) (reported (kind x) s) j);
+      }
+
+      zero-cycle : IsCycle K p (slot [])
+      zero-cycle = record { vanishes = λ i l. apply-zero n (boundary K p) i }
+
+      iff : ((j : ℕ) → j < k → c j ≡ pos 0) ↔ IsBoundary K p (λ i. slot z i -ℤ slot [] i)
+      iff = coordinates-decide reads none cycle zero-cycle
+
+      bounds : IsBoundary K p (λ i. slot z i -ℤ slot [] i) → IsBoundary K p (slot z)
+      bounds = boundary-same (record { at = λ i l. less-zero (slot z i) })
+
   pub coordinates-combine : {z : List ℤ} {c report : ℕ → ℤ} → ReadsCoordinates K p s r x z c → Reads K p s r x report → IsCycle K p (slot z)
       → IsBoundary K p (λ i. slot z i -ℤ combination k c (generatorIn report (torsionCount r x) n) i)
   coordinates-combine {z} {c} {report} reads reported cz = boundary-same (record { at = λ i l. ap (λ (v : ℤ). slot z i -ℤ v) (same .at i l) }) own

@@ -1,6 +1,7 @@
 -- What the host call on many chains answers: lists-refuse, for the checks 1 to 9; length-refuses, for 10; cycles-refuse, for 11 and 12; lists-wide,
 -- lists-done. `can-list`: its lists can be written.
 use mathlib.Core.Path.{_≡_, refl, sym, _∙_, ap}
+use mathlib.Core.Bool.{false}
 use mathlib.Core.Logic.{_≢_}
 use mathlib.Core.List.{List}
 use Prim.Native.Nat.{ℕ, _*_, _≤_}
@@ -95,11 +96,11 @@ module _ (q : Question) (many : ℕ) (chains output : List ℕ) {work : ℕ} (sp
         passes : hostEarly q (listsIn q many chains) output ≡ 0
         passes = early-is ∙ cycles-next l many coefficients g sized ∙ passed
 
-        pub lists-wide : twice l ≡ tooWide → HostAnswers called 13 output
+        pub lists-wide : twice l false ≡ tooWide → HostAnswers called 13 output
         unfolding two rule cells
         lists-wide e = goes-wide q (listsIn q many chains) output passes e
 
-        module _ {x : Reduced} {w : List ℤ} (h : Reduces l x w) where
+        module _ {x : Reduced} {w : List ℤ} (h : Reduces l false x w) where
           -- the lists can be written
           pub can-list : CanListBytes x w each many chains (length output)
           can-list = record {
@@ -115,7 +116,7 @@ module _ (q : Question) (many : ℕ) (chains output : List ℕ) {work : ℕ} (sp
           pub lists-done : {output′ : List ℕ} → output′ ≡ splices (8 * each) (listBytes x w each many chains) many output → HostAnswers called 0 output′
           unfolding two rule cells
           lists-done o =
-              is-done q (listsIn q many chains) output passes (h .is)
+              is-done q (listsIn q many chains) output passes (h .is) refl
               (o
               ∙ ap (λ (width : ℕ). splices (8 * each) (λ i. numbersBytes (coordinateList width (x .workspace .matrix .lines) (stateIn x w) (chainAt each coefficients i))) many output)
               (follower-width pivotRule-is-rule (g .complex) (g .passed .work-slots) h))

@@ -17,7 +17,7 @@ use Rattle.trials.specs.Trial.{Called, numberTold}
 use Rattle.reduction_steps.specs.State.{State}
 use Rattle.reports.specs.Report as reports
 use Rattle.reports.specs.Report.{reportList}
-use Rattle.reports.specs.Reductions.{Reductions, reduced}
+use Rattle.reports.specs.Reductions.{Reductions, noTransforms, reduced}
 use Rattle.requests.specs.Question as question
 use Rattle.requests.specs.Question.{Question, cellCount, two}
 use Rattle.requests.specs.Call.{report, ofReduced, call}
@@ -124,7 +124,7 @@ module _ (l : Lent reportRoom) {r : library.Answer} {after work′ : List ℤ} (
       report-room = rw cells-are (report-sizes .fits)
 
       -- the report has so many numbers
-      long : (s r : ℕ) (y : State) → two (l .question) ≡ reduced s r y → length (reportList (cellCount (l .question)) s r y) ≡ numbers-of
+      long : (s r : ℕ) (y : State) → two (l .question) noTransforms ≡ reduced s r y → length (reportList (cellCount (l .question)) s r y) ≡ numbers-of
       long s r y d =
           let k = report-sizes .is-sized .reductions-behind in
           let same : reduced s r y ≡ reduced (k .rows) (k .rank) (k .state) = sym d ∙ k .reductions-are in

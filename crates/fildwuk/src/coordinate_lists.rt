@@ -121,7 +121,7 @@ pub fn lists_through(
     if let Check::Refused(refusal) = check_bytes(sheet, p, cells, lists, chains) {
         return refusal.number();
     }
-    let Reductions::Done(reduced) = reduce_twice(sheet, p, n, work) else {
+    let Reductions::Done(reduced) = reduce_twice(sheet, p, n, false, work) else {
         return Refusal::TooWide.number();
     };
     write_bytes(reduced, work, cells, lists, chains, coordinates);

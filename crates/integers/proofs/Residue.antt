@@ -158,6 +158,11 @@ pub residue-unique : (a d r : ℤ) → NearestZero d r → d ∣ℤ (a -ℤ r) �
 residue-unique a (pos n) r h k = sym (own-residue n r h) ∙ sym (residue-eq-iff a r (pos n) (le-pos zero-le) .1 k)
 residue-unique a (negsuc n) r h k = absurd (<ℤ-≤ℤ-trans (h .0) (h .1) .lt)
 
+pub residue-of-zero : (d : ℤ) → pos 0 ≤ℤ d → residue (pos 0) d ≡ pos 0
+residue-of-zero (pos zero) h = residue-zero (pos 0)
+residue-of-zero (pos (suc d)) h = sym (residue-unique (pos 0) (pos (suc d)) (pos 0) (nearest-zero (pos (suc d)) (lt-pos (omega arith))) (dvd-zero (pos (suc d))))
+residue-of-zero (negsuc d) h = absurd (h .le)
+
 pub nearest-same : (d r s : ℤ) → NearestZero d r → NearestZero d s → d ∣ℤ (r -ℤ s) → r ≡ s
 nearest-same d r s h k c = residue-unique r d r h (subst (λ (x : ℤ). d ∣ℤ x) (sym (sub-self r)) (dvd-zero d)) ∙ sym (residue-unique r d s k c)
 

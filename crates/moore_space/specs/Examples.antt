@@ -75,7 +75,7 @@ pub record SpaceCalls : Type 0 where
   pub coordinate-twice : Coordinate twice (negℤ (pos 1))
   pub coordinate-thrice : Coordinate thrice (pos 0)
   pub coordinate-backwards : Coordinate backwards (negℤ (pos 1))
-  pub printed : dimensionText 1 24 (two loops) ≡ text
+  pub printed : dimensionText 1 24 (two loops noTransforms) ≡ text
 
 pub space-calls : SpaceCalls
 unfolding call earlyChecks callChecks chainChecks coefficientExceeds boundaryNotZero question.cells splices splice

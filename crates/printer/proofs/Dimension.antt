@@ -1,6 +1,6 @@
 -- The text of a dimension from what `report_at` leaves: `refused-text` where it refused, `done-text` where it is done, and `done-room`, that the numbers
 -- of the report have room.
-use mathlib.Core.Path.{_≡_, sym, _∙_, ap, subst}
+use mathlib.Core.Path.{_≡_, refl, sym, _∙_, ap, subst}
 use mathlib.Core.List.{List, _++_}
 use Prim.Native.Nat.{ℕ, _+_, _*_, _≤_}
 use native.Mathlib.Omega.{arith}
@@ -22,11 +22,12 @@ use Rattle.requests.specs.Question as question
 use Rattle.requests.specs.Question.{Question, asked, cellCount, two}
 use Rattle.requests.specs.Call as requests
 use Rattle.requests.specs.Call.{listSlots, numbersOf, earlyChecks, call}
-use Rattle.requests.proofs.CallLaws.{with-done}
+use Rattle.requests.proofs.CallLaws.{noEnding, with-done}
 use Rattle.limits.specs.Limits.{hostLimit}
 use Rattle.host_calls.specs.Host.{reportRoom, workRoom}
 use Rattle.program_text.specs.Text.{refusalLine, dimensionText, reportText}
 use Rattle.program_text.proofs.TextLaws.{reportText-reportList}
+use Rattle.reports.specs.Reductions.{noTransforms}
 use Rattle.answers.proofs.Behind.{Behind}
 use Rattle.answers.proofs.HostSizes.{ReportSized, WentWide, report-sized, accepted-passes, accepted-refused}
 use Rattle.text.specs.Put.{PutsWithin}
@@ -79,7 +80,7 @@ module _ (limit : ℕ) (host : limit ≡ hostLimit) (b : List ℕ) (accepted : r
     cells-are is = is ∙ sym (count-sectionsOf b p)
 
     -- what the reductions leave
-    abbrev k : Behind q
+    abbrev k : Behind q noTransforms
     k = sizes .is-sized .reductions-behind
 
     abbrev list : List ℤ
@@ -93,9 +94,9 @@ module _ (limit : ℕ) (host : limit ≡ hostLimit) (b : List ℕ) (accepted : r
     left =
         ap (λ (c : Called reports.Counts ℤ). c .output)
         (sym (at-host a)
-        ∙ with-done (firstRefusal (earlyChecks hostLimit q requests.report (length report) (length work))) (two q)
+        ∙ with-done (firstRefusal (earlyChecks hostLimit q requests.report (length report) (length work))) noEnding (two q noTransforms)
         (λ s r y. splices (listSlots q requests.report) (numbersOf q requests.report s r y) 1 report) report work
-        (accepted-passes q accepted dimension report work size space) (k .rows) (k .rank) (k .state) (k .reductions-are))
+        (accepted-passes q accepted dimension report work size space) (k .rows) (k .rank) (k .state) (k .reductions-are) refl)
         ∙ splices-single (listSlots q requests.report) (numbersOf q requests.report (k .rows) (k .rank) (k .state)) report
 
     pub total-within : x .torsion + x .free ≤ hostLimit

@@ -7,6 +7,7 @@ ghost use Prim.Native.Nat.{ℕ, suc, _+_, _≤_};
 ghost use lib.ListN.{length, take};
 ghost use Rattle.sheet_format.specs.Layout.{top};
 ghost use Rattle.sheet_format.specs.Check.{refusal};
+ghost use Rattle.reports.specs.Reductions.{noTransforms};
 ghost use Rattle.requests.specs.Question.{asked, cellCount, two};
 ghost use Rattle.program_text.specs.Text.{dimensionText, dimensionsText, programText};
 ghost use Rattle.limits.specs.Limits.{hostLimit};
@@ -39,7 +40,7 @@ fn put_dimension(
     requires { ⌜ (length (now report) ≡ reportRoom) × (length (now work) ≡ workRoom) ⌝ }
     ensures { λ r.
         let q = asked (now (s .entry)) p in ⌜
-        PutsWithin dimensionRoom (dimensionText p (cellCount q) (two q)) at (now (out .entry)) r (now (out .exit))
+        PutsWithin dimensionRoom (dimensionText p (cellCount q) (two q noTransforms)) at (now (out .entry)) r (now (out .exit))
         ⌝ }
 {
     match report_at(Sheet::host(), s, p as u32, report, work) {

@@ -66,7 +66,7 @@ pub record PlaneCalls : Type 0 where
   pub coordinate-loop : call 256 loops (coordinates loop) (nines 15) (nines 600) ≡ gives (pos 1 ∷ []) (nines 14)
   pub coordinate-twice : call 256 loops (coordinates twice) (nines 15) (nines 600) ≡ gives (pos 0 ∷ []) (nines 14)
   pub coordinate-backwards : call 256 loops (coordinates backwards) (nines 15) (nines 600) ≡ gives (pos 1 ∷ []) (nines 14)
-  pub printed : dimensionText 1 15 (two loops) ≡ text
+  pub printed : dimensionText 1 15 (two loops noTransforms) ≡ text
 
 pub plane-calls : PlaneCalls
 unfolding call earlyChecks callChecks chainChecks coefficientExceeds boundaryNotZero question.cells splices splice
