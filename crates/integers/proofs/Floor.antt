@@ -1,5 +1,5 @@
 -- Laws of division rounded towards minus infinity. `Division a d q r`: a = q·d + r with 0 ≤ r < d.
--- For a positive divisor: `floor-division`, `natAbs-modulo`, `floor-unique`, `modulo-unique`, `dvd-iff-modulo`, `modulo-eq-iff`; from 0 on: `dvd-floor`.
+-- For a positive divisor: `mag-floor`, `floor-division`, `natAbs-modulo`, `floor-unique`, `modulo-unique`, `dvd-iff-modulo`, `modulo-eq-iff`; from 0 on: `dvd-floor`.
 -- For every divisor: `modulo-zero`, `floor-zero`, `floor-modulo`, `natAbs-floor`.
 use mathlib.Core.Path.{_≡_, refl, sym, _∙_, ap, subst}
 use mathlib.Core.Logic.{_↔_}
@@ -9,7 +9,7 @@ use native.Mathlib.Nat as NatL
 use native.Mathlib.Decide.{decLe}
 use native.Mathlib.Omega.{arith}
 use lib.IntN.{ℤ, pos, negsuc, negℤ, natAbs, _+ℤ_, _-ℤ_, _*ℤ_}
-use lib.Signed.{_≤ℤ_, _<ℤ_, ≤ℤ-refl}
+use lib.Signed.{_≤ℤ_, _<ℤ_, ≤ℤ-refl, mag}
 use Rattle.integers.proofs.Ring.{add-zero, zero-mul, mul-zero, mul-comm}
 use Rattle.integers.proofs.Solve.{solve, terms}
 use Rattle.integers.proofs.Order.{le-pos, lt-pos, pos-lt, natAbs-mul, natAbs-zero, eq-of-sub}
@@ -47,6 +47,13 @@ natAbs-floor (negsuc a) (pos d) = suc-le-suc (NatL.div-le-self a d)
 natAbs-floor (pos zero) (negsuc d) = zero-le
 natAbs-floor (pos (suc a)) (negsuc d) = suc-le-suc (NatL.div-le-self a (suc d))
 natAbs-floor (negsuc a) (negsuc d) = NatL.div-le-self (suc a) (suc d)
+
+-- a positive divisor makes nothing larger
+pub mag-floor : (a d : ℤ) → pos 0 <ℤ d → mag (floor a d) ≤ mag a
+unfolding floor
+mag-floor (pos a) (pos d) p = NatL.div-le-self a d
+mag-floor (negsuc a) (pos d) p = NatL.div-le-self a d
+mag-floor a (negsuc d) p = absurd (p .lt)
 
 -- ---- division with remainder by a positive number
 

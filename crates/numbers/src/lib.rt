@@ -1,4 +1,5 @@
-// Numbers of a machine word: absolute values, quotients rounded down, remainders.
+// Numbers of a machine word: absolute values, divisibility, quotients rounded down, remainders.
 pub mod absolute;
+pub mod divides;
 pub mod quotient;
 pub mod residue;

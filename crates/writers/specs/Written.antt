@@ -1,10 +1,10 @@
--- What the writers of the report and of the coordinates leave.
+-- What the writers of the report, of the coordinates and of the surface leave.
 use mathlib.Core.Path.{_≡_}
 use mathlib.Core.List.{List}
-use Prim.Native.Nat.{ℕ, _+_, _*_, _≤_, _<_}
+use Prim.Native.Nat.{ℕ, _+_, _*_, _^_, _≤_, _<_}
 use lib.ListN.{length}
 use lib.IntN.{ℤ, pos, natAbs}
-use lib.Signed.{_≤ℤ_}
+use lib.Signed.{_≤ℤ_, _<ℤ_}
 use Rattle.lists.specs.Tabulate.{tabulate}
 use Rattle.lists.specs.Splice.{splice}
 use Rattle.reduction_steps.specs.Table.{entry}
@@ -12,10 +12,10 @@ use Rattle.reports.specs.Report as report
 use Rattle.reports.specs.Report.{countsOf, reportList, coordinateList}
 use Rattle.lists.specs.Splice.{written}
 use Rattle.requests.specs.Chains.{chainAt}
-use Rattle.limits.specs.Limits.{libraryLimit, coefficientLimit}
+use Rattle.limits.specs.Limits.{libraryLimit, entryLimit, coefficientLimit, surfaceCoefficientLimit}
 use Rattle.integers.specs.Slot.{slot}
 use Rattle.matrix_lines.specs.Slice.{Small}
-use Rattle.matrix_lines.specs.Matrices.{contents}
+use Rattle.matrix_lines.specs.Matrices.{Held, contents}
 use Rattle.matrix_lines.specs.declared.matrix.Matrix.{Matrix}
 use Rattle.operations.specs.Laid.{Laid, linesOf}
 use Rattle.two_reductions.specs.Slices.{stateIn}
@@ -84,3 +84,40 @@ pub record CanList (x : Reduced) (w : List ℤ) (cells many : ℕ) (chains : Lis
   pub size : length chains ≡ many * cells
   pub room : many * cells ≤ m
   pub each : (i : ℕ) → i < many → CanCoordinate x w (chainAt cells chains i) (i * cells) m
+
+-- ---- the surface
+
+-- what a surface is written from: no kind is negative, those of the pivots are above 0, the chain is one of the dimension, and its coefficients lie
+-- within the limit of the surface call
+pub record CanSurface (x : Reduced) (w z : List ℤ) : Type 0 where
+  pub laid : Laid (length w) (x .workspace)
+  pub small : Small w
+  pub kinds : Kinds (x .workspace .matrix) w
+  pub rank-below : x .rank ≤ x .workspace .matrix .lines
+  pub pivots : (i : ℕ) → i < x .rank → pos 0 <ℤ kindIn (x .workspace .matrix) w i
+  pub width : x .workspace .«row_follower» .width ≡ length z
+  pub width-within : length z ≤ libraryLimit
+  pub rank-within : x .rank ≤ libraryLimit
+  pub coefficients : (j : ℕ) → natAbs (slot z j) ≤ surfaceCoefficientLimit
+
+-- the greatest absolute value of a row of Q times the chain, and of that times an entry
+abbrev pub rowLimit : ℕ
+rowLimit = libraryLimit * (entryLimit * surfaceCoefficientLimit)
+
+abbrev pub termLimit : ℕ
+termLimit = rowLimit * entryLimit
+
+-- y times line i of the matrix can be added to the first slots: no sum wraps
+pub record CanAdd (M : Matrix) (w : List ℤ) (i : ℕ) (y : ℤ) (slice : List ℤ) : Type 0 where
+  pub held : Held (length w) M
+  pub small : Small w
+  pub line : i < M .lines
+  pub factor : natAbs y ≤ rowLimit
+  pub room : M .width ≤ length slice
+  pub headroom : (j : ℕ) → j < M .width → natAbs (slot slice j) + termLimit < 2 ^ 63
+
+-- the first n slots hold f, and nothing else has changed
+pub record FirstSlots (n : ℕ) (f : ℕ → ℤ) (slice slice′ : List ℤ) : Type 0 where
+  pub same-length : length slice′ ≡ length slice
+  pub on : (j : ℕ) → j < n → slot slice′ j ≡ f j
+  pub off : (j : ℕ) → n ≤ j → slot slice′ j ≡ slot slice j

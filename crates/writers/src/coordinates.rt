@@ -19,7 +19,7 @@ use numbers::residue::residue;
 use two_reductions::reduced::Reduced;
 
 // Row i of q times the chain; coefficients of 0 are passed over.
-fn row_times_chain(q: Matrix, w: &[i32], i: usize, chain: &[i32]) -> i64
+pub fn row_times_chain(q: Matrix, w: &[i32], i: usize, chain: &[i32]) -> i64
     requires { ⌜ Held (length (now w)) q × (i < q .lines) × (q .width ≡ length (now chain)) × (q .width ≤ libraryLimit) × Small (now w) ⌝ }
     requires { ⌜ ((j : ℕ) → natAbs (slot (now chain) j) ≤ coefficientLimit) ⌝ }
     ensures { λ r. ⌜ r ≡ apply (q .width) (entry (linesOf q (now (w .entry)))) (slot (now (chain .entry))) i ⌝ }

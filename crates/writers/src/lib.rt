@@ -1,6 +1,7 @@
-// Writing the report and the coordinates from what the two reductions leave.
+// Writing the report, the coordinates and the surface from what the two reductions leave.
 pub mod coordinates;
 pub mod counts;
 pub mod headroom;
 pub mod kind;
 pub mod report;
+pub mod surface;

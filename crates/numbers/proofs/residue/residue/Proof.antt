@@ -1,24 +1,16 @@
 -- `residue::residue` meets its contract: twice the remainder exceeds d exactly when the remainder exceeds what it lacks of d.
 use mathlib.Core.Path.{_≡_, sym, ap, ap₂, subst, _∙_}
-use mathlib.Core.Logic.{_≢_}
-use native.Mathlib.Nat as NatL
-use lib.IntN.{ℤ, pos, negsuc, _-ℤ_}
-use lib.Signed.{_≤ℤ_, _<ℤ_, ltZ, ltZ-yes, ltZ-no}
+use lib.IntN.{ℤ, pos, _-ℤ_}
+use lib.Signed.{_<ℤ_, ltZ, ltZ-yes, ltZ-no}
 use mir.Syntax.{w64}
-use mir.Val.{SFits, ofZ}
+use mir.Val.{SFits}
 use mir.Facts.{toZ-ofZ}
-use Rattle.integers.proofs.Order.{lt-pos}
 use Rattle.integers.proofs.Residue.{residue-zero}
 use Rattle.integers.proofs.ResidueRemainder.{residue-lowered, residue-kept, natAbs-lack, natAbs-lowered}
 use Rattle.integers.specs.Division.{modulo, residue}
-use Rattle.machine_words.specs.Read.{read, fits-below, zero-of-bits}
+use Rattle.machine_words.specs.Read.{read, fits-below, zero-of-bits, positive-of-bits}
 use Rattle.numbers.proofs.residue.residue.Statement.{statement}
 use Rattle.numbers.proofs.residue.residue.Tie as tie
-
--- a divisor that is not 0
-above : (d : ℤ) → pos 0 ≤ℤ d → ofZ w64 d ≢ 0 → pos 0 <ℤ d
-above (pos n) h f = lt-pos (NatL.pos-of-ne-zero f)
-above (negsuc n) h f = absurd (h .le)
 
 returns : tie.Need-returns
 returns c =
@@ -29,7 +21,7 @@ returns c =
 modulo-requires : tie.Need-modulo-requires
 modulo-requires c κs =
     let start = c .before in
-    subst (λ (d : ℤ). pos 0 <ℤ d) (sym (toZ-ofZ (start .fits .d))) (above (start .args .d) (start .pre) (c .if1 .left))
+    subst (λ (d : ℤ). pos 0 <ℤ d) (sym (toZ-ofZ (start .fits .d))) (positive-of-bits (start .args .d) (start .pre) (c .if1 .left))
 
 -- after the call, what the machine reads: the divisor, the remainder, what the remainder lacks of the divisor, and the remainder less the divisor
 module _ (c : tie.After-modulo) where
@@ -46,7 +38,7 @@ module _ (c : tie.After-modulo) where
   lowered = read w64 (c .modulo .result) -ℤ read w64 d
 
   positive : pos 0 <ℤ d
-  positive = above d (c .before .before .pre) (c .before .if1 .left)
+  positive = positive-of-bits d (c .before .before .pre) (c .before .if1 .left)
 
   divisor-is : read w64 d ≡ d
   divisor-is = toZ-ofZ (c .before .before .fits .d)
