@@ -1,33 +1,42 @@
 -- Numbers that read as the coordinates of a cycle after two reductions that are right (`ReadsCoordinates`): equal lists mean homologous cycles
--- (coordinates-decide), and a cycle is its coordinates times the reported generators up to a boundary (coordinates-combine);
+-- (coordinates-decide; coordinates-zero: a list of zeros, a boundary), and a cycle is its coordinates times the reported generators up to a boundary (coordinates-combine);
 -- coordinates-nearest: their range.
-use mathlib.Core.Path.{_≡_, sym, _∙_, ap, subst}
+use mathlib.Core.Path.{_≡_, refl, sym, _∙_, ap, subst}
 use mathlib.Core.Logic.{_↔_}
-use mathlib.Core.List.{List}
-use Prim.Native.Nat.{ℕ, _+_, _-_, _<_}
+use mathlib.Core.List.{List, [], _∷_, map}
+use Prim.Native.Nat.{ℕ, zero, suc, _+_, _-_, _<_}
 use native.Mathlib.Omega.{arith}
 use lib.ListN.{getD}
 use lib.IntN.{ℤ, pos, _-ℤ_}
 use lib.Signed.{_<ℤ_}
 use Rattle.integers.specs.Division.{residue, NearestZero}
-use Rattle.integers.proofs.Residue.{residue-nearest}
+use Rattle.integers.proofs.Ring.{add-zero}
+use Rattle.integers.proofs.Residue.{residue-nearest, residue-of-zero}
 use Rattle.matrices.specs.Matrix.{transpose}
 use Rattle.matrices.specs.Vector.{apply}
+use Rattle.matrices.proofs.VectorLaws.{apply-zero}
 use Rattle.homology_groups.specs.Chain.{Chain, Same, combination}
 use Rattle.homology_groups.proofs.ChainLaws.{boundary-same}
 use Rattle.homology_groups.proofs.Presents.{generator}
 use Rattle.homology_groups.proofs.PresentationLaws.{combination-ext}
 use Rattle.homology_groups.proofs.CoordinateList.{coordinate, coordinates-equal-iff, coordinates-remainder}
 use Rattle.complexes.specs.Complex.{Sections, count}
+use Rattle.complexes.specs.Boundary.{boundary}
 use Rattle.reduction_steps.specs.Table.{entry}
 use Rattle.reduction_steps.specs.State.{State}
-use Rattle.reports.specs.Report.{kind, freeRank, torsionCount, coordinateList}
+use Rattle.reports.specs.Report.{kind, reported, freeRank, torsionCount, coordinateAt, coordinateList}
 use Rattle.answers.specs.Homology.{IsCycle, IsBoundary}
 use Rattle.integers.specs.Slot.{slot}
 use Rattle.answers.specs.Right.{orderIn, generatorIn}
 use Rattle.answers.proofs.TwoReductions.{Right}
 use Rattle.answers.proofs.Numbers.{ones, is-ones, total, coordinate-is}
 use Rattle.answers.proofs.ReportRight.{Reads, reads-generator, order-is, order-positive, report-is-right}
+
+-- a list of zeros reads 0
+map-zero : (f : ℕ → ℤ) → ((i : ℕ) → f i ≡ pos 0) → (l : List ℕ) (j : ℕ) → getD (map f l) j (pos 0) ≡ pos 0
+map-zero f h [] j = refl
+map-zero f h (i ∷ l) zero = h i
+map-zero f h (i ∷ l) (suc j) = map-zero f h l j
 
 -- the numbers from place 0 on are the coordinates of z that s rows of Q, rank r and the state x give
 pub record ReadsCoordinates (K : Sections) (p s r : ℕ) (x : State) (z : List ℤ) (coordinates : ℕ → ℤ) : Type 0 where
@@ -63,16 +72,17 @@ module _ {K : Sections} {p s r : ℕ} {x : State} (R : Right K p s r x) where
 
   -- the coordinates of a cycle are 0 exactly where it is a boundary
   pub coordinates-zero : {z : List ℤ} {c : ℕ → ℤ} → ReadsCoordinates K p s r x z c → IsCycle K p (slot z) → ((j : ℕ) → j < k → c j ≡ pos 0) ↔ IsBoundary K p (slot z)
+  unfolding coordinateAt coordinateList
   coordinates-zero {z} {c} reads cycle = (λ h. bounds (iff .0 h), λ b. iff .1 (boundary-same (record { at = λ i l. sym (less-zero (slot z i)) }) b))
     where
       less-zero : (a : ℤ) → a -ℤ pos 0 ≡ a
       less-zero a = add-zero a
 
+      at-zero : (i : ℕ) → coordinateAt n x [] i ≡ pos 0
+      at-zero i = ap (λ (a : ℤ). residue a (kind x i)) (apply-zero n (entry (x .rowFollower)) i) ∙ residue-of-zero (kind x i) (R .reduced .second .nonneg i)
+
       none : ReadsCoordinates K p s r x [] (λ j. pos 0)
-      unfolding coordinateAt
-      none = record {
-        places = λ j l. sym (map-all (coordinateAt n x []) (λ i. ap (λ (a : ℤ). residue a (kind x i)) (apply-zero n (entry (x .rowFollower)) i) ∙ residue-of-zero (kind x i) (R .reduced .second .nonneg i)) (reported (kind x) s) j);
-      }
+      none = record { places = λ j l. sym (map-zero (coordinateAt n x []) at-zero (reported (kind x) s) j) }
 
       zero-cycle : IsCycle K p (slot [])
       zero-cycle = record { vanishes = λ i l. apply-zero n (boundary K p) i }

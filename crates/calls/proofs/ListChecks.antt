@@ -5,7 +5,6 @@ use mathlib.Core.Logic.{_≢_}
 use mathlib.Core.Bool.{Bool}
 use mathlib.Core.List.{List, _++_}
 use Prim.Native.Nat.{ℕ, _*_, _≤_, _<_}
-use native.Mathlib.Omega.{arith}
 use borrow.Author.Tests.{ne-eqb}
 use lib.IntN.{ℤ, pos, natAbs}
 use lib.ListN.{length, getD}
@@ -17,14 +16,13 @@ use Rattle.requests.specs.Question.{cells}
 use Rattle.requests.specs.Chains.{chainAt, cyclesChecks, chainsChecks}
 use Rattle.requests.proofs.ChainsLaws.{cycles-zero, chains-sized, fault-small}
 use Rattle.requests.specs.Call.{lists, callChecks, earlyChecks}
-use Rattle.requests.proofs.CheckLaws.{callChecks-zero, call-told, call-passed}
 use Rattle.refusal.specs.Number.{numberOf}
-use Rattle.refusal.specs.NumberLaws.{number-positive}
 use Rattle.refusal.specs.declared.Refusal.{Refusal}
 use Rattle.calls.specs.Admission.{admission}
 use Rattle.two_reductions.specs.declared.cell_counts.CellCounts.{CellCounts}
 use Rattle.calls.specs.declared.admission.Request.the-variants.{Coordinates}
 use Rattle.calls.proofs.Admitting.{Lengths, cellsOf, slotsAsked, spaceAsked, Granted}
+use Rattle.calls.proofs.EarlyChecks.{early-told, early-next}
 
 module _ (l : Lengths) (many : ℕ) (chains : List ℤ) where
   abbrev K : Sections
@@ -37,31 +35,21 @@ module _ (l : Lengths) (many : ℕ) (chains : List ℤ) where
   abbrev pub listsEarly : ℕ
   listsEarly = firstRefusal (earlyChecks (l .limit) (l .question) (lists many chains) (l .slots) (l .work))
 
-  -- the slots that check 9 asks for
-  abbrev slots : ℕ
-  slots = slotsAsked l (Coordinates many)
-
-  abbrev space : ℕ
-  space = spaceAsked l (Coordinates many)
-
   -- 10 to 12
   abbrev chainChecked : List (ℕ × Bool)
   chainChecked = chainsChecks coefficientLimit K p many chains
 
-  early-is : listsEarly ≡ firstRefusal (callChecks (l .limit) (l .question) slots space (l .slots) (l .work) ++ chainChecked)
+  early-is : listsEarly
+      ≡ firstRefusal (callChecks (l .limit) (l .question) (slotsAsked l (Coordinates many)) (spaceAsked l (Coordinates many)) (l .slots) (l .work) ++ chainChecked)
   unfolding earlyChecks cells
   early-is = refl
 
   pub admission-told : (x : Refusal) → admission (l .limit) (l .question) (Coordinates many) (l .slots) (l .work) ≡ numberOf x → listsEarly ≡ numberOf x
-  admission-told x e =
-      early-is ∙ call-told (l .limit) (l .question) slots space (l .slots) (l .work) chainChecked (λ q. absurd (omega (arith, number-positive x))) ∙ e
+  admission-told = early-told l (Coordinates many) chainChecked early-is
 
   module _ {n : CellCounts} (g : Granted l (Coordinates many) n) where
     chains-next : listsEarly ≡ firstRefusal chainChecked
-    chains-next =
-        early-is
-        ∙ call-passed (l .limit) (l .question) slots space (l .slots) (l .work) chainChecked
-        (callChecks-zero (l .limit) (l .question) slots space (l .slots) (l .work) .1 (g .passed))
+    chains-next = early-next l (Coordinates many) chainChecked early-is g
 
     pub length-told : length chains ≢ many * cellsOf (l .question) → listsEarly ≡ 10
     unfolding chainsChecks
