@@ -1,6 +1,6 @@
 -- From the library's report call to the host's: what is answered and written where the library's call refused (report-refuses) and where it is done
 -- (report-writes), and that the numbers have room (report-room, writable).
-use mathlib.Core.Path.{_≡_, sym, _∙_, ap}
+use mathlib.Core.Path.{_≡_, refl, sym, _∙_, ap}
 use mathlib.Core.List.{List, _++_}
 use Prim.Native.Nat.{ℕ, _+_, _*_, _≤_, _<_, min}
 use native.Mathlib.Omega.{arith}
@@ -25,7 +25,7 @@ use Rattle.limits.specs.Limits.{hostLimit}
 use Rattle.host_calls.specs.Bytes.{numbersBytes}
 use Rattle.host_calls.specs.Host.{slotsIn, hostCall}
 use Rattle.host_calls.specs.Host.{reportRoom, workRoom}
-use Rattle.host_calls.proofs.HostCallLaws.{report-refused, report-done}
+use Rattle.host_calls.proofs.HostCallLaws.{refused-same, done-same, report-early}
 use Rattle.answers.proofs.HostSizes.{ReportSized, report-sized}
 use Rattle.writers.specs.declared.counts.Counts.{Counts}
 use Rattle.calls.specs.declared.answer.Answer as library
@@ -36,7 +36,7 @@ use Rattle.fildwuk.specs.HostAnswers.{HostAnswers}
 -- ---- the slots that are lent
 
 -- a library's call at the host's limit, with the first `many` slots of the numbers lent for what the host's output is to hold
-pub record Lent (room : ℕ) : Type 0 where
+pub record Lent (room space-room : ℕ) : Type 0 where
   pub limit : ℕ
   pub question : Question
   pub output : List ℕ
@@ -47,11 +47,11 @@ pub record Lent (room : ℕ) : Type 0 where
   pub bytes : Bytes (question .sheet)
   pub lent : many ≡ min (slotsIn output) room
   pub full : length numbers ≡ room
-  pub space : length work ≡ workRoom
+  pub space : length work ≡ space-room
 
-abbrev pub lend : (room : ℕ) {limit many : ℕ} (q : Question) (output : List ℕ) (numbers work : List ℤ) → limit ≡ hostLimit
-    → ((i : ℕ) → getD (q .sheet) i 0 < 256) → many ≡ min (slotsIn output) room → length numbers ≡ room → length work ≡ workRoom → Lent room
-lend room {limit} {many} q output numbers work host small lent full space = record {
+abbrev pub lend : (room space-room : ℕ) {limit many : ℕ} (q : Question) (output : List ℕ) (numbers work : List ℤ) → limit ≡ hostLimit
+    → ((i : ℕ) → getD (q .sheet) i 0 < 256) → many ≡ min (slotsIn output) room → length numbers ≡ room → length work ≡ space-room → Lent room space-room
+lend room space-room {limit} {many} q output numbers work host small lent full space = record {
   limit = limit;
   question = q;
   output = output;
@@ -69,18 +69,18 @@ pub lent-length : {room many : ℕ} (output : List ℕ) (numbers : List ℤ) →
     → length (take many numbers) ≡ many
 lent-length {many = many} output numbers lent full = length-take-le many numbers (omega (arith, lent, full))
 
-abbrev pub slots : {room : ℕ} → Lent room → List ℤ
+abbrev pub slots : {room space-room : ℕ} → Lent room space-room → List ℤ
 slots l = take (l .many) (l .numbers)
 
 -- the numbers after the call: what it left in the slots, before what follows them
-abbrev pub left : {room : ℕ} → Lent room → List ℤ → List ℤ
+abbrev pub left : {room space-room : ℕ} → Lent room space-room → List ℤ → List ℤ
 left l after = after ++ drop (l .many) (l .numbers)
 
-pub size : {room : ℕ} (l : Lent room) → length (slots l) ≡ min (slotsIn (l .output)) room
+pub size : {room space-room : ℕ} (l : Lent room space-room) → length (slots l) ≡ min (slotsIn (l .output)) room
 size l = lent-length (l .output) (l .numbers) (l .lent) (l .full) ∙ l .lent
 
 -- so many numbers of the slots can be written
-pub writable : {room : ℕ} (l : Lent room) (after : List ℤ) {n : ℕ} → n ≤ length (slots l) → length after ≡ length (slots l)
+pub writable : {room space-room : ℕ} (l : Lent room space-room) (after : List ℤ) {n : ℕ} → n ≤ length (slots l) → length after ≡ length (slots l)
     → (n ≤ length (left l after)) × (8 * n ≤ length (l .output))
 writable l after fits same = (omega (arith, fits, same, length-append after (drop (l .many) (l .numbers))), omega (arith, fits, size l))
 
@@ -90,7 +90,7 @@ lengthIn q R = ofReduced 0 (λ s r x. length (reportList (cellCount q) s r x)) R
 
 -- ---- the report
 
-module _ (l : Lent reportRoom) {r : library.Answer} {after work′ : List ℤ} (a : CallAnswers (call (l .limit) (l .question) report (slots l) (l .work)) r after work′) where
+module _ (l : Lent reportRoom workRoom) {r : library.Answer} {after work′ : List ℤ} (a : CallAnswers (call (l .limit) (l .question) report (slots l) (l .work)) r after work′) where
   abbrev called : Called reports.Counts ℤ
   called = call hostLimit (l .question) report (slots l) (l .work)
 
@@ -104,7 +104,7 @@ module _ (l : Lent reportRoom) {r : library.Answer} {after work′ : List ℤ} (
   pub report-refuses : {x : Refusal} {n : ℕ} → r ≡ Refused x → n ≡ numberOf x → HostAnswers (hostCall (l .question) report (l .output)) n (l .output)
   report-refuses {x} e is = record {
     is =
-        report-refused (l .question) (l .output) (slots l) (l .work) (size l) (l .space) (numberOf x) (told e)
+        refused-same (l .question) report (l .output) (slots l) (l .work) (report-early (l .question) (l .output) (slots l) (l .work) (size l) (l .space)) (numberOf x) (told e)
         ∙ ap (λ (k : ℕ). record { number = k; output = l .output }) (sym is);
   }
 
@@ -134,7 +134,7 @@ module _ (l : Lent reportRoom) {r : library.Answer} {after work′ : List ℤ} (
           → output′ ≡ splice 0 (numbersBytes (take numbers-of (left l after))) (l .output) → HostAnswers (hostCall (l .question) report (l .output)) 0 output′
       report-writes same e′ = record {
         is =
-            report-done (l .question) (l .output) (slots l) (l .work) (size l) (l .space) numbers-of (ap numberTold (told e)) long
+            done-same (l .question) report (l .output) (slots l) (l .work) (report-early (l .question) (l .output) (slots l) (l .work) (size l) (l .space)) refl numbers-of (ap numberTold (told e)) long
             ∙ ap (λ (numbers : List ℤ). record { number = 0; output = splice 0 (numbersBytes (take numbers-of numbers)) (l .output) })
             (ap (λ (c : Called reports.Counts ℤ). c .output) called-is)
             ∙ ap (λ (numbers : List ℤ). record { number = 0; output = splice 0 (numbersBytes numbers) (l .output) })

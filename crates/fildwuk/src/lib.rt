@@ -4,7 +4,7 @@ ghost use mathlib.Core.Path.{_≡_};
 ghost use lib.ListN.{length};
 ghost use Rattle.requests.specs.Question.{asked};
 ghost use Rattle.requests.specs.Call as requests;
-ghost use Rattle.host_calls.specs.Host.{hostCall, coordinatesIn, listsIn};
+ghost use Rattle.host_calls.specs.Host.{hostCall, coordinatesIn, listsIn, surfaceIn};
 ghost use Rattle.host_calls.specs.Host.{reportRoom, workRoom};
 ghost use Rattle.limits.specs.Limits.{hostLimit};
 ghost use Rattle.imports.specs.Import.{importCall};
@@ -12,11 +12,16 @@ ghost use Rattle.importer.specs.ImportAnswers.{ImportTold};
 ghost use Rattle.fildwuk.specs.HostAnswers.{HostAnswers};
 
 mod coordinate_lists;
+mod surface;
 
 use crate::coordinate_lists::lists_through;
+use crate::surface::CELLS;
+use crate::surface::CHAIN_SLOTS;
+use crate::surface::surface_through;
 use calls::answer::Answer;
 use calls::report::report_at;
 use calls::slots::REPORT_SLOTS;
+use calls::slots::SURFACE_WORK_SLOTS;
 use calls::slots::WORK_SLOTS;
 use fields::field::count;
 use importer::import::import_at;
@@ -104,6 +109,34 @@ pub extern "C" fn fildwuk_coordinates(
         ⌝ }
 {
     fildwuk_coordinate_lists(sheet, dimension, 1, chain, coordinates)
+}
+
+// The surface that a chain bounds.
+#[no_mangle]
+pub extern "C" fn fildwuk_surface(
+    sheet: &[u8],
+    dimension: u32,
+    chain: &[u8],
+    surface: &mut [u8],
+) -> u32
+    ensures { λ r.
+        let left = now (surface .exit) in
+        let q = asked (now (sheet .entry)) dimension in ⌜
+        HostAnswers (hostCall q (surfaceIn q (now (chain .entry))) (now (surface .entry))) r left
+        ⌝ }
+{
+    let mut work = [0i32; SURFACE_WORK_SLOTS];
+    let mut numbers = [0i64; CELLS];
+    let mut coefficients = [0i32; CHAIN_SLOTS];
+    surface_through(
+        sheet,
+        dimension,
+        chain,
+        &mut coefficients,
+        &mut numbers,
+        &mut work,
+        surface,
+    )
 }
 
 // The import of a mesh text.

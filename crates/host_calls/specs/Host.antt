@@ -10,7 +10,7 @@ use Rattle.reduction_steps.specs.State.{State}
 use Rattle.reports.specs.Reductions.{Transforms}
 use Rattle.reports.specs.Report.{Counts}
 use Rattle.requests.specs.Question.{Question, cells, cellCount, two}
-use Rattle.requests.specs.Call.{Request, coordinates, lists, transformsOf, listCount, listSlots, numbersOf, endChecks, workSlotsFor, earlyChecks, callWith}
+use Rattle.requests.specs.Call.{Request, coordinates, lists, surface, transformsOf, listCount, listSlots, numbersOf, endChecks, workSlotsFor, earlyChecks, callWith}
 use Rattle.host_calls.specs.Bytes.{numbersBytes, chainFrom}
 
 -- the number answered and the output as the call leaves it
@@ -58,3 +58,7 @@ coordinatesIn q chain = coordinates (chainFrom (cellCount q) chain)
 -- those of a number of chains of 4 × n_p bytes each
 abbrev pub listsIn : Question → ℕ → List ℕ → Request
 listsIn q many chains = lists many (chainFrom (many * cellCount q) chains)
+
+-- the surface that the chain of 4 × n_p bytes bounds
+abbrev pub surfaceIn : Question → List ℕ → Request
+surfaceIn q chain = surface (chainFrom (cellCount q) chain)

@@ -1,5 +1,6 @@
 -- The checks 10 to 12 of chains.
 --     coefficients-iff            11 of one chain, coefficient by coefficient
+--     chain-sized                 10 of one chain
 --     length-chainAt, chain-part  one of many chains, and the part of a slice that it is
 --     cycles-zero, cycles-told    11 and 12: none is told, or the first faulty chain decides
 --     chains-sized, chains-zero   10 to 12
@@ -13,7 +14,7 @@ use Prim.Native.Nat.{ℕ, zero, suc, _+_, _*_, _-_, _≤_, _<_, zero-le}
 use native.Mathlib.Nat.{suc-mul, mul-le-mul-right}
 use native.Mathlib.Decide.{decLt}
 use native.Mathlib.Omega.{arith}
-use borrow.Author.Tests.{eqb-true, eq-eqb, ltb-false, le-ltb}
+use borrow.Author.Tests.{eqb-true, eq-eqb, ltb-false, le-ltb, not-false}
 use lib.Dec.{eqb, ltb}
 use lib.ListN.{length, getD, take, drop, length-drop, List·getD-eq-default}
 use lib.Seq.{length-take-le}
@@ -26,7 +27,7 @@ use Rattle.trials.specs.Trial.{firstRefusal}
 use Rattle.sheet_format.specs.Check.{some}
 use Rattle.sheet_format.specs.CheckLaws.{some-false}
 use Rattle.trials.proofs.FirstLaws.{absent, absent-append, orElse, first-zero, first-append}
-use Rattle.requests.specs.Chains.{chainAt, coefficientExceeds, boundaryNotZero, cycleChecks, cyclesChecks, chainsChecks, FirstFault}
+use Rattle.requests.specs.Chains.{chainAt, coefficientExceeds, boundaryNotZero, cycleChecks, chainChecks, cyclesChecks, chainsChecks, FirstFault}
 
 -- the numbers of the late checks
 pub data Late : ℕ → Type 0 where
@@ -49,6 +50,13 @@ coefficients-iff limit z = (forward, backward)
 
     backward : ((i : ℕ) → natAbs (getD z i (pos 0)) ≤ limit) → some (length z) exceeds ≡ false
     backward h = some-false (length z) exceeds .1 (λ i l. le-ltb limit (natAbs (getD z i (pos 0))) (h i))
+
+-- a chain that passes 10 to 12 has n_p coefficients
+pub chain-sized : (limit : ℕ) (K : Sections) (p : ℕ) (z : List ℤ) → firstRefusal (chainChecks limit K p z) ≡ 0 → length z ≡ count K p
+unfolding chainChecks
+chain-sized limit K p z e =
+    let (size, _) = first-zero (chainChecks limit K p z) refl .0 e in
+    eqb-true (length z) (count K p) (not-false (eqb (length z) (count K p)) size)
 
 -- ---- many chains
 

@@ -6,7 +6,7 @@ use borrow.Author.Needs.{needs}
 use denote.Ref.{now}
 use lib.ListN.{length}
 use Rattle.requests.specs.Question.{asked}
-use Rattle.host_calls.specs.Host.{reportRoom}
+use Rattle.host_calls.specs.Host.{reportRoom, workRoom}
 use Rattle.answers.proofs.HostSizes.{ReportSized}
 use Rattle.writers.specs.declared.counts.Counts.{Counts}
 use Rattle.calls.specs.CallAnswers.{countsIn}
@@ -15,11 +15,11 @@ use Rattle.fildwuk.proofs.report_through.Statement.{statement}
 use Rattle.fildwuk.proofs.report_through.Tie as tie
 
 -- the library's call
-abbrev call : tie.After-report-at → Lent reportRoom
+abbrev call : tie.After-report-at → Lent reportRoom workRoom
 call c =
     let known = c .before .before .before .before .before .before in
     let args = known .before .args in
-    lend reportRoom (asked (now (args .sheet)) (args .dimension)) (now (args .report)) (now (args .numbers)) (now (args .work)) (c .before .before .before .host .ensures)
+    lend reportRoom workRoom (asked (now (args .sheet)) (args .dimension)) (now (args .report)) (now (args .numbers)) (now (args .work)) (c .before .before .before .host .ensures)
     (λ i. known .shared-slice-known .given i .fits) (c .before .before .before .before .smaller .ensures) (known .before .pre .0) (known .before .pre .1)
 
 -- where it is done
