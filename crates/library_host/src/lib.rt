@@ -116,6 +116,26 @@ pub extern "C" fn fildwuk_library_coordinate_lists(
     ))
 }
 
+// The surface that a chain bounds.
+#[no_mangle]
+pub extern "C" fn fildwuk_library_surface(
+    sheet: &[u8],
+    dimension: u32,
+    chain: &[i32],
+    surface: &mut [i64],
+    work: &mut [i32],
+) -> u32
+    ensures { λ r.
+        let left = now (surface .exit) in
+        let work-left = now (work .exit) in ⌜
+        LibraryAnswers
+        (call libraryLimit (asked (now (sheet .entry)) dimension) (requests.surface (now (chain .entry))) (now (surface .entry)) (now (work .entry)))
+        r left work-left
+        ⌝ }
+{
+    number_told(calls::surface::surface(sheet, dimension, chain, surface, work))
+}
+
 // The import of a mesh text.
 #[no_mangle]
 pub extern "C" fn fildwuk_library_import(text: &[u8], sheet: &mut [u8]) -> u32
