@@ -4,7 +4,6 @@ use mathlib.Core.Path.{_≡_, refl, sym, _∙_, ap}
 use mathlib.Core.Logic.{_↔_, _≢_}
 use mathlib.Core.List.{List}
 use Prim.Native.Nat.{ℕ, zero, suc, _+_, _*_, _<_}
-use native.Mathlib.Nat.{suc-ne-zero}
 use native.Mathlib.Omega.{arith}
 use lib.ListN.{length}
 use lib.IntN.{ℤ, pos}
@@ -156,23 +155,22 @@ passed-done limit q request output work e B ended =
     (with-done (firstRefusal (earlyChecks limit q request (length output) (length work))) (endChecks q request) (two q (transformsOf request))
     (λ s r x. splices (listSlots q request) (numbersOf q request s r x) (listCount request) output) output work e (B .rows) (B .rank) (B .state) (B .reductions-are) ended)
 
--- a number but 13 and 17 is told exactly when the early checks give it
-pub call-earlier : (limit : ℕ) (q : Question) (request : Request) (output work : List ℤ) (k : ℕ) → k ≢ 0 → k ≢ 13 → k ≢ 17
+-- a number but 13 and those of the checks at the end is told exactly when the early checks give it
+pub call-earlier : (limit : ℕ) (q : Question) (request : Request) (output work : List ℤ) (k : ℕ) → k ≢ 0 → k ≢ 13
+    → ((s r : ℕ) (x : State) → firstRefusal (endChecks q request s r x) ≢ k)
     → (numberTold (call limit q request output work .answer) ≡ k) ↔ (firstRefusal (earlyChecks limit q request (length output) (length work)) ≡ k)
 unfolding call
-call-earlier limit q request output work k nonzero narrow bounded =
+call-earlier limit q request output work k nonzero narrow ended =
     go (firstRefusal (earlyChecks limit q request (length output) (length work))) (two q (transformsOf request))
   where
     left : ℕ → ℕ → State → List ℤ
     left s r x = splices (listSlots q request) (numbersOf q request s r x) (listCount request) output
 
-    -- at the end of the reductions nothing is told, or 17
+    -- at the end of the reductions another number is told, or none
     at-end : (s r : ℕ) (x : State) (n : ℕ) → firstRefusal (endChecks q request s r x) ≡ n
         → (numberTold (concluded 0 n (countsOf s r x) (left s r x) output work .answer) ≡ k) ↔ (0 ≡ k)
     at-end s r x zero f = (λ e. e, λ e. e)
-    at-end s r x (suc n) f =
-        let told : suc n ≡ 17 = sym f ∙ ending-number q request s r x (λ e. suc-ne-zero n (sym f ∙ e)) in
-        (λ e. absurd (bounded (sym e ∙ told)), λ e. absurd (nonzero (sym e)))
+    at-end s r x (suc n) f = (λ e. absurd (ended s r x (f ∙ e)), λ e. absurd (nonzero (sym e)))
 
     go : (n : ℕ) (R : Reductions) → (numberTold (callWith n (endChecks q request) R left output work .answer) ≡ k) ↔ (n ≡ k)
     go (suc n) R = (λ e. e, λ e. e)

@@ -13,8 +13,8 @@ pub mod CoordinatesRight
 pub mod OnlyCoordinates
 pub mod Fits
 pub mod SurfaceRight
-pub mod EndLaws
 pub mod Behind
+pub mod EndLaws
 pub mod ListLaws
 pub mod CallRight
 pub mod HostRight

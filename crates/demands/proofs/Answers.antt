@@ -7,6 +7,7 @@ use Rattle.integers.specs.Division.{NearestZero}
 use Rattle.sheet_format.specs.Sheet.{Bytes}
 use Rattle.homology_groups.specs.Chain.{Chain, combination}
 use Rattle.homology_groups.proofs.ChainLaws.{boundary-same}
+use Rattle.reports.specs.Reductions.{Transforms}
 use Rattle.reports.specs.Report.{Counts, freeRank, torsionCount, countsOf}
 use Rattle.requests.specs.Question.{Question, cells, cellCount}
 use Rattle.answers.specs.Homology.{IsBoundary}
@@ -45,21 +46,21 @@ report-right q bytes {numbers} of f t counts =
     as-counted (λ f t. IsRight (cells q) (q .dimension) f t numbers) (own .0) (own .1) (report-is-right (D .two .right) (D .reads))
 
 -- what stands behind the counts that a call answered
-pub record CountsBehind (q : Question) (counts : Counts) : Type 0 where
-  pub two : Behind q
+pub record CountsBehind (q : Question) (keeps : Transforms) (counts : Counts) : Type 0 where
+  pub two : Behind q keeps
   pub are : counts ≡ countsOf (two .rows) (two .rank) (two .state)
 
-pub counts-of : (q : Question) → Bytes (q .sheet) → {counts : Counts} → CountsAnswered q counts → CountsBehind q counts
+pub counts-of : (q : Question) → Bytes (q .sheet) → {keeps : Transforms} {counts : Counts} → CountsAnswered q keeps counts → CountsBehind q keeps counts
 counts-of q bytes (claims.CountsAnswered.by-call limit request output work counts e) =
     record { two = answered limit q request output work bytes (done-number e) .reductions-behind; are = counts-behind limit q request output work bytes e }
 
 pub countsRight : CountsRight
-countsRight q bytes counts of =
+countsRight q bytes keeps counts of =
     let B = counts-of q bytes of in
     as-counted (λ f t. Counted q f t) (ap (λ (c : Counts). c .free) (B .are)) (ap (λ (c : Counts). c .torsion) (B .are)) (has-counts (B .two .right))
 
 pub oneCounts : OneCounts
-oneCounts q bytes c d of-c of-d =
+oneCounts q bytes keeps c d of-c of-d =
     let C = counts-of q bytes of-c in
     let D = counts-of q bytes of-d in
     C .are ∙ same-behind (λ s r x. countsOf s r x ≡ d) (D .two) (C .two) (sym (D .are))

@@ -10,6 +10,7 @@ use Rattle.limits.specs.Limits.{coefficientLimit}
 use Rattle.trials.specs.Trial.{firstRefusal}
 use Rattle.sheet_format.specs.Sheet.{Bytes}
 use Rattle.homology_groups.specs.Chain.{Chain}
+use Rattle.reports.specs.Reductions.{noTransforms}
 use Rattle.requests.specs.Question.{Question, cells, cellCount}
 use Rattle.requests.specs.Chains.{chainAt}
 use Rattle.requests.proofs.ChainsLaws.{length-chainAt, chains-zero}
@@ -31,11 +32,11 @@ use Rattle.demands.specs.Answers.{ReportOf, CoordinatesOf}
 -- ---- reports
 
 pub record ReportBehind (q : Question) (numbers : ℕ → ℤ) : Type 0 where
-  pub two : Behind q
+  pub two : Behind q noTransforms
   pub reads : Reads (cells q) (q .dimension) (two .rows) (two .rank) (two .state) numbers
 
 -- the first place of the first list is the first place
-start : (n j : ℕ) → 0 * n + j ≡ j
+pub start : (n j : ℕ) → 0 * n + j ≡ j
 start n j = omega arith
 
 pub report-behind : (q : Question) → Bytes (q .sheet) → {numbers : ℕ → ℤ} → ReportOf q numbers → ReportBehind q numbers
@@ -62,7 +63,7 @@ report-behind q bytes (claims.ReportOf.by-host output e) =
 
 -- the two reductions, and the cycle that the list belongs to
 pub record CoordinatesBehind (q : Question) (z : Chain) (c : ℕ → ℤ) : Type 0 where
-  pub two : Behind q
+  pub two : Behind q noTransforms
   pub chain : List ℤ
   pub agrees : (i : ℕ) → i < cellCount q → slot chain i ≡ z i
   pub cycle : IsCycle (cells q) (q .dimension) (slot chain)

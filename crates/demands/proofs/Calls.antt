@@ -1,5 +1,5 @@
 -- The claims on the calls: the number, what is left and what is written.
-use mathlib.Core.Path.{_≡_, sym, _∙_, ap}
+use mathlib.Core.Path.{_≡_, refl, sym, _∙_, ap}
 use mathlib.Core.Logic.{_↔_}
 use mathlib.Core.List.{List}
 use Prim.Native.Nat.{ℕ, _+_, _*_, _≤_, _<_}
@@ -9,6 +9,7 @@ use lib.IntN.{ℤ}
 use Rattle.limits.specs.Limits.{coefficientLimit}
 use Rattle.trials.specs.Trial.{firstRefusal, done, numberTold, Called}
 use Rattle.sheet_format.specs.Sheet.{Bytes}
+use Rattle.reports.specs.Reductions.{noTransforms}
 use Rattle.reports.specs.Report.{Counts, coordinateList}
 use Rattle.requests.specs.Question.{Question, cells, cellCount}
 use Rattle.requests.specs.Chains.{chainAt, chainChecks, cyclesChecks, chainsChecks, FirstFault}
@@ -49,7 +50,7 @@ firstFaultyChain limit q many chains output work bytes passed size k nonzero nar
     p = q .dimension
 
     answers : (numberTold (call limit q (lists many chains) output work .answer) ≡ k) ↔ (firstRefusal (earlyChecks limit q (lists many chains) (length output) (length work)) ≡ k)
-    answers = call-earlier limit q (lists many chains) output work k nonzero narrow
+    answers = call-earlier limit q (lists many chains) output work k nonzero narrow (λ s r x e. nonzero (sym e))
 
     before : firstRefusal (earlyChecks limit q (lists many chains) (length output) (length work)) ≡ firstRefusal (cyclesChecks coefficientLimit (cells q) (q .dimension) many chains)
     before =
@@ -70,7 +71,7 @@ module _ (limit : ℕ) (q : Question) (many : ℕ) (chains output work : List �
   abbrev A : Answered limit q (lists many chains) (length output) (length work)
   A = answered limit q (lists many chains) output work bytes (done-number e)
 
-  abbrev L : Behind q
+  abbrev L : Behind q noTransforms
   L = A .reductions-behind
 
   abbrev z : List ℤ
@@ -94,9 +95,9 @@ module _ (limit : ℕ) (q : Question) (many : ℕ) (chains output work : List �
   single = call limit q (coordinates z) output′ work′
 
   answer : single .answer ≡ done counts
-  answer = passed-done limit q (coordinates z) output′ work′ single-passed L ∙ ap done (sym (counts-behind limit q (lists many chains) output work bytes e))
+  answer = passed-done limit q (coordinates z) output′ work′ single-passed L refl ∙ ap done (sym (counts-behind limit q (lists many chains) output work bytes e))
 
-  abbrev S : Behind q
+  abbrev S : Behind q noTransforms
   S = answered limit q (coordinates z) output′ work′ bytes (done-number answer) .reductions-behind
 
   width-lists : counts .torsion + counts .free ≡ coordinates-width L

@@ -6,6 +6,7 @@ use native.Mathlib.Omega.{arith}
 use Rattle.limits.specs.Limits.{entryLimit}
 use Rattle.sheet_format.specs.Sheet.{Bytes}
 use Rattle.reduction_steps.specs.State.{State}
+use Rattle.reports.specs.Reductions.{Transforms}
 use Rattle.reports.specs.Report.{Counts, bitsOf}
 use Rattle.reports.proofs.BitsLaws.{bits-below, bits-zero, bits-le, bits-least}
 use Rattle.requests.specs.Question.{Question, cellCount, two}
@@ -15,8 +16,8 @@ use Rattle.demands.specs.Answers.{CountsAnswered}
 use Rattle.demands.specs.Headroom.{Headroom, HeadroomNone, AtEntryLimit, LeastLimit}
 use Rattle.demands.proofs.Answers.{CountsBehind, counts-of}
 
-module _ (q : Question) (bytes : Bytes (q .sheet)) (counts : Counts) (of-counts : CountsAnswered q counts) where
-  abbrev B : CountsBehind q counts
+module _ (q : Question) (bytes : Bytes (q .sheet)) (keeps : Transforms) (counts : Counts) (of-counts : CountsAnswered q keeps counts) where
+  abbrev B : CountsBehind q keeps counts
   B = counts-of q bytes of-counts
 
   peak-is : counts .peak ≡ B .two .state .peak
@@ -41,11 +42,11 @@ module _ (q : Question) (bytes : Bytes (q .sheet)) (counts : Counts) (of-counts 
   within = omega (arith, peak-is, B .two .headroom .within)
 
   -- what the reductions end with stands behind the counts
-  same-end : (L : ℕ) → 1 ≤ L → counts .peak ≤ L → (s r : ℕ) (x : State) → EndsAt entryLimit q s r x → EndsAt L q s r x
+  same-end : (L : ℕ) → 1 ≤ L → counts .peak ≤ L → (s r : ℕ) (x : State) → EndsAt entryLimit q keeps s r x → EndsAt L q keeps s r x
   same-end L one h s r x e =
-      ends-at q s r x L (B .two .limits L one .same (omega (arith, peak-is)) ∙ sym (B .two .reductions-are) ∙ ends-reduced (B .two) e)
+      ends-at q keeps s r x L (B .two .limits L one .same (omega (arith, peak-is)) ∙ sym (B .two .reductions-are) ∙ ends-reduced (B .two) e)
 
-  at-limit : (L : ℕ) → 1 ≤ L → AtEntryLimit q L counts
+  at-limit : (L : ℕ) → 1 ≤ L → AtEntryLimit q keeps L counts
   at-limit L one =
       let d = B .two .limits L one in
       record {
@@ -54,18 +55,18 @@ module _ (q : Question) (bytes : Bytes (q .sheet)) (counts : Counts) (of-counts 
       }
 
 pub headroom : Headroom
-headroom q bytes counts of-counts = record {
-  within = within q bytes counts of-counts;
-  few = subst (λ (n : ℕ). n ≤ 20) (sym bits) (bits-le (counts .peak) 20 (omega (arith, within q bytes counts of-counts)));
-  fits = bits-fit q bytes counts of-counts;
+headroom q bytes keeps counts of-counts = record {
+  within = within q bytes keeps counts of-counts;
+  few = subst (λ (n : ℕ). n ≤ 20) (sym bits) (bits-le (counts .peak) 20 (omega (arith, within q bytes keeps counts of-counts)));
+  fits = bits-fit q bytes keeps counts of-counts;
   least = subst (λ (n : ℕ). (counts .peak ≡ 0) ⊎ (2 ^ (n - 1) ≤ counts .peak)) (sym bits) (bits-least (counts .peak));
 }
   where
     bits : counts .bits ≡ bitsOf (counts .peak)
-    bits = bits-are q bytes counts of-counts
+    bits = bits-are q bytes keeps counts of-counts
 
 pub headroomNone : HeadroomNone
-headroomNone q bytes counts of-counts = record { peak = peak-none q bytes counts of-counts; bits = bits-none q bytes counts of-counts }
+headroomNone q bytes keeps counts of-counts = record { peak = peak-none q bytes keeps counts of-counts; bits = bits-none q bytes keeps counts of-counts }
 
 pub leastLimit : LeastLimit
 leastLimit = at-limit

@@ -27,7 +27,7 @@ use Rattle.reduction_steps.specs.Lines.{onList, lineLess, onLines, onEntries}
 use Rattle.reduction_steps.specs.State.{State, largest, rowOperation, columnOperation, within, checked, andThen, onRow, onColumn}
 use Rattle.reduction_steps.specs.Pivot.{better, alongRow, downRows, release1}
 use Rattle.reduction_steps.specs.Step.{columnKeeps, rowKeeps, rowIndivisible, firstIndivisible, positive, bring, quotient, rowPass, columnPass, next, step, run, reduce}
-use Rattle.reports.specs.Reductions.{reduced, firstStart, product, secondStart, afterSecond, second, afterFirst, reductions}
+use Rattle.reports.specs.Reductions.{reduced, noTransforms, firstStart, product, secondStart, afterSecond, second, afterFirst, reductions}
 use Rattle.requests.specs.Question.{Question, asked, cells, rule, two}
 use Rattle.requests.specs.Call.{wentWide}
 use Rattle.answers.specs.Outcome.{TooWide}
@@ -83,7 +83,7 @@ hollow-left = record {
 }
 
 -- one row of Q, no pivot
-pub hollow-reduced : two hollow ≡ reduced 1 0 hollow-left
+pub hollow-reduced : two hollow noTransforms ≡ reduced 1 0 hollow-left
 unfolding cells rule two reductions firstStart afterFirst second product secondStart afterSecond countBelow boundary coefficient sign
     countField cellOf cellsOf sectionsOf without same start
     reduce run step next bring positive quotient rowPass columnPass columnKeeps rowKeeps rowIndivisible firstIndivisible
@@ -91,5 +91,5 @@ unfolding cells rule two reductions firstStart afterFirst second product secondS
     inverse identity null mul sum floor divides tabulate
 hollow-reduced = refl
 
-pub hollow-narrow : TooWide hollow → ⊥
-hollow-narrow wide = false≢true (ap wentWide (sym hollow-reduced ∙ two-wide hollow hollow-chains .1 wide))
+pub hollow-narrow : TooWide hollow noTransforms → ⊥
+hollow-narrow wide = false≢true (ap wentWide (sym hollow-reduced ∙ two-wide hollow noTransforms hollow-chains .1 wide))

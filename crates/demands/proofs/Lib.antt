@@ -3,6 +3,7 @@ mod Sheets
 mod Calls
 mod Behind
 mod Answers
+mod Surfaces
 mod Headroom
 mod Host
 mod Meshes

@@ -8,7 +8,7 @@ use Rattle.sheet_format.specs.Layout.{start}
 use Rattle.sheet_format.specs.Check.{countField, cellOf, cellsOf, sectionsOf}
 use Rattle.sheet_format.specs.Starred.{hollowTriangle}
 use Rattle.reduction_steps.specs.State.{State}
-use Rattle.reports.specs.Reductions.{noTransforms}
+use Rattle.reports.specs.Reductions.{Transforms, noTransforms}
 use Rattle.reports.specs.Report.{Counts}
 use Rattle.requests.specs.Question.{asked, cells, rule}
 use Rattle.answers.specs.Wide.{GoesWide}
@@ -20,46 +20,46 @@ use Rattle.demands.proofs.Hollow.{hollow, hollow-bytes}
 use Rattle.demands.proofs.Plane.{plane-bytes, plane-answered}
 
 -- whatever counts a call answers of the plane
-module _ (headroom : Headroom) (d : Counts) (answered : CountsAnswered loops d) where
+module _ (headroom : Headroom) (keeps : Transforms) (d : Counts) (answered : CountsAnswered loops keeps d) where
   within : d .peak ≤ 1048575
-  within = headroom loops plane-bytes d answered .within
+  within = headroom loops plane-bytes keeps d answered .within
 
   few : d .bits ≤ 20
-  few = headroom loops plane-bytes d answered .few
+  few = headroom loops plane-bytes keeps d answered .few
 
   fits : d .peak < 2 ^ d .bits
-  fits = headroom loops plane-bytes d answered .fits
+  fits = headroom loops plane-bytes keeps d answered .fits
 
   least : (d .peak ≡ 0) ⊎ (2 ^ (d .bits - 1) ≤ d .peak)
-  least = headroom loops plane-bytes d answered .least
+  least = headroom loops plane-bytes keeps d answered .least
 
-module _ (headroomNone : HeadroomNone) (d : Counts) where
+module _ (headroomNone : HeadroomNone) (keeps : Transforms) (d : Counts) where
   -- three edges
-  some-peak : CountsAnswered hollow d → d .peak ≡ 0 → ⊥
+  some-peak : CountsAnswered hollow keeps d → d .peak ≡ 0 → ⊥
   unfolding cells countField cellOf cellsOf sectionsOf start tabulate
-  some-peak answered none = let three : _≡_ {A = ℕ} 3 0 = headroomNone hollow hollow-bytes d answered .peak .0 none in omega (arith, three)
+  some-peak answered none = let three : _≡_ {A = ℕ} 3 0 = headroomNone hollow hollow-bytes keeps d answered .peak .0 none in omega (arith, three)
 
-  some-bits : CountsAnswered hollow d → d .bits ≡ 0 → ⊥
+  some-bits : CountsAnswered hollow keeps d → d .bits ≡ 0 → ⊥
   unfolding cells countField cellOf cellsOf sectionsOf start tabulate
-  some-bits answered none = let three : _≡_ {A = ℕ} 3 0 = headroomNone hollow hollow-bytes d answered .bits .0 none in omega (arith, three)
+  some-bits answered none = let three : _≡_ {A = ℕ} 3 0 = headroomNone hollow hollow-bytes keeps d answered .bits .0 none in omega (arith, three)
 
   -- no triangle
-  no-peak : CountsAnswered (asked hollowTriangle 2) d → d .peak ≡ 0
+  no-peak : CountsAnswered (asked hollowTriangle 2) keeps d → d .peak ≡ 0
   unfolding cells countField cellOf cellsOf sectionsOf start tabulate
-  no-peak answered = headroomNone (asked hollowTriangle 2) hollow-bytes d answered .peak .1 refl
+  no-peak answered = headroomNone (asked hollowTriangle 2) hollow-bytes keeps d answered .peak .1 refl
 
-  no-bits : CountsAnswered (asked hollowTriangle 2) d → d .bits ≡ 0
+  no-bits : CountsAnswered (asked hollowTriangle 2) keeps d → d .bits ≡ 0
   unfolding cells countField cellOf cellsOf sectionsOf start tabulate
-  no-bits answered = headroomNone (asked hollowTriangle 2) hollow-bytes d answered .bits .1 refl
+  no-bits answered = headroomNone (asked hollowTriangle 2) hollow-bytes keeps d answered .bits .1 refl
 
 module _ (leastLimit : LeastLimit) where
   -- too wide at the entry limit 1 and not at 2
   wide-at-1 : GoesWide noTransforms 1 (rule loops) (cells loops) 1
-  wide-at-1 = leastLimit loops plane-bytes counts plane-answered 1 (omega arith) .too-wide .1 (omega arith)
+  wide-at-1 = leastLimit loops plane-bytes noTransforms counts plane-answered 1 (omega arith) .too-wide .1 (omega arith)
 
   narrow-at-2 : GoesWide noTransforms 2 (rule loops) (cells loops) 1 → ⊥
-  narrow-at-2 wide = omega (arith, leastLimit loops plane-bytes counts plane-answered 2 (omega arith) .too-wide .0 wide)
+  narrow-at-2 wide = omega (arith, leastLimit loops plane-bytes noTransforms counts plane-answered 2 (omega arith) .too-wide .0 wide)
 
   -- at 2 the reductions come to the same end
-  ends-at-2 : (s r : ℕ) (x : State) → EndsAt 1048575 loops s r x → EndsAt 2 loops s r x
-  ends-at-2 = leastLimit loops plane-bytes counts plane-answered 2 (omega arith) .same (omega arith)
+  ends-at-2 : (s r : ℕ) (x : State) → EndsAt 1048575 loops noTransforms s r x → EndsAt 2 loops noTransforms s r x
+  ends-at-2 = leastLimit loops plane-bytes noTransforms counts plane-answered 2 (omega arith) .same (omega arith)

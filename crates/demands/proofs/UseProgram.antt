@@ -14,6 +14,7 @@ use Rattle.sheet_format.specs.Layout.{start, top}
 use Rattle.sheet_format.specs.Check.{countField, cellOf, cellsOf, sectionsOf, refusal}
 use Rattle.sheet_format.specs.Sheet.{Bytes}
 use Rattle.sheet_format.specs.Starred.{hollowTriangle}
+use Rattle.reports.specs.Reductions.{noTransforms}
 use Rattle.reports.specs.Report.{Counts, countsOf, reported, columnsOf, torsionCount, reportList}
 use Rattle.requests.specs.Question.{asked, cells}
 use Rattle.requests.specs.Call.{report, call}
@@ -25,7 +26,7 @@ use Rattle.answers.specs.Outcome as outcome
 use Rattle.demands.specs.Calls.{Calls}
 use Rattle.demands.specs.Program.{ProgramRefuses, ProgramPrints, ProgramInput}
 use Rattle.demands.proofs.Hollow.{hollow, hollow-bytes, hollow-accepted, hollow-left, hollow-narrow}
-use Rattle.demands.proofs.UseCalls.{when-answered}
+use Rattle.demands.proofs.UseCalls.{plain, when-answered}
 
 -- `R 1`
 abbrev tooShort : List ℕ
@@ -72,7 +73,7 @@ module _ (calls : Calls) (programPrints : ProgramPrints) where
       of : {text : List ℕ} → DimensionPrinted hollowTriangle 1 text → text ≡ loopText
       of (printed.DimensionPrinted.too-wide wide is) = absurd (hollow-narrow wide)
       of (printed.DimensionPrinted.reports output work counts e is) =
-          let called = when-answered calls 48 report output work counts e in
+          let called = when-answered calls 48 report (plain refl tt) output work counts e in
           let counted : counts ≡ countsOf 1 0 hollow-left = ap countsIn (sym e ∙ ap (λ (c : Called Counts ℤ). c .answer) called) in
           is ∙ ap (λ (c : Counts). printedBy (c .free) (c .torsion) (call 48 hollow report output work .output)) counted
           ∙ ap (λ (c : Called Counts ℤ). printedBy 1 0 (c .output)) called
@@ -82,16 +83,17 @@ module _ (calls : Calls) (programPrints : ProgramPrints) where
   last = hollow-printed .each 3 (omega arith)
 
 -- of any sheet: `R 13` for a dimension that goes too wide
-wide-printed : (calls : Calls) (programPrints : ProgramPrints) (b : List ℕ) (bytes : Bytes b) (accepted : refusal hostLimit b ≡ 0) (p : ℕ) → p ≤ top → TooWide (asked b p) →
+wide-printed : (calls : Calls) (programPrints : ProgramPrints) (b : List ℕ) (bytes : Bytes b) (accepted : refusal hostLimit b ≡ 0) (p : ℕ) → p ≤ top → TooWide (asked b p) noTransforms →
     programPrints b bytes accepted .texts p ≡ 82 ∷ 32 ∷ 49 ∷ 51 ∷ 10 ∷ []
 unfolding spaced decimal digits
 wide-printed calls programPrints b bytes accepted p small goes = of (programPrints b bytes accepted .each p small)
   where
     not-done : (output work : List ℤ) (counts : Counts) → call hostLimit (asked b p) report output work .answer ≡ done counts →
         Outcome hostLimit (asked b p) report output work (call hostLimit (asked b p) report output work) → ⊥
-    not-done output work counts e (outcome.Outcome.refused-early k nonzero narrow told is) = refused≢done (sym (ap (λ (c : Called Counts ℤ). c .answer) is) ∙ e)
+    not-done output work counts e (outcome.Outcome.refused-early k nonzero narrow bounded told is) = refused≢done (sym (ap (λ (c : Called Counts ℤ). c .answer) is) ∙ e)
     not-done output work counts e (outcome.Outcome.too-wide none wide is) = refused≢done (sym (ap (λ (c : Called Counts ℤ). c .answer) is) ∙ e)
-    not-done output work counts e (outcome.Outcome.is-done none narrow s r x ends is) = narrow goes
+    not-done output work counts e (outcome.Outcome.bounds-nothing none narrow nothing is) = refused≢done (sym (ap (λ (c : Called Counts ℤ). c .answer) is) ∙ e)
+    not-done output work counts e (outcome.Outcome.is-done none narrow bounds s r x ends is) = narrow goes
 
     of : {text : List ℕ} → DimensionPrinted b p text → text ≡ refusalLine 13
     of (printed.DimensionPrinted.too-wide wide is) = is

@@ -12,6 +12,7 @@ use Rattle.sheet_format.specs.Layout.{start}
 use Rattle.sheet_format.specs.Check.{countField, cellOf, cellsOf, sectionsOf}
 use Rattle.sheet_format.specs.Sheet.{Bytes}
 use Rattle.homology_groups.specs.Chain.{Chain, combination}
+use Rattle.reports.specs.Reductions.{noTransforms}
 use Rattle.reports.specs.Report.{Counts}
 use Rattle.requests.specs.Question.{Question, cells, cellCount}
 use Rattle.requests.specs.Call.{report, call}
@@ -97,14 +98,14 @@ module _ (reports : Reports) where
 
 module _ (countsRight : CountsRight) where
   plane-counted : Counted loops 0 1
-  plane-counted = countsRight loops plane-bytes counts plane-answered
+  plane-counted = countsRight loops plane-bytes noTransforms counts plane-answered
 
   counted-right : IsRight (cells loops) 1 0 1 (plane-counted .report)
   counted-right = plane-counted .is-right
 
 -- whatever call answers counts, they are these
-one-counts : OneCounts → (d : Counts) → CountsAnswered loops d → d ≡ record { free = 0; torsion = 1; peak = 2; bits = 2 }
-one-counts oneCounts d answered = oneCounts loops plane-bytes d counts answered loop-answered
+one-counts : OneCounts → (d : Counts) → CountsAnswered loops noTransforms d → d ≡ record { free = 0; torsion = 1; peak = 2; bits = 2 }
+one-counts oneCounts d answered = oneCounts loops plane-bytes noTransforms d counts answered loop-answered
 
 -- ---- the hollow triangle: the host's report is the library's
 
@@ -117,7 +118,7 @@ module _ (calls : Calls) (hostCalls : HostCalls) (countsRight : CountsRight) (on
 
   hollow-counted : Counted hollow 1 0
   hollow-counted =
-      countsRight hollow hollow-bytes calling.loops
+      countsRight hollow hollow-bytes noTransforms calling.loops
       (claims.CountsAnswered.by-call 48 report (nines 16) (nines 30) calling.loops (ap (λ (c : Called Counts ℤ). c .answer) (calling.report-written calls)))
 
   -- the last of its five numbers

@@ -9,9 +9,10 @@ use Rattle.integers.specs.Division.{NearestZero}
 use Rattle.trials.specs.Trial.{done}
 use Rattle.sheet_format.specs.Sheet.{Bytes}
 use Rattle.homology_groups.specs.Chain.{Chain, combination}
+use Rattle.reports.specs.Reductions.{Transforms}
 use Rattle.reports.specs.Report.{Counts}
 use Rattle.requests.specs.Question.{Question, cells, cellCount}
-use Rattle.requests.specs.Call.{Request, report, coordinates, lists, call}
+use Rattle.requests.specs.Call.{Request, report, coordinates, lists, transformsOf, call}
 use Rattle.host_calls.specs.Bytes.{coefficientIn, numberAt}
 use Rattle.host_calls.specs.Host.{hostCall, coordinatesIn, listsIn}
 use Rattle.answers.specs.Homology.{IsBoundary}
@@ -43,10 +44,11 @@ pub data CoordinatesOf (q : Question) : Chain → (ℕ → ℤ) → Type 0 where
       CoordinatesOf q (λ j. coefficientIn chains (i * cellCount q + j))
       (λ j. numberAt (hostCall q (listsIn q many chains) output .output) (i * cellCount q + j))
 
--- the counts that a call of the library answered
-pub data CountsAnswered (q : Question) : Counts → Type 0 where
+-- the counts that a call of the library answered, whose reductions keep these transforms: none, or, of a surface, that of the columns of the second
+pub data CountsAnswered (q : Question) : Transforms → Counts → Type 0 where
   by-call :
-      (limit : ℕ) (request : Request) (output work : List ℤ) (counts : Counts) → call limit q request output work .answer ≡ done counts → CountsAnswered q counts
+      (limit : ℕ) (request : Request) (output work : List ℤ) (counts : Counts) → call limit q request output work .answer ≡ done counts →
+      CountsAnswered q (transformsOf request) counts
 
 -- free rank f and t orders are those of the question's homology group
 abbrev pub Counted : Question → ℕ → ℕ → Type 0
@@ -63,16 +65,16 @@ Reports = (q : Question) → Bytes (q .sheet) → (numbers : ℕ → ℤ) → Re
 
 -- 01, "done, with the report's counts": those that a call answers are the group's
 abbrev pub CountsRight : Type 0
-CountsRight = (q : Question) → Bytes (q .sheet) → (counts : Counts) → CountsAnswered q counts → Counted q (counts .free) (counts .torsion)
+CountsRight = (q : Question) → Bytes (q .sheet) → (keeps : Transforms) (counts : Counts) → CountsAnswered q keeps counts → Counted q (counts .free) (counts .torsion)
 
--- there is one report of a question: any two agree at all their places, and any two answers carry the same counts
+-- there is one report of a question: any two agree at all their places, and any two answers of reductions that keep the same carry the same counts
 abbrev pub OneReport : Type 0
 OneReport =
     (q : Question) → Bytes (q .sheet) → (numbers numbers′ : ℕ → ℤ) → ReportOf q numbers → ReportOf q numbers′ → (f t : ℕ) → Counted q f t →
     (i : ℕ) → i < reportLength (cells q) (q .dimension) f t → numbers i ≡ numbers′ i
 
 abbrev pub OneCounts : Type 0
-OneCounts = (q : Question) → Bytes (q .sheet) → (c d : Counts) → CountsAnswered q c → CountsAnswered q d → c ≡ d
+OneCounts = (q : Question) → Bytes (q .sheet) → (keeps : Transforms) (c d : Counts) → CountsAnswered q keeps c → CountsAnswered q keeps d → c ≡ d
 
 -- "the two lists are equal exactly when the difference of the two cycles is the boundary of some chain with whole coefficients, however large these are"
 abbrev pub CoordinatesDecide : Type 0

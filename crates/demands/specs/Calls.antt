@@ -22,7 +22,9 @@ use Rattle.answers.specs.Outcome.{Outcome, NoCycle}
 -- "each fault gets its number from document 01 in 01's order, and a refusal leaves report and coordinate slices untouched"; demand 2, ""Too wide" is
 -- told exactly when no earlier refusal applies and the reduction in 01 makes an entry beyond 1,048,575 either way from zero"; demand 3, "A call answers
 -- done whenever no numbered refusal applies to it"; 01, "untouched past what the call writes", and the work slice "reads 0 throughout after a finished
--- call, after refusal 13 ..; the other refusals leave it alone". What is written is document 01's: the lists of the end of its reductions
+-- call, after refusal 13 and after any refusal that is tried after 13 ..; the other refusals leave it alone". 02, Note 6, "17, after 13, told exactly when
+-- the cycle bounds no chain with whole coefficients", and its 13 "takes in the added matrix". What is written is the documents': the lists of the end of
+-- the reductions
 abbrev pub Calls : Type 0
 Calls =
     (limit : ℕ) (q : Question) (request : Request) (output work : List ℤ) → Bytes (q .sheet) →

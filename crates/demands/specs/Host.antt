@@ -8,7 +8,7 @@ use lib.IntN.{ℤ}
 use Rattle.limits.specs.Limits.{hostLimit}
 use Rattle.sheet_format.specs.Sheet.{Bytes}
 use Rattle.requests.specs.Question.{Question, cells}
-use Rattle.requests.specs.Call.{Request, workSlots, call}
+use Rattle.requests.specs.Call.{Request, transformsOf, workSlotsFor, call}
 use Rattle.host_calls.specs.Host.{slotsIn, hostCall}
 use Rattle.answers.specs.Outcome.{Carries}
 
@@ -17,4 +17,4 @@ use Rattle.answers.specs.Outcome.{Carries}
 abbrev pub HostCalls : Type 0
 HostCalls =
     (q : Question) (request : Request) (output : List ℕ) → Bytes (q .sheet) → (slots work : List ℤ) → length slots ≡ slotsIn output →
-    workSlots (cells q) (q .dimension) ≤ length work → Carries q request output (call hostLimit q request slots work) (hostCall q request output)
+    workSlotsFor (transformsOf request) (cells q) (q .dimension) ≤ length work → Carries q request output (call hostLimit q request slots work) (hostCall q request output)
