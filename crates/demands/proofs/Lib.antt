@@ -11,11 +11,13 @@ mod Program
 mod Words
 mod Consequences
 mod Hollow
+mod Filled
 mod UseSheets
 mod UseCalls
 mod UseLists
 mod UseWords
 mod UseHost
+mod UseSurfaces
 mod UseMeshes
 mod UseProgram
 mod Plane

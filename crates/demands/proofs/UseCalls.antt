@@ -183,7 +183,7 @@ module _ (calls : Calls) where
   -- ---- 02, Note 6: 17 is told exactly where no early refusal applies, the reductions do not go too wide and the chain bounds nothing; the output is kept
   -- and the work slice cleared
 
-  when-nothing : (limit : ℕ) (q : Question) (request : Request) (output work : List ℤ) → Bytes (q .sheet) →
+  pub when-nothing : (limit : ℕ) (q : Question) (request : Request) (output work : List ℤ) → Bytes (q .sheet) →
       firstRefusal (earlyChecks limit q request (length output) (length work)) ≡ 0 → (TooWide q (transformsOf request) → ⊥) → (Bounds q request → ⊥) →
       call limit q request output work ≡ record { answer = refused 17; output = output; work = cleared work }
   when-nothing limit q request output work bytes passed narrow nothing = of (calls limit q request output work bytes)
