@@ -145,24 +145,35 @@ def count_met(met, case, due, found):
         met["copies that cancel"] += any((nodes[1], nodes[0], *nodes[2:]) in [other for other, _ in source.elements] for nodes, _ in source.elements if len(nodes) > 1)
 
 
+def requests_of(case, files):
+    """The runs of a case: as an object and in words, without files and with them."""
+    words, text = ["surface", NAME, *case.words], case.text.encode()
+    return [([*words, *asked, *form], text) for asked in ([], ["--groups", f"{files}.msh", "--view", f"{files}.pos"]) for form in (["--json"], [])]
+
+
+def case_faults(case, due, files, runs):
+    """What is wrong with the runs of a case."""
+    told, words, exported, both = runs
+    if len({ran.status for ran in runs}) > 1 or (words.errors and case.groups):
+        return [f"statuses {[ran.status for ran in runs]}, {words.errors}"]
+    found, plain, named = object_of(exported.output), object_of(told.output), bool(case.words) and case.words[0].isdigit()
+    groups, view = (Path(f"{files}.{end}").read_text(encoding="ascii") for end in ("msh", "pos"))
+    return [object_fault(case, due, told), files_fault(case, found, groups, view), words.output.decode() != due_words(plain, named, False) and "words",
+            both.output.decode() != due_words(found, named, True) and "words with files"]
+
+
 def compare_random(driver, folder, count, seed):
     """How many random cases differ, and how often each kind came."""
     made, wrong, met = cases(random.Random(seed), count), 0, Counter()
-    requests = []
+    runs = in_process([request for i, case in enumerate(made) for request in requests_of(case, folder / str(i))], driver)
     for i, case in enumerate(made):
-        words, text = ["surface", NAME, *case.words], case.text.encode()
-        files = ["--groups", str(folder / f"{i}.msh"), "--view", str(folder / f"{i}.pos")]
-        requests += [([*words, "--json"], text), (words, text), ([*words, *files, "--json"], text), ([*words, *files], text)]
-    runs = in_process(requests, driver)
-    for i, (case, (told, words, exported, both)) in enumerate(zip(made, zip(*[iter(runs)] * 4))):
-        due, found, named = due_object(case), object_of(exported.output), any(word.isdigit() for word in case.words[:1])
-        groups, view = ((folder / f"{i}.{end}").read_text(encoding="ascii") for end in ("msh", "pos"))
-        faults = [object_fault(case, due, told), files_fault(case, found, groups, view),
-                  words.output.decode() != due_words(object_of(told.output), named, False) and "words",
-                  both.output.decode() != due_words(found, named, True) and "words with files",
-                  len({ran.status for ran in (told, words, exported, both)}) > 1 and "another status", case.groups and words.errors and "messages"]
-        count_met(met, case, due, found)
-        for fault in filter(None, faults):
+        due, own = due_object(case), runs[4 * i:4 * i + 4]
+        try:
+            faults = list(filter(None, case_faults(case, due, folder / str(i), own)))
+            count_met(met, case, due, object_of(own[2].output))
+        except (ValueError, OSError) as error:
+            faults = [f"{error}: {own[0]}"[:300]]
+        for fault in faults:
             wrong += 1
             print(f"case {i}: {fault}; words {case.words}")
     return wrong, met
@@ -207,7 +218,9 @@ NAMED = [
     ("16 times a line that is open", copies(*16 * TRIP[:1]), ["--json"], 1, '"verdict": "large", "refusal": 11, "number": 16, "cell": [1, 2]}', ""),
     ("lines that cancel", copies((1, 2), (2, 1)), [], 0, "group 9, 2 lines: bounds 0\n", ""),
     ("open", copies(*TRIP[:2]), [], 1, "group 9, 2 lines: no surface, no cycle: its boundary has -1 at (1)\n", ""),
-    ("a line that is no edge", copies((1, 1)), [], 1, "no surface, not in the region: the line in line 13 of the file is no edge of it\nthe region is all", ""),
+    ("a line that is no edge", copies((1, 1)), [], 1, "no surface, not in the region: the line in line 13 of the file is no edge of it\n"
+     "the region is all elements but those of the groups taken: name the groups by their tags, or the region by --region\n", ""),
+    ("a line that is no edge, named", copies((1, 1)), ["9"], 1, "but those of the groups taken: name the region by --region\n", ""),
     ("no such tag", copies(*TRIP), ["8"], 2, "", "no group of lines has the tag 8; the tags are 9\n"),
     ("a tag of another dimension", copies(*TRIP), ["5"], 2, "", "no group of lines has the tag 5; the tags are 9\n"),
     ("no groups", TRIANGLE.format(1, FILLED), [], 1, "region: 3 vertices, 3 edges, 1 triangle, ", "fildwuk: the file has no physical group of lines\n"),
