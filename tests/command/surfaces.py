@@ -63,7 +63,8 @@ def group_words(p, orders, group):
         return f"no surface, not in the region: the {ELEMENTS[p][0]} in line {group['line']} of the file is no {CELLS[p][0]} of it"
     if not group["cycle"]:
         at = f"{group['number']} at ({','.join(map(str, group['cell']))})"
-        return f"no surface is looked for: its coefficient {at} is beyond 15" if group["verdict"] == "large" else f"no surface, no cycle: its boundary has {at}"
+        large = group["verdict"] == "large"
+        return f"no surface is looked for: its coefficient {at} is beyond 15" if large else f"no surface, no cycle: its boundary has {at}"
     if group["verdict"] == "bounds":
         return "bounds, but its surface is not found: the reduction that finds it makes an entry beyond 1048575 (refusal 13)"
     numbers = [*(f"{x} mod {d}" for x, d in zip(group["coordinates"], orders)), *map(str, group["coordinates"][len(orders):])]
