@@ -22,6 +22,7 @@ RING = Path("examples/copper_ring.msh").resolve()
 SHEET = Path("examples/air_ring.sheet").resolve()
 GROUPS = Path("tests/meshes/groups.msh").resolve()
 DISC = Path("examples/ring_and_disc.msh").resolve()
+FAULTY = Path("target/host/fildwuk_faulty")
 NAMES = (b"report", b"import", b"judge", b"surface")
 COARSE_RING = import_mesh(RING.read_bytes(), PROGRAM_COUNT_LIMIT, longest(PROGRAM_COUNT_LIMIT))[1]
 OLD = b"an old file"
@@ -331,16 +332,25 @@ def long_facts(command):
     yield "a long line", ran.status == 1 and len(ran.errors) < 1000 and b"\nLine 25 is not of the form (wanted: node numbers" in ran.errors
 
 
+def disagreement_facts(command):
+    """What must hold where a proved call answers what cannot be, by name: tests/host/command_faulty.c."""
+    said = b"fildwuk: an error in this program: the proved call does not agree with the chains\n"
+    for words in (["surface", DISC, "3"], ["surface", DISC], ["judge", DISC], ["surface", DISC, "3", "--json"]):
+        yield f"no agreement, {words[0]} {words[2:]}", failed(command.run(*words), said)
+    yield "agreement, judge of one group", command.run("judge", DISC, "3").errors == b""
+
+
 def main():
     """Exits with 1 where a fact fails."""
     parser = argparse.ArgumentParser(description=__doc__, formatter_class=argparse.RawDescriptionHelpFormatter)
     parser.add_argument("--command", type=Path, default=COMMAND, metavar="FILE", help="the command built with sanitizers (target/host/fildwuk)")
+    parser.add_argument("--faulty", type=Path, default=FAULTY, metavar="FILE", help="the same with wrong answers (target/host/fildwuk_faulty)")
     options = parser.parse_args()
-    groups = [help_facts, word_facts, input_facts, output_facts, replacing_facts, same_file_facts, terminal_facts, long_facts]
+    groups = [help_facts, word_facts, input_facts, output_facts, replacing_facts, same_file_facts, terminal_facts, long_facts, disagreement_facts]
     found = {}
     for group in groups:
         with tempfile.TemporaryDirectory() as folder:
-            found.update(group(Command(options.command.resolve(), folder)))
+            found.update(group(Command(options.faulty.resolve() if group == disagreement_facts else options.command.resolve(), folder)))
     for name, holds in found.items():
         if not holds:
             print(f"not as due: {name}")
