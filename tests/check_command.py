@@ -21,6 +21,9 @@ from model.sheet import LIBRARY_COUNT_LIMIT, PROGRAM_COUNT_LIMIT, longest
 RING = Path("examples/copper_ring.msh").resolve()
 SHEET = Path("examples/air_ring.sheet").resolve()
 GROUPS = Path("tests/meshes/groups.msh").resolve()
+DISC = Path("examples/ring_and_disc.msh").resolve()
+FAULTY = Path("target/host/fildwuk_faulty")
+NAMES = (b"report", b"import", b"judge", b"surface")
 COARSE_RING = import_mesh(RING.read_bytes(), PROGRAM_COUNT_LIMIT, longest(PROGRAM_COUNT_LIMIT))[1]
 OLD = b"an old file"
 MEGABYTE = 1 << 20
@@ -76,8 +79,8 @@ def help_facts(command):
     """What must hold of --help and --version, by name."""
     shown = command.run("--help")
     yield "help", done(shown) and shown.output.startswith(b"usage: fildwuk [COMMAND]") and done(command.run("-h"), shown.output)
-    yield "help names the commands", all(b"\n  %s " % name in shown.output for name in (b"report", b"import", b"judge"))
-    for name in (b"report", b"import", b"judge"):
+    yield "help names the commands", all(b"\n  %s " % name in shown.output for name in NAMES)
+    for name in NAMES:
         told = command.run(name, "--help")
         yield f"help of {name.decode()}", done(told) and told.output.startswith(b"usage: fildwuk ") and name in told.output.split(b"\n")[0]
         yield f"help of {name.decode()} fits a terminal", max(map(len, [*shown.output.splitlines(), *told.output.splitlines()])) <= 80
@@ -103,6 +106,10 @@ def word_facts(command):
         (RING, "--view", "-"): b"standard output has the report: a file is wanted after --view", ("import", RING, "-o"): b"one file is wanted after -o",
         ("import", "-o", "a", "-o", "b", RING): b"one file is wanted after -o", ("import", RING, "--", "-o"): b"one file is wanted, not also -o",
         (RING, "--region", *["1"] * 1001): b"there are more than 1000 tags", ("judge", RING, "one"): b"a physical tag is a number, not one",
+        ("surface", DISC, "one"): b"a physical tag is a number, not one", ("surface", DISC, "--limit", "host"): b"there is no option --limit",
+        ("surface", DISC, "--plain"): b"surface has no --plain", ("surface", DISC, "--dimension", "3"): b"0, 1 or 2 is wanted after --dimension",
+        ("surface", DISC, "--groups", "-"): b"standard output has the report: a file is wanted after --groups",
+        ("judge", RING, "--plain"): b"judge has no --plain", ("judge", RING, "--groups", "x"): b"there is no option --groups",
         ("jugde",): b"neither a command nor a file jugde", ("\x1b[2J",): b"neither a command nor a file \\x1b[2J",
     }
     for words, said in cases.items():
@@ -120,10 +127,12 @@ def word_facts(command):
     yield "a name after --region", told
     plain, grouped = command.run(RING, "--plain"), command.run(RING, "--plain", "--groups", "groups.msh")
     yield "plain lines with groups", plain.output == grouped.output and grouped.errors.startswith(b'group 2 "H_1{0}1": ') and grouped.status == 0
-    for name in ("report", "judge"):
+    for name in ("report", "judge", "surface"):
         ran = command.run(name, RING, "--dimension", "4")
         yield f"a dimension beyond 3, {name}", ran.status == 1 and ran.errors.endswith(b" is refused with 8: the dimension exceeds 3.\n")
-    yield "status 1 in the help", b"1 refused or judged wrong" in command.run("--help").output
+    yield "status 1 in the help", b"1 refused, judged wrong or without a surface" in command.run("--help").output
+    ran = command.run("surface", DISC, "--region", "copper")
+    yield "a name after --region of surface", failed(ran, b'numbers, not copper; the tags are 1 "copper ring", 2 "disc", 3 "rim of the disc", 4 ')
 
 
 def input_facts(command):
@@ -174,7 +183,10 @@ def output_facts(command):
     for option in ("--groups", "--view"):
         yield f"folder for {option}", failed(command.run(RING, option, "."), b"cannot write .: Is a directory")
         yield f"missing folder for {option}", failed(command.run(RING, option, "none/a.msh"), b"cannot write none/a.msh: No such file")
+        yield f"folder for {option} of surface", failed(command.run("surface", DISC, option, "."), b"cannot write .: Is a directory")
     yield "one file for both", failed(command.run(RING, "--groups", "a", "--view", "a"), b"--groups and --view name the same file")
+    full = command.run("surface", DISC, "--groups", "/dev/full")
+    yield "full device for groups", full.status == FAILED and b"cannot write /dev/full: No space" in full.errors and b"bounds +1 (4,8,25)" in full.output
     command.file(OLD, "one")
     os.link(command.folder / "one", command.folder / "two")
     yield "one file by two names", failed(command.run(RING, "--groups", "one", "--view", "two"), b"--groups and --view name the same file")
@@ -235,6 +247,8 @@ def same_file_facts(command):
         yield f"output {name}", failed(command.run("import", "mesh.msh", "-o", name), b"cannot write %s: it is the input" % name.encode())
         for option in ("--groups", "--view"):
             yield f"{option} {name}", failed(command.run("mesh.msh", option, name), b"cannot write %s: it is the input" % name.encode())
+            ran = command.run("surface", "mesh.msh", option, name)
+            yield f"{option} {name} of surface", failed(ran, b"cannot write %s: it is the input" % name.encode())
         yield f"output {name} from standard input", failed(command.shell(f'"$0" import -o {name} <mesh.msh'), b": it is the input\n")
     yield "the input is as it was", mesh.read_bytes() == RING.read_bytes()
     yield "a device may be both", b"/dev/null is refused with 14: " in command.run("import", "/dev/null", "-o", "/dev/null").errors
@@ -267,6 +281,8 @@ def terminal_facts(command):
     yield "waits for a mesh or a sheet", status == 1 and b"fildwuk: waiting for a mesh or a sheet on the terminal; Ctrl-D ends it" in said
     status, said = on_terminal(command, "import", "-o", "/dev/null", typed=RING.read_bytes())
     yield "waits for a mesh", status == 0 and b"fildwuk: waiting for a mesh on the terminal" in said
+    status, said = on_terminal(command, "surface", typed=DISC.read_bytes())
+    yield "waits for a mesh with surfaces", status == 0 and b"fildwuk: waiting for a mesh on the terminal" in said
     status, said = on_terminal(command, "import", str(RING))
     told = said.startswith(b"fildwuk: a sheet is no text for a terminal: name a file after -o")
     yield "no sheet for a terminal", status == FAILED and told and b"\0" not in said
@@ -316,16 +332,25 @@ def long_facts(command):
     yield "a long line", ran.status == 1 and len(ran.errors) < 1000 and b"\nLine 25 is not of the form (wanted: node numbers" in ran.errors
 
 
+def disagreement_facts(command):
+    """What must hold where a proved call answers what cannot be, by name: tests/host/command_faulty.c."""
+    said = b"fildwuk: an error in this program: the proved call does not agree with the chains\n"
+    for words in (["surface", DISC, "3"], ["surface", DISC], ["judge", DISC], ["surface", DISC, "3", "--json"]):
+        yield f"no agreement, {words[0]} {words[2:]}", failed(command.run(*words), said)
+    yield "agreement, judge of one group", command.run("judge", DISC, "3").errors == b""
+
+
 def main():
     """Exits with 1 where a fact fails."""
     parser = argparse.ArgumentParser(description=__doc__, formatter_class=argparse.RawDescriptionHelpFormatter)
     parser.add_argument("--command", type=Path, default=COMMAND, metavar="FILE", help="the command built with sanitizers (target/host/fildwuk)")
+    parser.add_argument("--faulty", type=Path, default=FAULTY, metavar="FILE", help="the same with wrong answers (target/host/fildwuk_faulty)")
     options = parser.parse_args()
-    groups = [help_facts, word_facts, input_facts, output_facts, replacing_facts, same_file_facts, terminal_facts, long_facts]
+    groups = [help_facts, word_facts, input_facts, output_facts, replacing_facts, same_file_facts, terminal_facts, long_facts, disagreement_facts]
     found = {}
     for group in groups:
         with tempfile.TemporaryDirectory() as folder:
-            found.update(group(Command(options.command.resolve(), folder)))
+            found.update(group(Command(options.faulty.resolve() if group == disagreement_facts else options.command.resolve(), folder)))
     for name, holds in found.items():
         if not holds:
             print(f"not as due: {name}")

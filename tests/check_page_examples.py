@@ -17,7 +17,7 @@ from pathlib import Path
 
 ROOT = Path(__file__).resolve().parent.parent
 COMMAND = ROOT / "target/host/fildwuk"
-PAGES = ["docs/GMSH.md", "docs/COMMAND.md"]
+PAGES = ["docs/GMSH.md", "docs/COMMAND.md", "docs/SOLVER.md"]
 MARK = "== the next command =="
 
 

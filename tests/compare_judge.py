@@ -139,7 +139,7 @@ FAULTS = [
     ("line with one node twice", TRIANGLE.format(2, "1 2 2 5 1 1 2 3\n2 1 2 9 1 1 1\n"), [], 1, "the line in line 13 of the file is no edge", ""),
     ("line of three nodes", TRIANGLE.format(2, "1 2 2 5 1 1 2 3\n2 1 2 9 1 1 2 3\n"), [], 1, "the line in line 13 of the file is no edge", ""),
     ("line alone", TRIANGLE.format(1, "1 1 2 9 1 1 2\n"), [], 1, "name the groups by their tags, or the region by --region\n", ""),
-    ("line alone, named", TRIANGLE.format(1, "1 1 2 9 1 1 2\n"), ["9"], 1, "judged: name the region by --region\n", ""),
+    ("line alone, named", TRIANGLE.format(1, "1 1 2 9 1 1 2\n"), ["9"], 1, "taken: name the region by --region\n", ""),
     ("line alone, region named", TRIANGLE.format(1, "1 1 2 9 1 1 2\n"), ["9", "--region", "9"], 1, "no cycle: its boundary has -1 at (1)", ""),
     ("large coefficient", TRIANGLE.format(32769, "1 2 2 5 1 1 2 3\n" + LARGE), [], 1, "its coefficient 32768 at (1,2) is beyond 32767", ""),
     ("malformed", "$MeshFormat\n", [], 1, "", "refused with 14"),
@@ -148,7 +148,7 @@ FAULTS = [
     ("dimension 4", TRIANGLE.format(1, "1 2 2 5 1 1 2 3\n"), ["--dimension", "4"], 1, "", "refused with 8: the dimension exceeds 3."),
     ("plain", TRIANGLE.format(1, "1 2 2 5 1 1 2 3\n"), ["--plain"], 2, "", "--plain"),
     ("many groups", TRIANGLE.format(1002, "1 2 2 5 1 1 2 3\n" + "".join(f"{i} 1 2 {i} 1 1 2\n" for i in range(10, 1011))), [], 1, "",
-     "1001 groups are more than are judged at once"),
+     "1001 groups are more than are taken at once"),
 ]
 
 

@@ -8,7 +8,7 @@
 #include "input.h"
 #include "options.h"
 
-/* Exit statuses: done; refused by a proved call, or judged wrong; unreadable, unwritable or misused. */
+/* Exit statuses: done; refused by a proved call, judged wrong or without a surface; unreadable, unwritable or misused. */
 enum status { STATUS_DONE = 0, STATUS_REFUSED = 1, STATUS_FAILED = 2 };
 
 /* Where a command writes: what was asked for, and messages. */

@@ -21,8 +21,8 @@ static void write_help(FILE *out) {
         fprintf(out, "  %-8s %s\n", command_at(i)->name, command_at(i)->line);
     fputs("\n"
           "`fildwuk COMMAND --help` says more, `fildwuk --version` which release this is.\n"
-          "Exit status: 0 done, 1 refused or judged wrong, 2 unreadable, unwritable or\n"
-          "misused.\n",
+          "Exit status: 0 done, 1 refused, judged wrong or without a surface, 2 unreadable,\n"
+          "unwritable or misused.\n",
           out);
 }
 

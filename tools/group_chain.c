@@ -6,16 +6,18 @@
 
 #include "physical.h"
 
+int group_is_cycle(const struct group *group) { return group->verdict >= VERDICT_BOUNDS; }
+
 /* Adds an element to the chain of its group. */
-static void add_element(struct chain_region region, const struct mesh_element *element, struct judged *judged, int64_t *sum) {
-    judged->elements++;
-    if (physical_add(region.mesh, element, region.sheet, region.dimension, sum) || judged->verdict == VERDICT_OUTSIDE)
+static void add_element(struct chain_region region, const struct mesh_element *element, struct group *group, int64_t *sum) {
+    group->elements++;
+    if (physical_add(region.mesh, element, region.sheet, region.dimension, sum) || group->verdict == VERDICT_OUTSIDE)
         return;
-    judged->verdict = VERDICT_OUTSIDE;
-    judged->line = element->line;
+    group->verdict = VERDICT_OUTSIDE;
+    group->line = element->line;
 }
 
-int chain_sum(struct chain_region region, const struct tags *tags, struct judged *groups, int64_t *sums) {
+int chain_sum(struct chain_region region, const struct tags *tags, struct group *groups, int64_t *sums) {
     struct physical_index index;
     if (!physical_index(tags, &index))
         return 0;
@@ -32,7 +34,7 @@ int chain_sum(struct chain_region region, const struct tags *tags, struct judged
 }
 
 /* Tells the first cell of a dimension where a number is beyond the limit either way. Answers 0 where there is none. */
-static int find_beyond(struct chain_region region, uint32_t dimension, const int64_t *numbers, int64_t limit, struct judged_cell *cell) {
+static int find_beyond(struct chain_region region, uint32_t dimension, const int64_t *numbers, int64_t limit, struct group_cell *cell) {
     for (size_t i = 0; i < sheet_count(region.sheet, dimension); i++)
         if (numbers[i] > limit || numbers[i] < -limit) {
             cell->dimension = dimension;
@@ -56,7 +58,7 @@ static void add_faces(struct chain_region region, size_t i, int64_t coefficient,
 }
 
 /* Whether the chain's boundary is zero; where it is not, its first cell. */
-static int is_closed(struct chain_region region, const int64_t *chain, int64_t *boundary, struct judged_cell *cell) {
+static int is_closed(struct chain_region region, const int64_t *chain, int64_t *boundary, struct group_cell *cell) {
     if (region.dimension == 0)
         return 1;
     memset(boundary, 0, sheet_count(region.sheet, region.dimension - 1) * sizeof *boundary);
@@ -66,15 +68,13 @@ static int is_closed(struct chain_region region, const int64_t *chain, int64_t *
     return !find_beyond(region, region.dimension - 1, boundary, 0, cell);
 }
 
-void chain_settle(struct chain_region region, struct judged *judged, const int64_t *sum, int64_t *boundary, int32_t *chain) {
-    if (judged->verdict == VERDICT_OUTSIDE)
+void chain_settle(struct chain_region region, struct group *group, const int64_t *sum, int64_t *boundary, int32_t *chain) {
+    if (group->verdict == VERDICT_OUTSIDE)
         return;
-    if (find_beyond(region, region.dimension, sum, CHAIN_COEFFICIENT_MOST, &judged->cell)) {
-        judged->verdict = VERDICT_LARGE;
-        return;
-    }
     for (size_t i = 0; i < region.cells; i++)
         chain[i] = (int32_t)sum[i];
-    if (!is_closed(region, sum, boundary, &judged->cell))
-        judged->verdict = VERDICT_OPEN;
+    if (find_beyond(region, region.dimension, sum, region.most, &group->cell))
+        group->verdict = VERDICT_LARGE;
+    else if (!is_closed(region, sum, boundary, &group->cell))
+        group->verdict = VERDICT_OPEN;
 }

@@ -1,4 +1,4 @@
-/* Generators as physical groups in a mesh text. */
+/* Chains as physical groups in a mesh text. */
 #include "groups.h"
 
 #include <inttypes.h>
@@ -8,14 +8,6 @@
 /* Numbers of elements have nine digits, tags are those of a C int of Gmsh's. Elementary tags start high, since low ones meet the curves of a geometry
  * where files are merged. */
 enum { MOST_NUMBER = 999999999, FIRST_ENTITY = 1000000 };
-
-size_t groups_elements(const struct homology *homology, size_t k) {
-    const int64_t *coefficients = homology_generator(homology, k);
-    size_t total = 0;
-    for (size_t i = 0; i < homology->cells; i++)
-        total += (size_t)(coefficients[i] < 0 ? -coefficients[i] : coefficients[i]);
-    return total;
-}
 
 static int refuse(FILE *err, const char *why) {
     fprintf(err, "fildwuk: no groups can be added: %s\n", why);
@@ -69,17 +61,16 @@ static int take_numbers(const struct text *text, const struct mesh *mesh, struct
     return 1;
 }
 
-int groups_plan(const struct text *text, const struct mesh *mesh, const uint8_t *sheet, const struct homology *homology, struct groups *groups,
-                FILE *err) {
+int groups_plan(const struct text *text, const struct mesh *mesh, const struct chains *chains, struct groups *groups, FILE *err) {
     struct greatest greatest = {0, FIRST_ENTITY, 0};
-    size_t total = homology_generators(homology);
-    if (!generators_fit(sheet, homology, err) || !take_numbers(text, mesh, &greatest, err))
+    size_t total = chains->total;
+    if (!chains_fit(chains, err) || !take_numbers(text, mesh, &greatest, err))
         return 0;
     if (mesh->names_odd)
         return refuse(err, "its section $PhysicalNames is not a count and that many lines of a dimension, a tag and a name in quotes");
     groups->elements = 0;
     for (size_t k = 0; k < total; k++)
-        groups->elements += groups_elements(homology, k);
+        groups->elements += chains_elements(chains, k);
     if (total > MOST_NUMBER - greatest.tag || greatest.tag + total > MOST_NUMBER - greatest.entity)
         return refuse(err, "its tags are too great for new ones of nine digits");
     if (groups->elements > MOST_NUMBER - greatest.element || groups->elements > MOST_NUMBER - mesh->element_total)
@@ -98,16 +89,14 @@ static void copy(FILE *file, const struct text *text, size_t start, size_t end) 
 /* What the lines of the groups are made of. */
 struct content {
     const struct mesh *mesh;
-    const uint8_t *sheet;
-    const struct homology *homology;
-    const struct tags *region;
+    const struct chains *chains;
     const struct groups *groups;
 };
 
 static void write_names(FILE *file, struct content content) {
-    for (size_t k = 0; k < homology_generators(content.homology); k++) {
-        fprintf(file, "%" PRIu32 " %zu \"", content.homology->dimension, content.groups->first_tag + k);
-        generator_write_name(file, content.homology, content.region, k);
+    for (size_t k = 0; k < content.chains->total; k++) {
+        fprintf(file, "%" PRIu32 " %zu \"", content.chains->dimension, content.groups->first_tag + k);
+        chains_write_name(file, content.chains, k);
         fprintf(file, "\"%s", content.mesh->line_end);
     }
 }
@@ -115,8 +104,8 @@ static void write_names(FILE *file, struct content content) {
 /* Writes the copies of one element, numbered on from `number`. Answers the next number. */
 static size_t write_copies(FILE *file, struct content content, size_t k, size_t i, size_t number) {
     uint16_t nodes[SHEET_DIMENSIONS];
-    uint32_t dimension = content.homology->dimension;
-    uint64_t copies = generator_element(content.sheet, content.homology, k, i, nodes);
+    uint32_t dimension = content.chains->dimension;
+    uint64_t copies = chains_element(content.chains, k, i, nodes);
     for (; copies > 0; copies--, number++) {
         fprintf(file, "%zu %" PRIu32 " 2 %zu %zu", number, physical_kind(dimension), content.groups->first_tag + k, content.groups->first_entity + k);
         for (uint32_t j = 0; j <= dimension; j++)
@@ -128,15 +117,15 @@ static size_t write_copies(FILE *file, struct content content, size_t k, size_t 
 
 static void write_elements(FILE *file, struct content content) {
     size_t number = content.groups->first_element;
-    for (size_t k = 0; k < homology_generators(content.homology); k++)
-        for (size_t i = 0; i < content.homology->cells; i++)
+    for (size_t k = 0; k < content.chains->total; k++)
+        for (size_t i = 0; i < content.chains->cells; i++)
             number = write_copies(file, content, k, i, number);
 }
 
 /* Writes the text up to the count of elements, with the names. */
 static void write_head(FILE *file, const struct text *text, struct content content) {
     const struct mesh *mesh = content.mesh;
-    size_t total = homology_generators(content.homology);
+    size_t total = content.chains->total;
     copy(file, text, 0, mesh->names.start);
     if (mesh->has_names && total > 0) {
         copy(file, text, mesh->names.start, mesh->names_count.start);
@@ -154,9 +143,8 @@ static void write_head(FILE *file, const struct text *text, struct content conte
     copy(file, text, mesh->names.start, mesh->element_count.start);
 }
 
-void groups_write(FILE *file, const struct text *text, const struct mesh *mesh, const uint8_t *sheet, const struct homology *homology,
-                  const struct tags *region, const struct groups *groups) {
-    struct content content = {mesh, sheet, homology, region, groups};
+void groups_write(FILE *file, const struct text *text, const struct mesh *mesh, const struct chains *chains, const struct groups *groups) {
+    struct content content = {mesh, chains, groups};
     write_head(file, text, content);
     if (groups->elements > 0)
         fprintf(file, "%zu", mesh->element_total + groups->elements);
@@ -167,18 +155,21 @@ void groups_write(FILE *file, const struct text *text, const struct mesh *mesh, 
     copy(file, text, mesh->elements_end, text->length);
 }
 
-void groups_tell(FILE *file, const char *before, const struct homology *homology, const struct tags *region, const struct groups *groups) {
-    if (homology_generators(homology) == 0)
-        fprintf(file, "%sno generator, and so no group and no view\n", before);
-    for (size_t k = 0; k < homology_generators(homology); k++) {
-        size_t elements = groups_elements(homology, k);
-        if (groups->first_tag > 0)
-            fprintf(file, "%sgroup %zu \"", before, groups->first_tag + k);
-        else
-            fprintf(file, "%sview \"", before);
-        generator_write_name(file, homology, region, k);
-        fputs("\": ", file);
-        generator_write_kind(file, homology, k);
-        fprintf(file, ", %zu %s\n", elements, physical_element_name(homology->dimension, elements));
-    }
+void groups_tell_one(FILE *file, const char *before, const struct chains *chains, const struct groups *groups, size_t k) {
+    size_t elements = chains_elements(chains, k);
+    if (groups->first_tag > 0)
+        fprintf(file, "%sgroup %zu \"", before, groups->first_tag + k);
+    else
+        fprintf(file, "%sview \"", before);
+    chains_write_name(file, chains, k);
+    fputs("\": ", file);
+    chains_write_kind(file, chains, k);
+    fprintf(file, ", %zu %s\n", elements, physical_element_name(chains->dimension, elements));
+}
+
+void groups_tell(FILE *file, const char *before, const struct chains *chains, const struct groups *groups) {
+    if (chains->total == 0)
+        fprintf(file, "%sno %s, and so no group and no view\n", before, chains_word(chains));
+    for (size_t k = 0; k < chains->total; k++)
+        groups_tell_one(file, before, chains, groups, k);
 }

@@ -75,54 +75,53 @@ static void write_cell(const uint8_t *sheet, uint32_t dimension, size_t i, FILE 
     fputc(']', file);
 }
 
-/* Writes the tag of a generator's group, where it has one, and its name, of which every byte stands for itself. */
-static void write_names(const struct homology *homology, const struct tags *region, const struct groups *groups, size_t k, FILE *file) {
+/* Writes the tag of a chain's group, where it has one, and its name, of which every byte stands for itself. */
+static void write_names(const struct chains *chains, const struct groups *groups, size_t k, FILE *file) {
     if (groups->first_tag > 0)
-        fprintf(file, ", \"tag\": %zu", groups->first_tag + k);
-    fputs(", \"name\": \"", file);
-    generator_write_name(file, homology, region, k);
-    fputc('"', file);
+        fprintf(file, "\"tag\": %zu, ", groups->first_tag + k);
+    fputs("\"name\": \"", file);
+    chains_write_name(file, chains, k);
+    fputs("\", ", file);
 }
 
-/* Writes generator k: its order, 0 where it is free, the tag and name under which it is written, and its chain as pairs of a coefficient and a cell. */
-static void write_generator(const uint8_t *sheet, const struct homology *homology, const struct tags *region, const struct groups *groups, size_t k,
-                            FILE *file) {
-    const int64_t *coefficients = homology_generator(homology, k);
+void json_chain(const struct chains *chains, const struct groups *groups, size_t k, FILE *file) {
+    const int64_t *coefficients = chains_chain(chains, k);
     const char *before = "";
-    fprintf(file, "{\"order\": %" PRId64, homology_order(homology, k));
     if (groups != NULL)
-        write_names(homology, region, groups, k, file);
-    fputs(", \"chain\": [", file);
-    for (size_t i = 0; i < homology->cells; i++) {
+        write_names(chains, groups, k, file);
+    fputs("\"chain\": [", file);
+    for (size_t i = 0; i < chains->cells; i++) {
         if (coefficients[i] == 0)
             continue;
         fprintf(file, "%s[%" PRId64 ", ", before, coefficients[i]);
-        write_cell(sheet, homology->dimension, i, file);
+        write_cell(chains->sheet, chains->dimension, i, file);
         fputc(']', file);
         before = ", ";
     }
     fputs("]}", file);
 }
 
-/* Writes the free rank, the orders, the generators and the headroom. */
-static void write_report(const uint8_t *sheet, const struct homology *homology, const struct tags *region, const struct groups *groups, FILE *file) {
+/* Writes the free rank, the orders, the generators, each with its order, 0 where it is free, and the headroom. */
+static void write_report(const struct chains *chains, const struct groups *groups, FILE *file) {
+    const struct homology *homology = chains->homology;
     fprintf(file, ", \"free\": %zu, \"orders\": [", homology->rank);
     for (size_t k = 0; k < homology->order_total; k++)
         fprintf(file, "%s%" PRId64, k == 0 ? "" : ", ", homology_order(homology, k));
     fputs("], \"generators\": [", file);
-    for (size_t k = 0; k < homology_generators(homology); k++) {
-        fputs(k == 0 ? "" : ", ", file);
-        write_generator(sheet, homology, region, groups, k, file);
+    for (size_t k = 0; k < chains->total; k++) {
+        fprintf(file, "%s{\"order\": %" PRId64 ", ", k == 0 ? "" : ", ", homology_order(homology, k));
+        json_chain(chains, groups, k, file);
     }
     fputc(']', file);
     if (homology->has_peak)
         fprintf(file, ", \"peak\": %" PRIu64 ", \"bits\": %u", homology->peak, (unsigned)homology->bits);
 }
 
-void json_dimension(const uint8_t *sheet, const struct homology *homology, const struct tags *region, const struct groups *groups, int first, FILE *file) {
+void json_dimension(const struct chains *chains, const struct groups *groups, int first, FILE *file) {
+    const struct homology *homology = chains->homology;
     fprintf(file, "%s\n{\"dimension\": %u, \"refusal\": %u", first ? "" : ",", (unsigned)homology->dimension, (unsigned)homology->answer);
     if (homology->answer == FILDWUK_DONE)
-        write_report(sheet, homology, region, groups, file);
+        write_report(chains, groups, file);
     fputc('}', file);
 }
 

@@ -4,8 +4,8 @@
 
 #include <stdio.h>
 
+#include "chains.h"
 #include "groups.h"
-#include "homology.h"
 #include "refusal.h"
 
 /* Writes text as a JSON string: bytes below 32, quotes and backslashes escaped. The text is UTF-8. */
@@ -20,9 +20,12 @@ void json_start(const uint8_t *sheet, const struct options *options, FILE *file)
 /* Writes the start of the object of a report, with the limit, the region and the counts of the sheet. */
 void json_begin(const uint8_t *sheet, const struct options *options, FILE *file);
 
-/* Writes a dimension, also one that is refused; `first` is 1 for the first of them. `groups` has the tags of its generators, where they are
- * written as groups or views, else it is null. */
-void json_dimension(const uint8_t *sheet, const struct homology *homology, const struct tags *region, const struct groups *groups, int first, FILE *file);
+/* Writes a dimension, also one that is refused, whose generators are these chains; `first` is 1 for the first of them. `groups` has the tags of its
+ * generators, where they are written as groups or views, else it is null. */
+void json_dimension(const struct chains *chains, const struct groups *groups, int first, FILE *file);
+
+/* Writes the tag and the name under which chain k is written, where `groups` is not null, and its cells, the last part of an object. */
+void json_chain(const struct chains *chains, const struct groups *groups, size_t k, FILE *file);
 
 /* Writes the end of the object. */
 void json_end(FILE *file);

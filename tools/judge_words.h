@@ -4,14 +4,13 @@
 
 #include <stdio.h>
 
-#include "input.h"
+#include "docket.h"
 #include "judgement.h"
-#include "options.h"
 
 /* Writes a line on the region, one on each group, also on those left out, one on all together with the reasons, and what helps. */
-void judge_write_words(FILE *file, const struct options *options, const struct text *text, const uint8_t *sheet, const struct judgement *judgement);
+void judge_write_words(FILE *file, const struct docket *docket, const uint8_t *sheet, const struct judgement *judgement);
 
 /* Writes one object. docs/COMMAND.md says what it holds. */
-void judge_write_json(FILE *file, const struct options *options, const struct text *text, const uint8_t *sheet, const struct judgement *judgement);
+void judge_write_json(FILE *file, const struct docket *docket, const uint8_t *sheet, const struct judgement *judgement);
 
 #endif

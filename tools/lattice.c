@@ -3,6 +3,9 @@
 #include <stdlib.h>
 #include <string.h>
 
+/* The digits of a number of 128 bits are 39 at most. */
+enum { MOST_DIGITS = 40 };
+
 /* The greatest absolute value that is held. Its negative is held too, so that every sign can change. */
 static const wide WIDEST = (((wide)1 << 126) - 1) * 2 + 1;
 
@@ -267,17 +270,15 @@ wide lattice_order(const int64_t *residues, const int64_t *orders, size_t width)
     return order;
 }
 
-const char *lattice_digits(wide number, char *room) {
-    char digits[LATTICE_DIGITS];
-    size_t count = 0, place = 0;
+void lattice_write(FILE *file, wide number) {
+    char digits[MOST_DIGITS];
+    size_t count = 0;
     wide rest = number;
     do
         digits[count++] = (char)('0' + (int)absolute(rest % 10));
     while ((rest /= 10) != 0);
     if (number < 0)
-        room[place++] = '-';
+        fputc('-', file);
     while (count > 0)
-        room[place++] = digits[--count];
-    room[place] = 0;
-    return room;
+        fputc(digits[--count], file);
 }

@@ -4,6 +4,7 @@
 
 #include <stddef.h>
 #include <stdint.h>
+#include <stdio.h>
 
 __extension__ typedef __int128 wide;
 
@@ -41,8 +42,7 @@ int lattice_multiple(const int64_t *row, const int64_t *of, size_t width, int64_
  * bits. */
 wide lattice_order(const int64_t *residues, const int64_t *orders, size_t width);
 
-/* The number in decimal digits, in room for LATTICE_DIGITS characters. Answers `room`. */
-#define LATTICE_DIGITS 48
-const char *lattice_digits(wide number, char *room);
+/* Writes the number in decimal digits. */
+void lattice_write(FILE *file, wide number);
 
 #endif

@@ -4,6 +4,7 @@
 #include <errno.h>
 #include <string.h>
 
+#include "chains.h"
 #include "escape.h"
 #include "exports.h"
 #include "fildwuk.h"
@@ -65,29 +66,30 @@ static void write_words(const struct job *job, const struct homology *homology) 
 }
 
 /* Writes a dimension in the form asked for, with the groups or views that were written of it, null where none were. */
-static void write_dimension(const struct job *job, const struct homology *homology, const struct groups *groups, int first) {
+static void write_dimension(const struct job *job, const struct chains *chains, const struct groups *groups, int first) {
     const struct console *console = job->console;
     if (job->options->form == FORM_PLAIN)
-        plain_dimension(homology, console->out);
+        plain_dimension(chains->homology, console->out);
     else if (job->options->form == FORM_JSON)
-        json_dimension(job->source->sheet.bytes, homology, &job->options->region, groups, first, console->out);
+        json_dimension(chains, groups, first, console->out);
     else
-        write_words(job, homology);
+        write_words(job, chains->homology);
     if (groups != NULL && job->options->form == FORM_WORDS)
-        groups_tell(console->out, "  ", homology, &job->options->region, groups);
+        groups_tell(console->out, "  ", chains, groups);
     if (groups != NULL && job->options->form == FORM_PLAIN)
-        groups_tell(console->err, "", homology, &job->options->region, groups);
+        groups_tell(console->err, "", chains, groups);
 }
 
 /* Reports on a dimension: writes the files that are asked for, then the dimension. Answers the status. */
 static int report_dimension(const struct job *job, const struct homology *homology, int first) {
+    struct chains chains = chains_of_report(job->source->sheet.bytes, homology, &job->options->region);
     struct groups groups;
     int status = STATUS_DONE, written = 0;
     if (homology->answer == FILDWUK_DONE && homology->dimension == exports_dimension(job->options)) {
-        status = exports_write(job->options, job->source, homology, &groups, job->console);
-        written = status == STATUS_DONE && (job->options->groups != NULL || job->options->view != NULL);
+        status = exports_write(job->options, job->source->text, &chains, &groups, job->console);
+        written = status == STATUS_DONE && exports_asked(job->options);
     }
-    write_dimension(job, homology, written ? &groups : NULL, first);
+    write_dimension(job, &chains, written ? &groups : NULL, first);
     if (homology->answer == FILDWUK_DONE)
         return status;
     struct refusal refusal = {homology->answer, job->options, job->source, 1, homology->dimension};

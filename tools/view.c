@@ -1,4 +1,4 @@
-/* Generators as views that Gmsh shows. */
+/* Chains as views that Gmsh shows. */
 #include "view.h"
 
 #include <errno.h>
@@ -89,18 +89,16 @@ static void write_cell(FILE *file, const struct text *text, struct places places
     fputs("};\n", file);
 }
 
-static void write_generator(FILE *file, const struct text *text, struct places places, const uint8_t *sheet, const struct homology *homology,
-                            size_t k) {
-    for (size_t i = 0; i < homology->cells; i++) {
+static void write_chain(FILE *file, const struct text *text, struct places places, const struct chains *chains, size_t k) {
+    for (size_t i = 0; i < chains->cells; i++) {
         uint16_t nodes[SHEET_DIMENSIONS];
-        uint64_t copies = generator_element(sheet, homology, k, i, nodes);
+        uint64_t copies = chains_element(chains, k, i, nodes);
         if (copies > 0)
-            write_cell(file, text, places, homology->dimension, nodes, copies);
+            write_cell(file, text, places, chains->dimension, nodes, copies);
     }
 }
 
-int view_write(FILE *file, const struct text *text, const struct mesh *mesh, const uint8_t *sheet, const struct homology *homology,
-               const struct tags *region, FILE *err) {
+int view_write(FILE *file, const struct text *text, const struct mesh *mesh, const struct chains *chains, FILE *err) {
     struct places places = {calloc(NODE_NUMBERS, sizeof *places.nodes)};
     if (places.nodes == NULL) {
         fprintf(err, "fildwuk: %s\n", strerror(ENOMEM));
@@ -108,12 +106,12 @@ int view_write(FILE *file, const struct text *text, const struct mesh *mesh, con
     }
     for (size_t i = 0; i < mesh->node_total; i++)
         places.nodes[mesh->nodes[i].number] = &mesh->nodes[i];
-    int fits = generators_fit(sheet, homology, err) && all_plain(text, places, sheet, err);
-    for (size_t k = 0; fits && k < homology_generators(homology); k++) {
+    int fits = chains_fit(chains, err) && all_plain(text, places, chains->sheet, err);
+    for (size_t k = 0; fits && k < chains->total; k++) {
         fputs("View \"", file);
-        generator_write_name(file, homology, region, k);
+        chains_write_name(file, chains, k);
         fputs("\" {\n", file);
-        write_generator(file, text, places, sheet, homology, k);
+        write_chain(file, text, places, chains, k);
         fputs("};\n", file);
     }
     free(places.nodes);

@@ -3,8 +3,8 @@
  * Each text is a file with one to four changes: of bytes, of numbers, of lines, of parts of other files. It is lent at its exact length, so that a
  * sanitizer sees a read beyond it. Held on each: a command answers 0, 1 or 2; import and report answer as the proved calls do, asked again here; the
  * reader of tools/mesh.c takes a text exactly where the import does not say 14, and finds a faulty element exactly where it says 15; a refusal with 14,
- * 15 or 16 says where; and no message has a control byte but line feeds. The program ends with status 3 where one of these fails, after writing the
- * text to `failed_text` in the current folder. */
+ * 15 or 16 says where; the proved calls agree with the chains that judge and surface find; and no message has a control byte but line feeds. The program
+ * ends with status 3 where one of these fails, after writing the text to `failed_text` in the current folder. */
 #include <stdlib.h>
 #include <string.h>
 
@@ -140,6 +140,9 @@ struct ran {
     size_t out_length, err_length;
 };
 
+/* Whether a message has these words. */
+static int says(const struct ran *ran, const char *words) { return memmem(ran->err, ran->err_length, words, strlen(words)) != NULL; }
+
 static struct ran run(const struct command *command, int count, char **words, const struct text *text) {
     struct ran ran = {STATUS_FAILED, NULL, NULL, 0, 0};
     struct console console = {open_memstream(&ran.out, &ran.out_length), open_memstream(&ran.err, &ran.err_length)};
@@ -156,6 +159,8 @@ static struct ran run(const struct command *command, int count, char **words, co
     statuses[ran.status]++;
     if ((ran.status != STATUS_DONE && ran.err_length == 0 && ran.out_length == 0) || !is_clean(ran.err, ran.err_length))
         fail(text, "a message is missing or has a control byte");
+    if (says(&ran, "an error in this program"))
+        fail(text, "the proved calls do not agree with what a command finds");
     return ran;
 }
 
@@ -208,9 +213,6 @@ static void hold_reader(const struct text *text, uint32_t answer) {
         fail(text, "the faults of elements differ from the import's over 15");
     mesh_free(&mesh);
 }
-
-/* Whether a message has these words. */
-static int says(const struct ran *ran, const char *words) { return memmem(ran->err, ran->err_length, words, strlen(words)) != NULL; }
 
 /* Holds the command `import` to the proved import. */
 static void hold_import(const struct text *text) {

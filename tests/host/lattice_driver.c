@@ -10,8 +10,8 @@
 #include "lattice.h"
 
 static void write_wide(wide number) {
-    char digits[LATTICE_DIGITS];
-    printf(" %s", lattice_digits(number, digits));
+    putchar(' ');
+    lattice_write(stdout, number);
 }
 
 static void *lend(size_t number, size_t size) {
