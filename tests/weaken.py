@@ -43,8 +43,9 @@ SHADOWS = {
     "ImportedSheet": [("imports", "Sheet", ["ImportedSheet"])],
 }
 # records of `demands`
-OWN = {"ListSingle": "Calls", "RightReport": "Answers", "HeadroomBits": "Headroom", "NoneFor": "Headroom", "AtEntryLimit": "Headroom", "HasCells": "Meshes"}
-WAYS = {"ReportOf": "Answers", "CoordinatesOf": "Answers"}
+OWN = {"ListSingle": "Calls", "RightReport": "Answers", "HeadroomBits": "Headroom", "NoneFor": "Headroom", "AtEntryLimit": "Headroom", "HasCells": "Meshes",
+       "SomeNonzero": "Surfaces"}
+WAYS = {"ReportOf": "Answers", "CoordinatesOf": "Answers", "SurfaceOf": "Surfaces", "SurfaceTold": "Surfaces"}
 
 # a file of `demands`, or the name of a shadow: a text, and one that says less
 LESS = [
@@ -58,6 +59,10 @@ LESS = [
     ("Answers", "((j : ℕ) → j < t + f → c j ≡ d j)", "((j : ℕ) → suc j < t + f → c j ≡ d j)"),
     ("Answers", "→ c ≡ d", "→ c .free ≡ d .free"),
     ("Answers", "j < t → NearestZero", "suc j < t → NearestZero"),
+    ("Surfaces", "i < cellCount q →\n    apply", "suc i < cellCount q →\n    apply"),
+    ("Surfaces", "place < k", "place < suc k"),
+    ("Surfaces", "((i : ℕ) → i < cellCount q → y i ≡ z i)", "((i : ℕ) → i < suc (cellCount q) → y i ≡ z i)"),
+    ("Surfaces", "(k ≡ 0) ⊎ (k ≡ 17) →", "k ≡ 0 →"),
     ("Headroom", "counts .peak ≤ entryLimit", "counts .peak ≤ suc entryLimit"),
     ("Headroom", "counts .bits ≤ 20", "counts .bits ≤ 21"),
     ("Headroom", "counts .peak < 2 ^ counts .bits", "counts .peak ≤ 2 ^ counts .bits"),
@@ -73,16 +78,23 @@ LESS = [
     ("Consequences", "j < t + f → e j ≡ c j", "suc j < t + f → e j ≡ c j"),
     ("Consequences", "k < t + f → k ≢ j", "suc k < t + f → k ≢ j"),
     ("Outcome", "(k : ℕ) → k ≢ 0 →", "(k : ℕ) → Unit {0} →"),
-    ("Outcome", "k ≢ 0 → k ≢ 13 →", "k ≢ 0 → Unit {0} →"),
+    ("Outcome", "k ≢ 0 → k ≢ 13 → k ≢ 17 →", "k ≢ 0 → Unit {0} → k ≢ 17 →"),
+    ("Outcome", "k ≢ 0 → k ≢ 13 → k ≢ 17 →", "k ≢ 0 → k ≢ 13 → Unit {0} →"),
     ("Outcome", "≡ k →\n      called ≡ record { answer = refused k; output = output; work = work }", "≡ k →\n      called ≡ record { answer = refused k; output = called .output; work = work }"),
     ("Outcome", "≡ k →\n      called ≡ record { answer = refused k; output = output; work = work }", "≡ k →\n      called ≡ record { answer = refused k; output = output; work = called .work }"),
     ("Outcome", "≡ k →\n      called ≡ record { answer = refused k; output = output; work = work }", "≡ k →\n      called ≡ record { answer = called .answer; output = output; work = work }"),
-    ("Outcome", "≡ 0 → TooWide q →", "≡ 0 → Unit {0} →"),
+    ("Outcome", "≡ 0 → TooWide q (transformsOf request) →", "≡ 0 → Unit {0} →"),
     ("Outcome", "record { answer = refused 13; output = output; work = cleared work }", "record { answer = called .answer; output = output; work = cleared work }"),
     ("Outcome", "record { answer = refused 13; output = output; work = cleared work }", "record { answer = refused 13; output = called .output; work = cleared work }"),
     ("Outcome", "record { answer = refused 13; output = output; work = cleared work }", "record { answer = refused 13; output = output; work = called .work }"),
-    ("Outcome", "(TooWide q → ⊥) →", "Unit {0} →"),
-    ("Outcome", "Ends q s r x →", "Unit {0} →"),
+    ("Outcome", "(TooWide q (transformsOf request) → ⊥) → (Bounds q request → ⊥) →", "Unit {0} → (Bounds q request → ⊥) →"),
+    ("Outcome", "(TooWide q (transformsOf request) → ⊥) → (Bounds q request → ⊥) →", "(TooWide q (transformsOf request) → ⊥) → Unit {0} →"),
+    ("Outcome", "record { answer = refused 17; output = output; work = cleared work }", "record { answer = called .answer; output = output; work = cleared work }"),
+    ("Outcome", "record { answer = refused 17; output = output; work = cleared work }", "record { answer = refused 17; output = called .output; work = cleared work }"),
+    ("Outcome", "record { answer = refused 17; output = output; work = cleared work }", "record { answer = refused 17; output = output; work = called .work }"),
+    ("Outcome", "(TooWide q (transformsOf request) → ⊥) → Bounds q request →", "Unit {0} → Bounds q request →"),
+    ("Outcome", "(TooWide q (transformsOf request) → ⊥) → Bounds q request →", "(TooWide q (transformsOf request) → ⊥) → Unit {0} →"),
+    ("Outcome", "Ends q (transformsOf request) s r x →", "Unit {0} →"),
     ("Outcome", "answer = done (countsOf s r x);", "answer = called .answer;"),
     ("Outcome", "output = splices (listSlots q request) (numbersOf q request s r x) (listCount request) output;", "output = called .output;"),
     ("Outcome", "        work = cleared work;", "        work = called .work;"),
@@ -93,7 +105,7 @@ LESS = [
     ("Carries", "k < 8 * listSlots q request\n", "suc k < 8 * listSlots q request\n"),
     ("Carries", "(8 * listSlots q request) ≤ k", "(8 * listSlots q request) < k"),
     ("DimensionsPrinted", "p ≤ top", "p < top"),
-    ("DimensionPrinted", "TooWide (asked b p) → text ≡ refusalLine 13", "TooWide (asked b p) → Unit {0}"),
+    ("DimensionPrinted", "TooWide (asked b p) noTransforms → text ≡ refusalLine 13", "TooWide (asked b p) noTransforms → Unit {0}"),
     ("DimensionPrinted", "text ≡ reportText p (cellCount (asked b p)) (counts .torsion) (counts .torsion + counts .free) (call hostLimit (asked b p) report output work .output)", "Unit {0}"),
 ]
 
@@ -108,13 +120,17 @@ CONTRACTS = {
         (HOST + "proofs/HostAnswering.antt", "is = host-early q request output (λ z. absurd (omega (arith, number-positive x))) ∙ ap (λ (k : ℕ). record { number = k; output = output }) e;",
          "is = " + NUMBER + "host-early q request output (λ z. absurd (omega (arith, number-positive x))) ∙ ap (λ (k : ℕ). record { number = k; output = output }) e);"),
         (HOST + "proofs/HostAnswering.antt", "is = host-wide q request output passes e }", "is = " + NUMBER + "host-wide q request output passes e) }"),
-        (HOST + "proofs/HostAnswering.antt", "is = host-done q request output passes s r x e ∙ ap (λ (l : List ℕ). record { number = 0; output = l }) (sym o) }",
-         "is = " + NUMBER + "host-done q request output passes s r x e ∙ ap (λ (l : List ℕ). record { number = 0; output = l }) (sym o)) }"),
+        (HOST + "proofs/HostAnswering.antt", "is = host-done q request output passes s r x e ends ∙ ap (λ (l : List ℕ). record { number = 0; output = l }) (sym o) }",
+         "is = " + NUMBER + "host-done q request output passes s r x e ends ∙ ap (λ (l : List ℕ). record { number = 0; output = l }) (sym o)) }"),
         (HOST + "proofs/Through.antt", "use Rattle.host_calls.specs.Host.{", "use Rattle.host_calls.specs.Host.{HostCalled, "),
-        (HOST + "proofs/Through.antt", "        report-refused (l", "        " + NUMBER + "report-refused (l"),
+        (HOST + "proofs/Through.antt", "        refused-same (l", "        " + NUMBER + "refused-same (l"),
         (HOST + "proofs/Through.antt", "output = l .output }) (sym is);", "output = l .output }) (sym is));"),
-        (HOST + "proofs/Through.antt", "            report-done (l", "            " + NUMBER + "report-done (l"),
+        (HOST + "proofs/Through.antt", "            done-same (l", "            " + NUMBER + "done-same (l"),
         (HOST + "proofs/Through.antt", "output = o }) (sym e′);", "output = o }) (sym e′));"),
+        (HOST + "proofs/SurfaceThrough.antt", "        host-is (refused-same (l", "        " + NUMBER + "host-is (refused-same (l"),
+        (HOST + "proofs/SurfaceThrough.antt", "output = l .output }) (sym is);", "output = l .output }) (sym is));"),
+        (HOST + "proofs/SurfaceThrough.antt", "          host-is (done-same (l", "          " + NUMBER + "host-is (done-same (l"),
+        (HOST + "proofs/SurfaceThrough.antt", "output = o }) (sym e′);", "output = o }) (sym e′));"),
     ],
     "LibraryAnswers without the work slice": [
         (LIBRARY + "specs/LibraryAnswers.antt", "told : Called Counts ℤ → ℕ × List ℤ × List ℤ", "told : Called Counts ℤ → ℕ × List ℤ"),
