@@ -1,5 +1,6 @@
 /* What a magnetic solver does with Fildwuk: it imports a mesh in MSH 2.2 ASCII or takes a sheet as it is, gives each free loop of dimension 1 an unknown
- * current and none to a twisted one, and asks for the coordinates of all its loops in one call. Usage: solver FILE.msh, or solver FILE.sheet */
+ * current and none to a twisted one, of which it asks what surface the loop bounds when run as often as its order says, and asks for the coordinates of
+ * all its loops in one call. Usage: solver FILE.msh, or solver FILE.sheet */
 #include <inttypes.h>
 #include <stdio.h>
 #include <string.h>
@@ -16,6 +17,7 @@ static uint8_t report[FILDWUK_REPORT_BYTES(FILDWUK_CELLS)];
 /* A report has at most as many loops as the dimension has cells. */
 static uint8_t chains[FILDWUK_CHAINS_BYTES(FILDWUK_CELLS, FILDWUK_CELLS)];
 static uint8_t lists[FILDWUK_COORDINATE_LISTS_BYTES(FILDWUK_CELLS, FILDWUK_CELLS)];
+static uint8_t surface[FILDWUK_SURFACE_BYTES(FILDWUK_CELLS)];
 
 static int refused(const char *call, uint32_t answer) {
     printf("%s refused with %" PRIu32 ": %s\n", call, answer, fildwuk_answer_text(answer));
@@ -67,6 +69,30 @@ static int read_file(const char *name, size_t *given) {
     return !failed && *given < sizeof text;
 }
 
+/* A coefficient, and what is beyond the limit of a surface call as the next number beyond it: the call then tells 11. */
+static int32_t narrowed(int64_t x) {
+    int32_t most = FILDWUK_SURFACE_COEFFICIENT_MOST + 1;
+    return x > most ? most : x < -most ? -most : (int32_t)x;
+}
+
+/* Says which triangles are in the surface that loop j, of n coefficients and order d, bounds when run d times: their places in the sheet, each with its
+ * coefficient. A loop of an order above 15 is refused with 11. */
+static void print_surface(size_t length, size_t t, size_t j, size_t n) {
+    int64_t d = fildwuk_get_number(report, 2 + j);
+    for (size_t i = 0; i < n; i++)
+        fildwuk_put_coefficient(chains, i, narrowed(d * fildwuk_get_number(report, 2 + t + j * n + i)));
+    uint32_t answer = fildwuk_surface(sheet, length, 1, chains, FILDWUK_CHAIN_BYTES(n), surface, sizeof surface);
+    if (answer != FILDWUK_DONE) {
+        refused("  surface", answer);
+        return;
+    }
+    printf("  then it bounds the triangles");
+    for (size_t i = 0; i < fildwuk_cell_count(sheet, 2); i++)
+        if (fildwuk_get_number(surface, i) != 0)
+            printf(" %+" PRId64 " (%zu)", fildwuk_get_number(surface, i), i);
+    printf("\n");
+}
+
 /* Says what each loop of the sheet is for the solver, and the coordinates of all. */
 static int solve(size_t length) {
     uint32_t answer = fildwuk_report(sheet, length, 1, report, sizeof report);
@@ -74,8 +100,10 @@ static int solve(size_t length) {
         return refused("report", answer);
     size_t edges = fildwuk_cell_count(sheet, 1);
     size_t b = (size_t)fildwuk_get_number(report, 0), t = (size_t)fildwuk_get_number(report, 1);
-    for (size_t j = 0; j < t; j++)
+    for (size_t j = 0; j < t; j++) {
         printf("loop %zu closes off when run %" PRId64 " times: no unknown\n", j, fildwuk_get_number(report, 2 + j));
+        print_surface(length, t, j, edges);
+    }
     for (size_t j = t; j < t + b; j++)
         printf("loop %zu is free: unknown current I%zu\n", j, j - t);
     take_loops(t, t + b, edges);

@@ -18,6 +18,7 @@ CLAIMS = [
     ("the answers are right", "Answers"),
     ("which number is told, what is left and what is written", "Calls"),
     ("the headroom", "Headroom"),
+    ("the surfaces", "Surfaces"),
     ("the host calls", "Host"),
     ("the mesh text and its import", "Meshes"),
     ("the program", "Program"),
@@ -31,10 +32,11 @@ PUBLIC = [
     ("sheet/src/reader.rt", ["read"]),
     ("calls/src/report.rt", ["report"]),
     ("calls/src/coordinates.rt", ["coordinate_lists", "coordinates"]),
+    ("calls/src/surface.rt", ["surface"]),
     ("importer/src/import.rt", ["import"]),
-    ("fildwuk/src/lib.rt", ["fildwuk_report", "fildwuk_coordinate_lists", "fildwuk_coordinates", "fildwuk_import"]),
+    ("fildwuk/src/lib.rt", ["fildwuk_report", "fildwuk_coordinate_lists", "fildwuk_coordinates", "fildwuk_surface", "fildwuk_import"]),
     ("library_host/src/lib.rt", ["fildwuk_library_report", "fildwuk_library_headroom", "fildwuk_library_coordinates",
-                                 "fildwuk_library_coordinate_lists", "fildwuk_library_import"]),
+                                 "fildwuk_library_coordinate_lists", "fildwuk_library_surface", "fildwuk_library_import"]),
     ("printer/src/lib.rt", ["print_input"]),
 ]
 TOKEN = re.compile(r"[^\s(){}\[\];,λ⟦⟧⌜⌝]+")
