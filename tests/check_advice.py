@@ -54,13 +54,6 @@ def renumbered(rng, facets):
     return [tuple(numbers[v] for v in facet) for facet in facets]
 
 
-def closed_tower(floors):
-    """The doubling tower with a triangle at both ends: one cavity, in which the last triangle is taken 2 ** floors times."""
-    facets = meshes.tower(floors)
-    last = meshes.vertex_count(facets) - 1
-    return facets + [(last - 2, last - 1, last)]
-
-
 def too_wide(calls, rng):
     """13 in one sheet: apart, in another dimension and under other numberings, done; an order beyond the limit, never."""
     tower, moore = meshes.tower(10), meshes.moore_space(5)
@@ -82,7 +75,7 @@ def large_coefficients(calls):
     """A cavity with a coefficient of 32,768, whose coordinates are refused, and one with half of it, which has 1 at its own place."""
     facts = {}
     for floors, due in ((14, 0), (15, COEFFICIENT_EXCEEDS)):
-        tower = closed_tower(floors)
+        tower = meshes.closed_tower(floors)
         answer, b, orders, (cavity,) = calls.report(tower, 2)
         number, slots = calls.coordinates(tower, 2, cavity)
         facts[f"cavity of {floors} floors"] = (answer, b, orders, max(map(abs, cavity))) == (0, 1, [], 2 ** floors)

@@ -1,0 +1,94 @@
+"""Chains for the surface call of Note 6 in 02: cycles that bound, cycles that bound nothing, and faulty ones."""
+
+from model import homology
+from model.list_cases import plus, size, times
+from model.matrices import boundary
+from model.sheet import Refused, parse
+from model.surface import COEFFICIENT_LIMIT
+
+# Coefficients just beyond the limit, at the limit of the coordinates and beyond it, and the least and the largest of 32 bits.
+BEYOND = [COEFFICIENT_LIMIT + 1, -COEFFICIENT_LIMIT - 1, homology.COEFFICIENT_LIMIT, -homology.COEFFICIENT_LIMIT,
+          homology.COEFFICIENT_LIMIT + 1, 2 ** 31 - 1, -2 ** 31]
+
+# The most boundaries that a cycle is made of.
+TERMS = 12
+
+# Why a cycle bounds nothing.
+FREE, TWISTED = "free", "twisted"
+
+
+def causes(found, numbers):
+    """Why a cycle with these coordinates bounds nothing, by the report of its dimension; none where it bounds."""
+    split = len(found.orders)
+    return {cause for cause, part in ((TWISTED, numbers[:split]), (FREE, numbers[split:])) if any(part)}
+
+
+class Cycles:
+    """Makes chains of one dimension of an accepted sheet, with coefficients within the limit."""
+
+    def __init__(self, rng, data, p, count_limit):
+        sheet = parse(data, count_limit)
+        self.rng, self.p, self.n = rng, p, sheet.count(p)
+        self.boundaries = list(zip(*boundary(sheet, p + 1)))
+        try:
+            found = homology.report(data, p, count_limit)
+            split = len(found.orders)
+            self.orders, self.twisted, self.free = found.orders, found.generators[:split], found.generators[split:]
+        except Refused:
+            self.orders, self.twisted, self.free = [], [], []
+
+    def within(self, chain):
+        """The chain, or zeros where a coefficient is beyond the limit."""
+        return chain if size(chain) <= COEFFICIENT_LIMIT else [0] * self.n
+
+    def bounding(self):
+        """A few boundaries of cells, at times as large as the limit allows."""
+        chain = [0] * self.n
+        for cell in self.rng.sample(self.boundaries, self.rng.randint(0, min(TERMS, len(self.boundaries)))):
+            chain = plus(chain, times(self.rng.choice([-2, -1, 1, 1]), cell))
+        chain = self.within(chain)
+        return self.largest(chain) if self.rng.randrange(4) == 0 else chain
+
+    def largest(self, chain):
+        """The largest multiple of a chain within the limit, one way or the other."""
+        return times(self.rng.choice([-1, 1]) * (COEFFICIENT_LIMIT // size(chain)), chain) if size(chain) else chain
+
+    def multiples(self):
+        """Each generator once, as often as the limit allows, and as often as its order, each also with boundaries."""
+        orders = [*self.orders, *([1] * len(self.free))]
+        for order, generator in zip(orders, [*self.twisted, *self.free]):
+            for factor in {1, -1, order, -order, COEFFICIENT_LIMIT // max(1, size(generator))}:
+                chain = self.within(times(factor, generator))
+                yield chain
+                yield self.within(plus(chain, self.bounding()))
+
+    def mixed(self):
+        """A few generators of every kind together."""
+        chain = self.bounding()
+        for generator in [*self.twisted, *self.free]:
+            chain = plus(chain, times(self.rng.randint(-2, 2), generator))
+        return self.within(chain)
+
+    def cycles(self, most):
+        """Zeros, boundaries and cycles of every kind, no two alike, so many at most."""
+        multiples = list(self.multiples())
+        made = [[0] * self.n, self.bounding(), self.mixed(), *self.rng.sample(multiples, len(multiples)), self.mixed(), self.bounding()]
+        return [chain for i, chain in enumerate(made) if chain not in made[:i]][:most]
+
+    def wide_cycle(self):
+        """A cycle with a coefficient just beyond the limit or, where there is none, one far beyond; None where zeros are the only cycle known."""
+        known = [chain for chain in [*self.boundaries, *self.twisted, *self.free] if any(chain)]
+        if not known:
+            return None
+        chain = self.rng.choice(known)
+        return times(self.rng.choice([-1, 1]) * (COEFFICIENT_LIMIT // size(chain) + 1), chain)
+
+    def faulty(self):
+        """Chains with refusals 11 and 12, and with both faults, where the dimension has them."""
+        if self.n == 0:
+            return []
+        beyond, opened = self.bounding(), self.bounding()
+        beyond[self.rng.randrange(self.n)] = self.rng.choice(BEYOND)
+        at = self.rng.randrange(self.n)
+        opened[at] += 1 if opened[at] < 0 else -1
+        return [beyond, opened, *filter(None, [self.wide_cycle()])]
