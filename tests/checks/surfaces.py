@@ -13,9 +13,10 @@ from model import calls, headroom, homology, meshes, sheet_cases, surface_cases
 from model.homology import Classes, coordinates, report
 from model.list_cases import times
 from model.matrices import apply, boundary, identity
-from model.reduction import reduce
+from model.reduction import TooWide, reduce
 from model.sheet import PROGRAM_COUNT_LIMIT, closure, from_facets, parse, refusal
 from model.surface import bounded_surface, surface, surface_slots, work_slots
+from model.wide_surfaces import CASES
 
 LOOP = [1, -1, 1]
 SOLID = from_facets([(0, 1, 2, 3)])
@@ -143,6 +144,19 @@ class TrackedColumns(unittest.TestCase):
                     before += due == 17
         self.assertGreater(alone, 5)
         self.assertGreater(before, 20)
+
+    def test_tracked_columns_alone_go_too_wide(self):
+        for p, facets in CASES.values():
+            data = from_facets(facets)
+            # The tower of 20 floors takes as long as all others; tests/compare_surfaces.py has it.
+            if parse(data, 256).count(p) > 200:
+                continue
+            cycles = surface_cases.Cycles(random.Random(21), data, p, 256).cycles(8)
+            self.assertTrue(any(any(coordinates(data, p, chain)) for chain in cycles))
+            self.assertEqual({answer(surface, data, p, chain) for chain in cycles}, {13})
+            with self.assertRaises(TooWide) as wide:
+                homology.classes(parse(data, 256), p, tracked=True)
+            self.assertEqual(wide.exception.where, "column follower")
 
     def test_tracked_columns_change_nothing_else(self):
         for data in random_sheets(20, 20):
