@@ -2,7 +2,8 @@
 
 from model import homology
 from model.list_cases import plus, size, times
-from model.matrices import boundary
+from model.matrices import boundary, transpose
+from model.reduction import ENTRY_LIMIT
 from model.sheet import Refused, parse
 from model.surface import COEFFICIENT_LIMIT
 
@@ -30,12 +31,15 @@ class Cycles:
         sheet = parse(data, count_limit)
         self.rng, self.p, self.n = rng, p, sheet.count(p)
         self.boundaries = list(zip(*boundary(sheet, p + 1)))
+        self.orders, self.generators, self.basis = [], [], []
         try:
             found = homology.report(data, p, count_limit)
-            split = len(found.orders)
-            self.orders, self.twisted, self.free = found.orders, found.generators[:split], found.generators[split:]
+            first = homology.reduced(sheet, p, ENTRY_LIMIT).first
         except Refused:
-            self.orders, self.twisted, self.free = [], [], []
+            return
+        self.orders, self.generators = found.orders + [1] * found.rank, found.generators
+        # The columns of V from the rank on; every cycle is a whole combination of them.
+        self.basis = transpose(first.column, self.n)[first.rank:]
 
     def within(self, chain):
         """The chain, or zeros where a coefficient is beyond the limit."""
@@ -55,8 +59,7 @@ class Cycles:
 
     def multiples(self):
         """Each generator once, as often as the limit allows, and as often as its order, each also with boundaries."""
-        orders = [*self.orders, *([1] * len(self.free))]
-        for order, generator in zip(orders, [*self.twisted, *self.free]):
+        for order, generator in zip(self.orders, self.generators):
             for factor in {1, -1, order, -order, COEFFICIENT_LIMIT // max(1, size(generator))}:
                 chain = self.within(times(factor, generator))
                 yield chain
@@ -65,19 +68,24 @@ class Cycles:
     def mixed(self):
         """A few generators of every kind together."""
         chain = self.bounding()
-        for generator in [*self.twisted, *self.free]:
+        for generator in self.generators:
             chain = plus(chain, times(self.rng.randint(-2, 2), generator))
         return self.within(chain)
 
+    def simple(self):
+        """A cycle of the basis, at times as large as the limit allows; zeros where there is none."""
+        chain = self.within(self.rng.choice(self.basis or [[0] * self.n]))
+        return self.largest(chain) if self.rng.randrange(4) == 0 else chain
+
     def cycles(self, most):
         """Zeros, boundaries and cycles of every kind, no two alike, so many at most."""
-        multiples = list(self.multiples())
-        made = [[0] * self.n, self.bounding(), self.mixed(), *self.rng.sample(multiples, len(multiples)), self.mixed(), self.bounding()]
+        multiples, simple = list(self.multiples()), [self.simple() for _ in range(4)]
+        made = [[0] * self.n, self.bounding(), self.mixed(), *simple, *self.rng.sample(multiples, len(multiples)), self.mixed(), self.bounding()]
         return [chain for i, chain in enumerate(made) if chain not in made[:i]][:most]
 
     def wide_cycle(self):
         """A cycle with a coefficient just beyond the limit or, where there is none, one far beyond; None where zeros are the only cycle known."""
-        known = [chain for chain in [*self.boundaries, *self.twisted, *self.free] if any(chain)]
+        known = [chain for chain in [*self.boundaries, *self.generators] if any(chain)]
         if not known:
             return None
         chain = self.rng.choice(known)
