@@ -12,7 +12,7 @@ from collections import Counter
 from dataclasses import dataclass
 
 from compare_pari import GP_PRELUDE, TOP, boundary_of, cells_of, columns_matrix, run_gp
-from model import meshes, random_meshes, surface_cases
+from model import meshes, random_meshes, surface_chains
 from model.calls import BOUNDS_NOTHING, DONE
 from model.sheet import LIBRARY_COUNT_LIMIT, PROGRAM_COUNT_LIMIT, Refused, from_facets
 from model.surface import surface
@@ -81,7 +81,7 @@ def compare(named, rng):
     for name, facets in named.items():
         cells, data = cells_of(facets), from_facets(facets)
         for p in range(TOP + 1):
-            chains = surface_cases.Cycles(rng, data, p, LIBRARY_COUNT_LIMIT).cycles(CYCLES) if cells[p] else []
+            chains = surface_chains.Cycles(rng, data, p, LIBRARY_COUNT_LIMIT).cycles(CYCLES) if cells[p] else []
             if chains:
                 asked.append((f"{name}, dimension {p}", p, cells, [answered(data, p, chain) for chain in chains]))
     told = run_gp([question(cells, p, made) for _, p, cells, made in asked], PRELUDE)
@@ -105,7 +105,7 @@ def missing(seen):
 def main():
     """Exits with 1 where the model and PARI differ, or where a kind of cycle was not met."""
     parser = argparse.ArgumentParser(description=__doc__, formatter_class=argparse.RawDescriptionHelpFormatter)
-    parser.add_argument("--count", type=int, default=80, help="random complexes (80)")
+    parser.add_argument("--count", type=int, default=60, help="random complexes (60)")
     parser.add_argument("--seed", type=int, default=1, help="seed of what is random (1)")
     options = parser.parse_args()
     named = sheets_to_compare(options)

@@ -9,7 +9,7 @@ from model import meshes, sheet_cases
 from model.homology import classes, coordinates, report, report_slots, work_slots
 from model.matrices import apply, boundary, identity, is_cycle
 from model.reduction import ENTRY_LIMIT, TooWide
-from model.sheet import closure, from_facets, parse
+from model.sheet import from_facets, parse
 
 
 class Reports(unittest.TestCase):
@@ -111,22 +111,19 @@ class RefusalOrder(unittest.TestCase):
 
     call = staticmethod(coordinates)
     numbers = range(1, 14)
-    facets = sheet_cases.BASE_FACETS
-    beyond = -32768
 
     def setting(self, numbers):
-        sections = closure(self.facets)
-        edges = len(sections[1])
-        draft = sheet_cases.Draft(sections)
+        draft = sheet_cases.Draft()
         faults = {number: edit for number, edit in sheet_cases.faults(256).values()}
         for number in sorted(numbers, reverse=True):
             if number <= 7:
                 faults[number](draft)
+        edges = len(sheet_cases.Draft().sections[1])
         chain = [0] * edges
         if 12 in numbers:
             chain[0] = 1
         if 11 in numbers:
-            chain[1] = self.beyond
+            chain[1] = -32768
         if 10 in numbers:
             chain.append(0)
         return {"data": draft.bytes(), "p": 4 if 8 in numbers else 1, "chain": chain,

@@ -9,16 +9,16 @@ from itertools import combinations
 from checks.bounding import BoundingChains
 from checks.common import EDGE, FILLED, HOLLOW, answer, random_sheets
 from checks.homology import RefusalOrder
-from model import calls, headroom, homology, meshes, sheet_cases, surface_cases
+from model import calls, headroom, homology, meshes, sheet_cases, surface_chains
 from model.homology import Classes, coordinates, report
 from model.list_cases import times
 from model.matrices import apply, boundary, identity
-from model.reduction import TooWide, reduce
-from model.sheet import PROGRAM_COUNT_LIMIT, closure, from_facets, parse, refusal
+from model.reduction import ENTRY_LIMIT, TooWide, reduce
+from model.sheet import PROGRAM_COUNT_LIMIT, from_facets, parse, refusal
 from model.surface import bounded_surface, surface, surface_slots, work_slots
+from model.surface_cases import LOOP, with_faults
 from model.wide_surfaces import CASES
 
-LOOP = [1, -1, 1]
 SOLID = from_facets([(0, 1, 2, 3)])
 PLANE = from_facets(meshes.projective_plane())
 
@@ -108,13 +108,13 @@ class Surfaces(unittest.TestCase):
             sheet = parse(data, 256)
             for p in range(4):
                 bounding = BoundingChains(sheet, p)
-                for chain in surface_cases.Cycles(rng, data, p, 256).cycles(8):
+                for chain in surface_chains.Cycles(rng, data, p, 256).cycles(8):
                     numbers = coordinates(data, p, chain)
                     self.assertEqual(answer(surface, data, p, chain), 0 if bounding.holds(chain) else 17)
                     self.assertEqual(any(numbers), not bounding.holds(chain))
                     if not any(numbers):
                         self.check_boundary(sheet, p, surface(data, p, chain), chain)
-                    seen[(p, *sorted(surface_cases.causes(report(data, p), numbers)))] += any(chain)
+                    seen[(p, *sorted(surface_chains.causes(report(data, p), numbers)))] += any(chain)
         due = [*((p, "free") for p in range(4)), (1, "twisted"), (2, "twisted"), (1, "free", "twisted")]
         self.assertTrue(all(seen[kind] for kind in due), seen)
         self.assertGreater(seen[0,] + seen[1,] + seen[2,], 300)
@@ -135,7 +135,7 @@ class TrackedColumns(unittest.TestCase):
                 found = homology.classes(parse(data, 256), p, tracked=True)
                 peak, tracked = headroom.peak(found.first, found.second), largest_tracked(found)
                 most = max(peak, tracked)
-                for chain in surface_cases.Cycles(rng, data, p, 256).cycles(8 if most > 1 else 0):
+                for chain in surface_chains.Cycles(rng, data, p, 256).cycles(8 if most > 1 else 0):
                     due = 17 if any(coordinates(data, p, chain)) else 0
                     self.assertEqual(answer(surface, data, p, chain, limit=most), due)
                     self.assertEqual(answer(surface, data, p, chain, limit=most - 1), 13)
@@ -148,10 +148,10 @@ class TrackedColumns(unittest.TestCase):
     def test_tracked_columns_alone_go_too_wide(self):
         for p, facets in CASES.values():
             data = from_facets(facets)
-            # The tower of 20 floors takes as long as all others; tests/compare_surfaces.py has it.
-            if parse(data, 256).count(p) > 200:
+            # The larger ones take longer than all other checks here; tests/compare_surfaces.py has them too.
+            if parse(data, 256).count(p) > 150:
                 continue
-            cycles = surface_cases.Cycles(random.Random(21), data, p, 256).cycles(8)
+            cycles = surface_chains.Cycles(random.Random(21), data, p, 256).cycles(8)
             self.assertTrue(any(any(coordinates(data, p, chain)) for chain in cycles))
             self.assertEqual({answer(surface, data, p, chain) for chain in cycles}, {13})
             with self.assertRaises(TooWide) as wide:
@@ -199,21 +199,15 @@ class SurfaceSlices(unittest.TestCase):
 
 
 class SurfaceRefusalOrder(RefusalOrder):
-    """The same faults with the coefficient limit of the surface call, and 17: the last three edges are a loop that bounds nothing."""
+    """The faults of the coordinate call with the coefficient limit of the surface call, and 17."""
 
     call = staticmethod(surface)
     numbers = (*range(1, 14), 17)
-    facets = [*sheet_cases.BASE_FACETS, *combinations((11, 12, 13), 2)]
-    beyond = -16
 
     def setting(self, numbers):
-        choices = super().setting(numbers)
-        del choices["coordinate_length"]
-        cells = closure(self.facets)
-        edges, triangles = len(cells[1]), len(cells[2])
-        if 17 in numbers:
-            choices["chain"][edges - 3:edges] = LOOP
-        return {**choices, "surface_length": triangles - 1 if 9 in numbers else triangles}
+        case = with_faults(sorted(numbers - {13}), 256)
+        return {"data": case.data, "p": case.p, "chain": case.chain, "limit": 0 if 13 in numbers else ENTRY_LIMIT,
+                "surface_length": case.slots, "work_length": case.work}
 
     def test_all_faults_after_8_together(self):
         later = [number for number in self.numbers if number > 8]
@@ -221,9 +215,8 @@ class SurfaceRefusalOrder(RefusalOrder):
             for numbers in combinations(later, many):
                 self.assertEqual(answer(self.call, **self.setting(set(numbers))), min(numbers), numbers)
 
-    def test_the_work_slice_is_tested_with_the_surface_slice(self):
-        sound = self.setting(set())
-        work = work_slots(parse(sound["data"], 256), 1)
-        self.assertEqual(answer(surface, **sound, work_length=work), 0)
+    def test_each_slice_alone_is_told_before_what_is_later(self):
         for later in ((), (10,), (11,), (12,), (13,), (17,)):
-            self.assertEqual(answer(surface, **self.setting(set(later)), work_length=work - 1), 9)
+            choices = self.setting(set(later))
+            for short in ("surface_length", "work_length"):
+                self.assertEqual(answer(surface, **{**choices, short: choices[short] - 1}), 9)

@@ -1,102 +1,95 @@
-"""Chains for the surface call of Note 6 in 02: cycles that bound, cycles that bound nothing, and faulty ones."""
+"""Calls for Note 6 in 02: chains and slices of every kind on accepted sheets, refused sheets, and every two faults together."""
 
-from model import homology
-from model.list_cases import plus, size, times
-from model.matrices import boundary, transpose
-from model.reduction import ENTRY_LIMIT
-from model.sheet import Refused, parse
-from model.surface import COEFFICIENT_LIMIT
+from dataclasses import dataclass
+from itertools import combinations
 
-# Coefficients just beyond the limit, at the limit of the coordinates and beyond it, and the least and the largest of 32 bits.
-BEYOND = [COEFFICIENT_LIMIT + 1, -COEFFICIENT_LIMIT - 1, homology.COEFFICIENT_LIMIT, -homology.COEFFICIENT_LIMIT,
-          homology.COEFFICIENT_LIMIT + 1, 2 ** 31 - 1, -2 ** 31]
+from model import meshes, sheet_cases
+from model.list_cases import times
+from model.sheet import DIMENSIONS, PROGRAM_COUNT_LIMIT, Sheet, closure, from_facets, parse
+from model.surface import COEFFICIENT_LIMIT, surface_slots, work_slots
+from model.surface_chains import Cycles
 
-# The most boundaries that a cycle is made of.
-TERMS = 12
+LOOP = [1, -1, 1]
 
-# Why a cycle bounds nothing.
-FREE, TWISTED = "free", "twisted"
+# Slots more, or fewer, than check 9 wants, for the surface and the work slice.
+EXACT = (0, 0)
+CHANGES = [(2, 0), (0, 9), (3, 5), (-1, 0), (0, -1), (-1, -1)]
 
-
-def causes(found, numbers):
-    """Why a cycle with these coordinates bounds nothing, by the report of its dimension; none where it bounds."""
-    split = len(found.orders)
-    return {cause for cause, part in ((TWISTED, numbers[:split]), (FREE, numbers[split:])) if any(part)}
+# A sheet where every fault can be alone; its last three edges are a loop that bounds nothing.
+FACETS = [*sheet_cases.BASE_FACETS, *combinations((11, 12, 13), 2)]
+FAULTS = (*range(1, 13), 17)
 
 
-class Cycles:
-    """Makes chains of one dimension of an accepted sheet, with coefficients within the limit."""
+@dataclass(frozen=True)
+class Case:
+    """A call: a sheet, a dimension, a chain, and the slots lent for the surface and for the work; a host call is not lent the latter."""
 
-    def __init__(self, rng, data, p, count_limit):
-        sheet = parse(data, count_limit)
-        self.rng, self.p, self.n = rng, p, sheet.count(p)
-        self.boundaries = list(zip(*boundary(sheet, p + 1)))
-        self.orders, self.generators, self.basis = [], [], []
-        try:
-            found = homology.report(data, p, count_limit)
-            first = homology.reduced(sheet, p, ENTRY_LIMIT).first
-        except Refused:
-            return
-        self.orders, self.generators = found.orders + [1] * found.rank, found.generators
-        # The columns of V from the rank on; every cycle is a whole combination of them.
-        self.basis = transpose(first.column, self.n)[first.rank:]
+    name: str
+    data: bytes
+    p: int
+    chain: list
+    slots: int
+    work: int
 
-    def within(self, chain):
-        """The chain, or zeros where a coefficient is beyond the limit."""
-        return chain if size(chain) <= COEFFICIENT_LIMIT else [0] * self.n
 
-    def bounding(self):
-        """A few boundaries of cells, at times as large as the limit allows."""
-        chain = [0] * self.n
-        for cell in self.rng.sample(self.boundaries, self.rng.randint(0, min(TERMS, len(self.boundaries)))):
-            chain = plus(chain, times(self.rng.choice([-2, -1, 1, 1]), cell))
-        chain = self.within(chain)
-        return self.largest(chain) if self.rng.randrange(4) == 0 else chain
+def lent(sheet, p, change):
+    """The slots that check 9 wants, changed by so many."""
+    return max(0, surface_slots(sheet, p) + change[0]), max(0, work_slots(sheet, p) + change[1])
 
-    def largest(self, chain):
-        """The largest multiple of a chain within the limit, one way or the other."""
-        return times(self.rng.choice([-1, 1]) * (COEFFICIENT_LIMIT // size(chain)), chain) if size(chain) else chain
 
-    def multiples(self):
-        """Each generator once, as often as the limit allows, and as often as its order, each also with boundaries."""
-        for order, generator in zip(self.orders, self.generators):
-            for factor in {1, -1, order, -order, COEFFICIENT_LIMIT // max(1, size(generator))}:
-                chain = self.within(times(factor, generator))
-                yield chain
-                yield self.within(plus(chain, self.bounding()))
+def other_lengths(chain):
+    """The chain with a coefficient more or fewer, with none, and twice."""
+    return [other for other in (chain[:-1], [*chain, 0], [], chain + chain) if len(other) != len(chain)]
 
-    def mixed(self):
-        """A few generators of every kind together."""
-        chain = self.bounding()
-        for generator in self.generators:
-            chain = plus(chain, times(self.rng.randint(-2, 2), generator))
-        return self.within(chain)
 
-    def simple(self):
-        """A cycle of the basis, at times as large as the limit allows; zeros where there is none."""
-        chain = self.within(self.rng.choice(self.basis or [[0] * self.n]))
-        return self.largest(chain) if self.rng.randrange(4) == 0 else chain
+def of_chains(name, data, sheet, p, chains):
+    """The chains with slices of the lengths due."""
+    return [Case(name, data, p, chain, *lent(sheet, p, EXACT)) for chain in chains]
 
-    def cycles(self, most):
-        """Zeros, boundaries and cycles of every kind, no two alike, so many at most."""
-        multiples, simple = list(self.multiples()), [self.simple() for _ in range(4)]
-        made = [[0] * self.n, self.bounding(), self.mixed(), *simple, *self.rng.sample(multiples, len(multiples)), self.mixed(), self.bounding()]
-        return [chain for i, chain in enumerate(made) if chain not in made[:i]][:most]
 
-    def wide_cycle(self):
-        """A cycle with a coefficient just beyond the limit or, where there is none, one far beyond; None where zeros are the only cycle known."""
-        known = [chain for chain in [*self.boundaries, *self.generators] if any(chain)]
-        if not known:
-            return None
-        chain = self.rng.choice(known)
-        return times(self.rng.choice([-1, 1]) * (COEFFICIENT_LIMIT // size(chain) + 1), chain)
+def of_dimension(rng, name, data, p, count_limit, most):
+    """Up to so many cycles, faulty chains, chains of other lengths, and a cycle with every change of the slices."""
+    made = Cycles(rng, data, p, count_limit)
+    cycles = made.cycles(most)
+    chosen = rng.choice(cycles)
+    changed = [Case(name, data, p, chosen, *lent(made.sheet, p, change)) for change in CHANGES]
+    return of_chains(name, data, made.sheet, p, [*cycles, *made.faulty(), *other_lengths(chosen)]) + changed
 
-    def faulty(self):
-        """Chains with refusals 11 and 12, and with both faults, where the dimension has them."""
-        if self.n == 0:
-            return []
-        beyond, opened = self.bounding(), self.bounding()
-        beyond[self.rng.randrange(self.n)] = self.rng.choice(BEYOND)
-        at = self.rng.randrange(self.n)
-        opened[at] += 1 if opened[at] < 0 else -1
-        return [beyond, opened, *filter(None, [self.wide_cycle()])]
+
+def of_refused(rng, name, data):
+    """A call on a sheet that is refused, whatever the rest."""
+    return Case(name, data, rng.randrange(DIMENSIONS + 1), [0] * rng.randrange(5), rng.randrange(5), rng.randrange(20))
+
+
+def of_coefficients():
+    """The loop of a filled and of a hollow triangle, one vertex of an edge and both, up to 17 times either way."""
+    made = []
+    for name, facets, p, chain in (("filled triangle", meshes.filled_triangle(), 1, LOOP), ("hollow triangle", meshes.hollow_triangle(), 1, LOOP),
+                                   ("edge", [(0, 1)], 0, [1, 0]), ("edge", [(0, 1)], 0, [1, -1])):
+        data = from_facets(facets)
+        chains = [times(factor, chain) for factor in range(-17, 18)]
+        made += of_chains(name, data, parse(data, PROGRAM_COUNT_LIMIT), p, chains)
+    return made
+
+
+def with_faults(numbers, count_limit):
+    """A call in dimension 1 with the faults of these numbers and no other; that of 9 is in both slices."""
+    sections = closure(FACETS)
+    sheet = Sheet(tuple(map(tuple, sections)))
+    edges, draft = sheet.count(1), sheet_cases.Draft(sections)
+    faults = {number: edit for number, edit in sheet_cases.faults(count_limit).values()}
+    for number in sorted(set(numbers) & set(faults), reverse=True):
+        faults[number](draft)
+    chain = [0] * edges
+    chain[edges - 3:] = LOOP if 17 in numbers else [0, 0, 0]
+    chain[0] = 1 if 12 in numbers else 0
+    chain[1] = -COEFFICIENT_LIMIT - 1 if 11 in numbers else 0
+    chain += [0] if 10 in numbers else []
+    slices = lent(sheet, 1, (-1, -1) if 9 in numbers else EXACT)
+    return Case(f"faults {', '.join(map(str, numbers)) or 'none'}", draft.bytes(), 4 if 8 in numbers else 1, chain, *slices)
+
+
+def of_faults(count_limit):
+    """Each fault alone, every two together, and none."""
+    chosen = [(), *combinations(FAULTS, 1), *combinations(FAULTS, 2)]
+    return [with_faults(numbers, count_limit) for numbers in chosen]
