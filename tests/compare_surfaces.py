@@ -26,8 +26,8 @@ FILLS = [0, 1, 0x7f, 0x80, compare_library.FILL, 0xff]
 # Of the sheets that are refused, every so many is taken.
 EVERY = 4
 
-# The answer of a surface call where the coordinates of the same chain are done.
-ALONE = f"{TOO_WIDE} where the coordinates are done"
+# A sheet where every surface is refused with 13 and the coordinates of the same chains are done.
+ALONE = f"{TOO_WIDE} on a sheet with coordinates"
 
 
 def host_call(rng, case):
@@ -56,19 +56,20 @@ class Side:
         return [f"{number}, {cause}" for cause in causes(found, numbers)]
 
     def compare(self, cases):
-        """Makes the calls and counts those that differ."""
+        """Makes the calls, counts those that differ, and gives the answers due."""
         made = [(case, self.call(self.rng, case).expected(self.name, case.data)) for case in cases]
         for case, expected in made:
             self.told.update(self.kinds(case, expected.number))
         self.wrong += count_differing(self.driver, [expected for _, expected in made])
+        return [expected.number for _, expected in made]
 
     def compare_alone(self, cases):
-        """The same with the coordinates of the same chains, which are done where the surface is refused with 13."""
+        """The same with the coordinates of the same chains; counts a sheet where these are done and all surfaces refused with 13."""
         calls = [compare_library.Call("C", case.p, case.chain, len(case.chain), case.work, name=case.name) for case in cases]
         made = [call.expected(self.name, case.data) for call, case in zip(calls, cases)]
         self.wrong += count_differing(self.driver, made)
-        self.compare(cases)
-        self.told[ALONE] += all(expected.number == DONE for expected in made)
+        answers = {(expected.number, number) for expected, number in zip(made, self.compare(cases))}
+        self.told[ALONE] += answers == {(DONE, TOO_WIDE)}
 
     def missing(self, wanted):
         """The kinds of answer that were never due."""
@@ -136,7 +137,8 @@ def main():
     for cases in wide_cases(rng):
         library.compare_alone(cases)
     wanted = [*range(DONE, TOO_WIDE), *(f"{BOUNDS_NOTHING}, {cause}" for cause in (FREE, TWISTED))]
-    lost = host.missing(wanted) + library.missing([*wanted, TOO_WIDE, ALONE])
+    lost = host.missing(wanted) + library.missing([*wanted, TOO_WIDE])
+    lost += [] if library.told[ALONE] == len(CASES) else [ALONE]
     for side in (host, library):
         print(f"{side.name}: " + "; ".join(f"{many} answered {kind}" for kind, many in sorted(side.told.items(), key=lambda pair: str(pair[0]))))
         print(f"{side.name}: {side.wrong} calls differ")
