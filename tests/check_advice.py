@@ -9,6 +9,7 @@ from pathlib import Path
 
 from model import meshes
 from model.sheet import LIBRARY_COUNT_LIMIT, from_facets, parse
+from model.wide_surfaces import CASES
 
 LIBRARY = Path("target/lib/libfildwuk.so")
 COEFFICIENT_EXCEEDS = 11
@@ -22,11 +23,11 @@ class Calls:
     def __init__(self, path):
         self.library = ctypes.CDLL(str(path.resolve()))
 
-    def call(self, name, sheet, p, *slices):
-        """The answer of a call on a sheet, with the work slice behind the other slices."""
+    def call(self, name, sheet, p, *slices, more=0):
+        """The answer of a call on a sheet, with the work slice behind the other slices, and so many slots more in it than a report asks for."""
         cells = parse(sheet, LIBRARY_COUNT_LIMIT)
         n, beside = cells.count(p), max(cells.count(p - 1), cells.count(p + 1))
-        work = (ctypes.c_int32 * (n * (2 * n + beside)))()
+        work = (ctypes.c_int32 * (n * (2 * n + beside) + more))()
         lent = [x for part in (*slices, work) for x in (part, ctypes.c_size_t(len(part)))]
         return getattr(self.library, name)(sheet, ctypes.c_size_t(len(sheet)), p, *lent)
 
@@ -45,6 +46,14 @@ class Calls:
         slots = (ctypes.c_int64 * len(chain))()
         answer = self.call("fildwuk_library_coordinates", from_facets(facets), p, (ctypes.c_int32 * len(chain))(*chain), slots)
         return answer, list(slots)
+
+
+    def surface(self, facets, p, chain):
+        """The answer of the surface call for a chain."""
+        sheet = from_facets(facets)
+        above = parse(sheet, LIBRARY_COUNT_LIMIT).count(p + 1)
+        slots = (ctypes.c_int64 * above)()
+        return self.call("fildwuk_library_surface", sheet, p, (ctypes.c_int32 * len(chain))(*chain), slots, more=above * above)
 
 
 def renumbered(rng, facets):
@@ -71,6 +80,17 @@ def too_wide(calls, rng):
     }
 
 
+def too_wide_surfaces(calls, rng):
+    """13 in the surface call alone: report and coordinates are done; under other numberings the surface is too."""
+    p, facets = next(iter(CASES.values()))
+    zeros = [0] * parse(from_facets(facets), LIBRARY_COUNT_LIMIT).count(p)
+    return {
+        "a surface is refused": calls.surface(facets, p, zeros) == TOO_WIDE,
+        "report and coordinates are done there": calls.report(facets, p)[0] == calls.coordinates(facets, p, zeros)[0] == 0,
+        "a surface is done under another numbering": any(calls.surface(renumbered(rng, facets), p, zeros) == 0 for _ in range(NUMBERINGS)),
+    }
+
+
 def large_coefficients(calls):
     """A cavity with a coefficient of 32,768, whose coordinates are refused, and one with half of it, which has 1 at its own place."""
     facts = {}
@@ -93,7 +113,8 @@ def main():
     parser = argparse.ArgumentParser(description=__doc__)
     parser.add_argument("--library", type=Path, default=LIBRARY)
     calls = Calls(parser.parse_args().library)
-    facts = {**too_wide(calls, random.Random(3)), **large_coefficients(calls), **orders(calls)}
+    rng = random.Random(3)
+    facts = {**too_wide(calls, rng), **too_wide_surfaces(calls, rng), **large_coefficients(calls), **orders(calls)}
     for name, held in facts.items():
         print(f"{'held' if held else 'NOT HELD'}: {name}")
     return 0 if all(facts.values()) else 1
