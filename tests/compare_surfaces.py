@@ -92,7 +92,7 @@ def large_cases(rng):
     ring = meshes.sized()["ring 3x3x1"]
     for name, facets, p in (("ring 3x3x1", ring, 1), ("ring 3x3x1", ring, 2), ("tower 10", meshes.tower(10), 1)):
         yield surface_cases.of_dimension(rng, name, from_facets(facets), p, LIBRARY_COUNT_LIMIT, 6)
-    for name, data, p in (("closed tower 19, turned", from_facets(meshes.turned(meshes.closed_tower(19))), 1),
+    for name, data, p in (("closed tower 16, turned", from_facets(meshes.turned(meshes.closed_tower(16))), 1),
                           ("tower 20", from_facets(meshes.tower(20)), 2), ("256 cells of each dimension", sheet_cases.full(LIBRARY_COUNT_LIMIT), 0)):
         made = Cycles(rng, data, p, LIBRARY_COUNT_LIMIT)
         chains = [made.bounding() for _ in range(4)] + [made.largest(chain) for chain in made.boundaries[-2:]] + made.faulty()
@@ -125,7 +125,7 @@ def main():
     """Exits with 1 where an answer, an output or a work slice differs, or where a kind of answer was never due."""
     parser = argparse.ArgumentParser(description=__doc__, formatter_class=argparse.RawDescriptionHelpFormatter)
     parser.add_argument("--drivers", type=Path, default=Path("target/host"), metavar="FOLDER", help="where the built drivers are (target/host)")
-    parser.add_argument("--random", type=int, default=40, metavar="N", help="random sheets, each also in a damaged copy (40)")
+    parser.add_argument("--random", type=int, default=30, metavar="N", help="random sheets, each also in a damaged copy (30)")
     parser.add_argument("--seed", type=int, default=6, help="seed (6)")
     options = parser.parse_args()
     rng = random.Random(options.seed)

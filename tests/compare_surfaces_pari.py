@@ -105,7 +105,7 @@ def missing(seen):
 def main():
     """Exits with 1 where the model and PARI differ, or where a kind of cycle was not met."""
     parser = argparse.ArgumentParser(description=__doc__, formatter_class=argparse.RawDescriptionHelpFormatter)
-    parser.add_argument("--count", type=int, default=60, help="random complexes (60)")
+    parser.add_argument("--count", type=int, default=50, help="random complexes (50)")
     parser.add_argument("--seed", type=int, default=1, help="seed of what is random (1)")
     options = parser.parse_args()
     named = sheets_to_compare(options)
