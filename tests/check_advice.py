@@ -9,6 +9,7 @@ from pathlib import Path
 
 from model import meshes
 from model.sheet import LIBRARY_COUNT_LIMIT, from_facets, parse
+from model.wide_surfaces import CASES
 
 LIBRARY = Path("target/lib/libfildwuk.so")
 COEFFICIENT_EXCEEDS = 11
@@ -22,11 +23,11 @@ class Calls:
     def __init__(self, path):
         self.library = ctypes.CDLL(str(path.resolve()))
 
-    def call(self, name, sheet, p, *slices):
-        """The answer of a call on a sheet, with the work slice behind the other slices."""
+    def call(self, name, sheet, p, *slices, more=0):
+        """The answer of a call on a sheet, with the work slice behind the other slices, and so many slots more in it than a report asks for."""
         cells = parse(sheet, LIBRARY_COUNT_LIMIT)
         n, beside = cells.count(p), max(cells.count(p - 1), cells.count(p + 1))
-        work = (ctypes.c_int32 * (n * (2 * n + beside)))()
+        work = (ctypes.c_int32 * (n * (2 * n + beside) + more))()
         lent = [x for part in (*slices, work) for x in (part, ctypes.c_size_t(len(part)))]
         return getattr(self.library, name)(sheet, ctypes.c_size_t(len(sheet)), p, *lent)
 
@@ -47,18 +48,19 @@ class Calls:
         return answer, list(slots)
 
 
+    def surface(self, facets, p, chain):
+        """The answer of the surface call for a chain."""
+        sheet = from_facets(facets)
+        above = parse(sheet, LIBRARY_COUNT_LIMIT).count(p + 1)
+        slots = (ctypes.c_int64 * above)()
+        return self.call("fildwuk_library_surface", sheet, p, (ctypes.c_int32 * len(chain))(*chain), slots, more=above * above)
+
+
 def renumbered(rng, facets):
     """The mesh with its nodes numbered otherwise."""
     numbers = list(range(meshes.vertex_count(facets)))
     rng.shuffle(numbers)
     return [tuple(numbers[v] for v in facet) for facet in facets]
-
-
-def closed_tower(floors):
-    """The doubling tower with a triangle at both ends: one cavity, in which the last triangle is taken 2 ** floors times."""
-    facets = meshes.tower(floors)
-    last = meshes.vertex_count(facets) - 1
-    return facets + [(last - 2, last - 1, last)]
 
 
 def too_wide(calls, rng):
@@ -78,11 +80,22 @@ def too_wide(calls, rng):
     }
 
 
+def too_wide_surfaces(calls, rng):
+    """13 in the surface call alone: report and coordinates are done; under other numberings the surface is too."""
+    p, facets = next(iter(CASES.values()))
+    zeros = [0] * parse(from_facets(facets), LIBRARY_COUNT_LIMIT).count(p)
+    return {
+        "a surface is refused": calls.surface(facets, p, zeros) == TOO_WIDE,
+        "report and coordinates are done there": calls.report(facets, p)[0] == calls.coordinates(facets, p, zeros)[0] == 0,
+        "a surface is done under another numbering": any(calls.surface(renumbered(rng, facets), p, zeros) == 0 for _ in range(NUMBERINGS)),
+    }
+
+
 def large_coefficients(calls):
     """A cavity with a coefficient of 32,768, whose coordinates are refused, and one with half of it, which has 1 at its own place."""
     facts = {}
     for floors, due in ((14, 0), (15, COEFFICIENT_EXCEEDS)):
-        tower = closed_tower(floors)
+        tower = meshes.closed_tower(floors)
         answer, b, orders, (cavity,) = calls.report(tower, 2)
         number, slots = calls.coordinates(tower, 2, cavity)
         facts[f"cavity of {floors} floors"] = (answer, b, orders, max(map(abs, cavity))) == (0, 1, [], 2 ** floors)
@@ -100,7 +113,8 @@ def main():
     parser = argparse.ArgumentParser(description=__doc__)
     parser.add_argument("--library", type=Path, default=LIBRARY)
     calls = Calls(parser.parse_args().library)
-    facts = {**too_wide(calls, random.Random(3)), **large_coefficients(calls), **orders(calls)}
+    rng = random.Random(3)
+    facts = {**too_wide(calls, rng), **too_wide_surfaces(calls, rng), **large_coefficients(calls), **orders(calls)}
     for name, held in facts.items():
         print(f"{'held' if held else 'NOT HELD'}: {name}")
     return 0 if all(facts.values()) else 1

@@ -11,7 +11,7 @@ from pathlib import Path
 from drivers import Expected, count_differing
 from make_sheets import fault_sheets, known_sheets, random_sheets
 from model import homology, list_cases, residue_cases
-from model.calls import host_coordinate_lists, host_coordinates, host_report
+from model.calls import host_coordinate_lists, host_coordinates, host_report, host_surface
 from model.sheet import PROGRAM_COUNT_LIMIT, Refused, refusal
 
 DRIVER = Path("target/host/driver")
@@ -21,7 +21,7 @@ NUMBER_BITS = 32
 
 @dataclass(frozen=True)
 class Call:
-    """A call: R, C or L for the report, the coordinates or the coordinate lists, and what it is lent besides the sheet."""
+    """A call: R, C, L or S for the report, the coordinates, the coordinate lists or the surface, and what it is lent besides the sheet."""
 
     kind: str
     p: int
@@ -41,6 +41,8 @@ class Call:
             return host_report(data, self.p, self.lent)
         if self.kind == "C":
             return host_coordinates(data, self.p, self.chains, self.lent)
+        if self.kind == "S":
+            return host_surface(data, self.p, self.chains, self.lent)
         return host_coordinate_lists(data, self.p, self.number, self.chains, self.lent)
 
     def expected(self, name, data):

@@ -16,13 +16,15 @@ from pathlib import Path
 from drivers import Expected, count_differing
 from make_sheets import fault_sheets
 from model import homology, list_cases, meshes, random_meshes, residue_cases, sheet_cases
-from model.calls import library_coordinate_lists, library_coordinates, library_report
+from model.calls import library_coordinate_lists, library_coordinates, library_report, library_surface
 from model.matrices import apply, boundary
 from model.sheet import DIMENSIONS, LIBRARY_COUNT_LIMIT, PROGRAM_COUNT_LIMIT, Refused, from_facets, parse, refusal
 
 DRIVER = Path("target/host/library_driver")
-SLOT = struct.unpack("<q", b"\xa5" * 8)[0]
-WORK_SLOT = struct.unpack("<i", b"\xa5" * 4)[0]
+# The byte that the slices are lent with.
+FILL = 0xa5
+SLOT = struct.unpack("<q", bytes([FILL] * 8))[0]
+WORK_SLOT = struct.unpack("<i", bytes([FILL] * 4))[0]
 NUMBER_BITS = 64
 
 # Changes of the lengths that check 9 wants, for the output and the work slice.
@@ -38,7 +40,7 @@ FLOORS = 19
 
 @dataclass(frozen=True)
 class Call:
-    """A call: R, C or L for the report, the coordinates or the coordinate lists, and what it is lent besides the sheet."""
+    """A call: R, C, L or S for the report, the coordinates, the coordinate lists or the surface, and what it is lent besides the sheet."""
 
     kind: str
     p: int
@@ -47,19 +49,23 @@ class Call:
     work: int
     number: int = 1
     name: str = ""
+    fill: int = FILL
 
     def request(self, data):
         """The bytes for the driver."""
-        head = struct.pack("<2IQ3I", len(data), self.p, self.number, len(self.chains), self.output, self.work)
+        head = struct.pack("<2IQ4I", len(data), self.p, self.number, len(self.chains), self.output, self.work, self.fill)
         return self.kind.encode() + head + data + array("i", self.chains).tobytes()
 
     def due(self, data):
         """The model's answer, and both slices after the call."""
-        lent, room = [SLOT] * self.output, [WORK_SLOT] * self.work
+        slot, work_slot = struct.unpack("<qi", bytes([self.fill] * 12))
+        lent, room = [slot] * self.output, [work_slot] * self.work
         if self.kind == "R":
             return library_report(data, self.p, lent, room)
         if self.kind == "C":
             return library_coordinates(data, self.p, self.chains, lent, room)
+        if self.kind == "S":
+            return library_surface(data, self.p, self.chains, lent, room)
         return library_coordinate_lists(data, self.p, self.number, self.chains, lent, room)
 
     def expected(self, name, data):

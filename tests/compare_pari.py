@@ -73,11 +73,11 @@ def columns_matrix(rows, columns):
     return gp_matrix(rows, len(columns), [[column[i] for column in columns] for i in range(rows)])
 
 
-def run_gp(questions):
-    """The line that PARI prints for each question, as nested lists of numbers."""
+def run_gp(questions, prelude=GP_PRELUDE):
+    """The numbers in the line that PARI prints for each question."""
     if shutil.which("gp") is None:
         sys.exit("gp is not installed (Debian package pari-gp)")
-    script = GP_PRELUDE + "\n".join(questions) + "\n"
+    script = prelude + "\n".join(questions) + "\n"
     done = subprocess.run(["gp", "-q", "-f", "-s", "256M"], input=script, text=True,
                           capture_output=True, check=True)
     lines = done.stdout.splitlines()

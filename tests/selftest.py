@@ -16,10 +16,12 @@ from checks.meshes import Meshes
 from checks.reductions import Reductions
 from checks.residues import Residues, TwistedLoops
 from checks.sheets import Boundaries, Sheets
+from checks.surfaces import SurfaceRefusalOrder, Surfaces, SurfaceSlices, TrackedColumns
 
 __all__ = ["Boundaries", "Calls", "Coordinates", "Headroom", "Imports", "ListRefusalOrder", "Lists",
            "ListSlices", "Meshes", "NoChainsRefusalOrder", "Reductions", "RefusalOrder", "Reports",
-           "Residues", "Sheets", "SlicesOfCheck9", "TwistedLoops"]
+           "Residues", "Sheets", "SlicesOfCheck9", "SurfaceRefusalOrder", "Surfaces", "SurfaceSlices",
+           "TrackedColumns", "TwistedLoops"]
 
 if __name__ == "__main__":
     if {"-h", "--help"} & set(sys.argv[1:]):

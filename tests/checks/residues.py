@@ -6,50 +6,15 @@ import unittest
 from collections import Counter
 from itertools import combinations, product
 
+from checks.bounding import BoundingChains
 from checks.common import answer, residue
 from model import calls, list_cases, meshes, residue_cases
 from model.homology import COEFFICIENT_LIMIT, coordinate, coordinate_lists, coordinates, report
-from model.matrices import boundary
 from model.reduction import ENTRY_LIMIT
 from model.sheet import LIBRARY_COUNT_LIMIT, PROGRAM_COUNT_LIMIT, from_facets, parse, refusal
 
 # The largest value of a row times a chain: as many products as cells, each within both limits.
 LARGEST = LIBRARY_COUNT_LIMIT * ENTRY_LIMIT * COEFFICIENT_LIMIT
-
-
-class BoundingChains:
-    """The whole combinations of the boundaries of cells, by Euclid's steps alone.
-
-    Of those with the first nonzero coefficient at a place, one is kept whose coefficient there
-    divides that of every other.
-    """
-
-    def __init__(self, sheet, p):
-        self.kept = {}
-        for column in zip(*boundary(sheet, p + 1)):
-            self.take(list(column))
-
-    def take(self, chain):
-        """Adds a chain to the combinations."""
-        while any(chain):
-            at = next(i for i, x in enumerate(chain) if x)
-            if at not in self.kept:
-                self.kept[at] = chain
-                return
-            other = self.kept[at]
-            if abs(chain[at]) < abs(other[at]):
-                self.kept[at], chain, other = chain, other, chain
-            chain = list_cases.plus(chain, list_cases.times(-(chain[at] // other[at]), other))
-
-    def holds(self, chain):
-        """Whether a chain is one of them."""
-        for at in range(len(chain)):
-            if chain[at] and (at not in self.kept or chain[at] % self.kept[at][at]):
-                return False
-            if chain[at]:
-                factor = chain[at] // self.kept[at][at]
-                chain = list_cases.plus(chain, list_cases.times(-factor, self.kept[at]))
-        return True
 
 
 def less(cycle, numbers, generators):

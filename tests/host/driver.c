@@ -1,6 +1,6 @@
-/* Answers host calls for a test harness. Standard input holds requests, one after another: a byte `R`, `C` or `L` for the report, the
- * coordinates or the coordinate lists, then 4-byte numbers, low byte first: the sheet's length, the dimension, the number of chains, which
- * `L` alone uses, the length of the chains and of the output; then the bytes of the sheet, of the chains and of the output as lent. For each
+/* Answers host calls for a test harness. Standard input holds requests, one after another: a byte `R`, `C`, `L` or `S` for the report, the
+ * coordinates, the coordinate lists or the surface, then 4-byte numbers, low byte first: the sheet's length, the dimension, the number of chains,
+ * which `L` alone uses, the length of the chains and of the output; then the bytes of the sheet, of the chains and of the output as lent. For each
  * request standard output gets the answer as 4 bytes and the output's bytes as the call left them.
  *
  * Each call is made twice, with untouchable memory after and before every block. The program ends with status 3 where the two differ, bytes
@@ -21,6 +21,8 @@ static uint32_t call(const struct request *r, struct fenced sheet, struct fenced
         return fildwuk_report(sheet.bytes, sheet.length, r->dimension, output.bytes, output.length);
     if (r->kind == 'C')
         return fildwuk_coordinates(sheet.bytes, sheet.length, r->dimension, chains.bytes, chains.length, output.bytes, output.length);
+    if (r->kind == 'S')
+        return fildwuk_surface(sheet.bytes, sheet.length, r->dimension, chains.bytes, chains.length, output.bytes, output.length);
     return fildwuk_coordinate_lists(sheet.bytes, sheet.length, r->dimension, r->number, chains.bytes, chains.length, output.bytes,
                                     output.length);
 }

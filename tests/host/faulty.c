@@ -1,5 +1,5 @@
 /* Host calls with a fault, to see that the driver tells it. The environment's FAULT names it; none is the control. These calls know no sheets: a
- * chain is refused with the number in its first byte, and otherwise has one coordinate, its second byte. */
+ * chain is refused with the number in its first byte, and otherwise has one coordinate, its second byte, which is its surface too. */
 #include <stdlib.h>
 #include <string.h>
 
@@ -55,6 +55,11 @@ uint32_t fildwuk_coordinates(const uint8_t *sheet, size_t sheet_len, uint32_t di
         return refused(dimension != 0 ? dimension : chain[0], coordinates);
     write_list(coordinates, chain[1]);
     return FILDWUK_DONE;
+}
+
+uint32_t fildwuk_surface(const uint8_t *sheet, size_t sheet_len, uint32_t dimension, const uint8_t *chain, size_t chain_len, uint8_t *surface,
+                         size_t surface_len) {
+    return fildwuk_coordinates(sheet, sheet_len, dimension, chain, chain_len, surface, surface_len);
 }
 
 /* The answer that the chains decide, each of so many bytes. */

@@ -29,6 +29,21 @@ static int check_lists(void) {
     return memcmp(lists, LISTS, sizeof LISTS) == 0 ? 0 : 8;
 }
 
+/* 0 where the loop of the hollow triangle bounds nothing and two of its vertices bound the first edge, and coefficients are refused from 16 on, else a
+ * number above 13. */
+static int check_surface(void) {
+    static const uint8_t ends[FILDWUK_CHAIN_BYTES(3)] = {255, 255, 255, 255, 1, 0, 0, 0, 0, 0, 0, 0};
+    static const uint8_t large[FILDWUK_CHAIN_BYTES(3)] = {16, 0, 0, 0, 240, 255, 255, 255, 16, 0, 0, 0};
+    static uint8_t surface[FILDWUK_SURFACE_BYTES(3)];
+    if (fildwuk_surface(SHEET, sizeof SHEET, 1, CHAIN, sizeof CHAIN, surface, 0) != FILDWUK_BOUNDS_NOTHING)
+        return 14;
+    if (fildwuk_surface(SHEET, sizeof SHEET, 1, large, sizeof large, surface, 0) != FILDWUK_COEFFICIENT_EXCEEDS)
+        return 15;
+    if (fildwuk_surface(SHEET, sizeof SHEET, 0, ends, sizeof ends, surface, sizeof surface) != FILDWUK_DONE)
+        return 16;
+    return fildwuk_get_number(surface, 0) == 1 && fildwuk_get_number(surface, 1) == 0 && fildwuk_get_number(surface, 2) == 0 ? 0 : 17;
+}
+
 /* The mesh text of the hollow triangle, whose sheet is SHEET. 0 where it is imported and refused as it must be, else a number above 9. */
 static int check_import(void) {
     static const char text[] = "$MeshFormat\n2.2 0 8\n$EndMeshFormat\n$Nodes\n3\n0 0 0 0\n1 1 0 0\n2 0 1 0\n$EndNodes\n"
@@ -55,5 +70,6 @@ int main(void) {
     if (memcmp(coordinates, COORDINATES, sizeof COORDINATES) != 0)
         return 4;
     const int lists = check_lists();
-    return lists != 0 ? lists : check_import();
+    const int surface = check_surface();
+    return lists != 0 ? lists : surface != 0 ? surface : check_import();
 }

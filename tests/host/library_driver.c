@@ -1,8 +1,8 @@
 /* Answers the library's calls, at its count limit of 256, for a test harness. Standard input holds requests, one after another: a byte `R`,
- * `C` or `L` for the report, the coordinates or the coordinate lists, then 4-byte numbers, low byte first: the sheet's bytes, the dimension,
- * the low and the high half of the number of chains, which `L` alone uses, the coefficients of the chains, the slots of the output and of
- * the work slice; then the sheet and the coefficients, 4 bytes each. The output and the work slice are lent with every byte at PATTERN. For
- * each request standard output gets the answer as 4 bytes, the output and the work slice as the call left them.
+ * `C`, `L` or `S` for the report, the coordinates, the coordinate lists or the surface, then 4-byte numbers, low byte first: the sheet's bytes, the
+ * dimension, the low and the high half of the number of chains, which `L` alone uses, the coefficients of the chains, the slots of the output and
+ * of the work slice, and the byte that these two are lent with throughout; then the sheet and the coefficients, 4 bytes each. For each request
+ * standard output gets the answer as 4 bytes, the output and the work slice as the call left them.
  *
  * Each call is made twice, with untouchable memory after and before every block. The program ends with status 3 where the two differ, bytes
  * outside the lent slices have changed, or lists are not those of single calls; and by a signal where a call touches that memory or takes half a
@@ -13,7 +13,7 @@
 /* Lengths are those of the slices: bytes of the sheet, coefficients, slots. */
 struct request {
     int kind;
-    uint32_t sheet_len, dimension, chains_len, output_len, work_len;
+    uint32_t sheet_len, dimension, chains_len, output_len, work_len, fill;
     uint64_t number;
     uint8_t *sheet, *chains;
 };
@@ -34,6 +34,9 @@ static uint32_t call(const struct request *r, struct fenced sheet, struct fenced
     if (r->kind == 'C')
         return fildwuk_library_coordinates(sheet.bytes, r->sheet_len, r->dimension, coefficients, r->chains_len, slots, r->output_len,
                                            room, r->work_len);
+    if (r->kind == 'S')
+        return fildwuk_library_surface(sheet.bytes, r->sheet_len, r->dimension, coefficients, r->chains_len, slots, r->output_len, room,
+                                       r->work_len);
     return fildwuk_library_coordinate_lists(sheet.bytes, r->sheet_len, r->dimension, r->number, coefficients, r->chains_len, slots,
                                             r->output_len, room, r->work_len);
 }
@@ -41,6 +44,8 @@ static uint32_t call(const struct request *r, struct fenced sheet, struct fenced
 static struct left call_fenced(const struct request *r, enum side side) {
     struct fenced sheet = fence_copy(r->sheet, r->sheet_len, side), chains = fence_copy(r->chains, 4 * (size_t)r->chains_len, side);
     struct left left = {0, fence(8 * (size_t)r->output_len, side), fence(4 * (size_t)r->work_len, side)};
+    memset(left.output.bytes, (int)r->fill, left.output.length);
+    memset(left.work.bytes, (int)r->fill, left.work.length);
     left.number = call(r, sheet, chains, left.output, left.work);
     if (!intact(left.output) || !intact(left.work))
         exit(3);
@@ -108,7 +113,7 @@ int main(void) {
     while ((r.kind = getchar()) != EOF) {
         uint32_t low, high;
         if (!read_number(&r.sheet_len) || !read_number(&r.dimension) || !read_number(&low) || !read_number(&high) ||
-            !read_number(&r.chains_len) || !read_number(&r.output_len) || !read_number(&r.work_len))
+            !read_number(&r.chains_len) || !read_number(&r.output_len) || !read_number(&r.work_len) || !read_number(&r.fill))
             return 2;
         r.number = (uint64_t)high << 32 | low;
         r.sheet = read_bytes(r.sheet_len);

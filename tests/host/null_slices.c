@@ -61,6 +61,12 @@ static void host_calls(void) {
     DUE(10, fildwuk_coordinate_lists(SHEET, sizeof SHEET, 1, 1, no.chain, 0, lent.bytes, sizeof lent.bytes));
     DUE(0, fildwuk_coordinate_lists(SHEET, sizeof SHEET, 1, 0, no.chain, 0, no.bytes, 0));
     DUE(0, fildwuk_coordinate_lists(SHEET, sizeof SHEET, 3, UINT32_MAX, no.chain, 0, no.bytes, 0));
+    DUE(1, fildwuk_surface(no.sheet, 0, 1, CHAIN, sizeof CHAIN, lent.bytes, sizeof lent.bytes));
+    DUE(1, fildwuk_surface(no.sheet, 0, 1, no.chain, 0, no.bytes, 0));
+    DUE(9, fildwuk_surface(SHEET, sizeof SHEET, 0, CHAIN, sizeof CHAIN, no.bytes, 0));
+    DUE(10, fildwuk_surface(SHEET, sizeof SHEET, 1, no.chain, 0, no.bytes, 0));
+    DUE(0, fildwuk_surface(SHEET, sizeof SHEET, 1, CHAIN, sizeof CHAIN, no.bytes, 0));
+    DUE(0, fildwuk_surface(SHEET, sizeof SHEET, 2, no.chain, 0, no.bytes, 0));
     DUE(14, fildwuk_import(no.text, 0, lent.bytes, sizeof lent.bytes));
     DUE(14, fildwuk_import(no.text, 0, no.bytes, 0));
     DUE(16, fildwuk_import((const uint8_t *)TEXT, sizeof TEXT - 1, no.bytes, 0));
@@ -86,6 +92,12 @@ static void library_calls(void) {
     DUE(10, fildwuk_library_coordinate_lists(SHEET, sizeof SHEET, 1, 1, no.coefficients, 0, lent.numbers, SLOTS, lent.work, SLOTS));
     DUE(0, fildwuk_library_coordinate_lists(SHEET, sizeof SHEET, 1, 0, no.coefficients, 0, no.numbers, 0, lent.work, SLOTS));
     DUE(0, fildwuk_library_coordinate_lists(SHEET, sizeof SHEET, 3, SIZE_MAX, no.coefficients, 0, no.numbers, 0, no.work, 0));
+    DUE(1, fildwuk_library_surface(no.sheet, 0, 1, no.coefficients, 0, no.numbers, 0, no.work, 0));
+    DUE(9, fildwuk_library_surface(SHEET, sizeof SHEET, 0, COEFFICIENTS, EDGES, no.numbers, 0, lent.work, SLOTS));
+    DUE(9, fildwuk_library_surface(SHEET, sizeof SHEET, 1, COEFFICIENTS, EDGES, no.numbers, 0, no.work, 0));
+    DUE(10, fildwuk_library_surface(SHEET, sizeof SHEET, 1, no.coefficients, 0, no.numbers, 0, lent.work, SLOTS));
+    DUE(0, fildwuk_library_surface(SHEET, sizeof SHEET, 1, COEFFICIENTS, EDGES, no.numbers, 0, lent.work, SLOTS));
+    DUE(0, fildwuk_library_surface(SHEET, sizeof SHEET, 2, no.coefficients, 0, no.numbers, 0, no.work, 0));
     DUE(14, fildwuk_library_import(no.text, 0, lent.bytes, sizeof lent.bytes));
     DUE(14, fildwuk_library_import(no.text, 0, no.bytes, 0));
     DUE(16, fildwuk_library_import((const uint8_t *)TEXT, sizeof TEXT - 1, no.bytes, 0));

@@ -2,13 +2,14 @@
 
 import struct
 
-from model import homology
+from model import homology, surface
 from model.headroom import bits
 from model.reduction import ENTRY_LIMIT
 from model.sheet import DIMENSIONS, LIBRARY_COUNT_LIMIT, PROGRAM_COUNT_LIMIT, Refused, refusal
 
 DONE = 0
 TOO_WIDE = 13
+BOUNDS_NOTHING = 17
 COEFFICIENT_BYTES = 4
 NUMBER_BYTES = 8
 
@@ -19,8 +20,8 @@ def overwrite(lent, numbers):
 
 
 def cleared(work, answer):
-    """The work slice after a call: zeros after done and after 13, else untouched."""
-    return [0] * len(work) if answer in (DONE, TOO_WIDE) else list(work)
+    """The work slice after a call: zeros after done, after 13 and after 17, which is tried later, else untouched."""
+    return [0] * len(work) if answer in (DONE, TOO_WIDE, BOUNDS_NOTHING) else list(work)
 
 
 def library_report(data, p, lent, work, count_limit=LIBRARY_COUNT_LIMIT, limit=ENTRY_LIMIT):
@@ -68,6 +69,15 @@ def library_coordinate_lists(data, p, number, chains, lent, work,
     return DONE, after, cleared(work, DONE)
 
 
+def library_surface(data, p, chain, lent, work, count_limit=LIBRARY_COUNT_LIMIT, limit=ENTRY_LIMIT):
+    """The surface call: its answer (0 or the refusal), and both slices after it."""
+    try:
+        numbers = surface.surface(data, p, chain, count_limit, limit, len(lent), len(work))
+    except Refused as refused:
+        return refused.number, list(lent), cleared(work, refused.number)
+    return DONE, overwrite(lent, numbers), cleared(work, DONE)
+
+
 def written(lent, numbers):
     """The lent bytes with the numbers at their start, 8 bytes each, low byte first."""
     return struct.pack(f"<{len(numbers)}q", *numbers) + bytes(lent[NUMBER_BYTES * len(numbers):])
@@ -112,6 +122,16 @@ def host_coordinate_lists(data, p, number, chains_bytes, lent):
     for slot, coordinate in found.slots().items():
         struct.pack_into("<q", after, NUMBER_BYTES * slot, coordinate)
     return DONE, bytes(after)
+
+
+def host_surface(data, p, chain_bytes, lent):
+    """The surface call of the host: its answer and the lent bytes after it."""
+    try:
+        numbers = surface.surface(data, p, coefficients(chain_bytes), PROGRAM_COUNT_LIMIT,
+                                  surface_length=len(lent) // NUMBER_BYTES)
+    except Refused as refused:
+        return refused.number, bytes(lent)
+    return DONE, written(lent, numbers)
 
 
 def dimension_lines(data, p, count_limit, limit):

@@ -50,8 +50,8 @@ class Report:
         return [self.rank, len(self.orders), *self.orders, *coefficients]
 
 
-def classes(sheet, p, limit=ENTRY_LIMIT):
-    """Both reductions of dimension p; raises TooWide."""
+def classes(sheet, p, limit=ENTRY_LIMIT, tracked=False):
+    """Both reductions of dimension p, the columns of the second tracked where asked (02, Note 6); raises TooWide."""
     n, above = sheet.count(p), sheet.count(p + 1)
     first = reduce(boundary(sheet, p), sheet.count(p - 1), n, limit,
                    column=identity(n), column_inverse=identity(n))
@@ -60,7 +60,7 @@ def classes(sheet, p, limit=ENTRY_LIMIT):
     q = first.column_inverse[r:]
     product = multiply(q, boundary(sheet, p + 1), above)
     Held("product", limit, []).write([x for row in product for x in row])
-    second = reduce(product, n - r, above, limit, row=q, row_inverse=g)
+    second = reduce(product, n - r, above, limit, row=q, row_inverse=g, column=identity(above) if tracked else None)
     kinds = second.diagonal() + [FREE] * (n - r - second.rank)
     columns = [[row[j] for row in second.row_inverse] for j in range(n - r)]
     return Classes(second.row, columns, kinds, first, second)
@@ -92,17 +92,17 @@ def admit(data, p, count_limit):
 
 
 @lru_cache(maxsize=16)
-def outcome(sheet, p, limit):
+def outcome(sheet, p, limit, tracked):
     """Both reductions of dimension p or what was too wide, kept for further calls on the sheet."""
     try:
-        return classes(sheet, p, limit)
+        return classes(sheet, p, limit, tracked)
     except TooWide as wide:
         return wide
 
 
-def reduced(sheet, p, limit):
-    """Both reductions of dimension p; raises Refused 13."""
-    found = outcome(sheet, p, limit)
+def reduced(sheet, p, limit, tracked=False):
+    """Both reductions of dimension p, the columns of the second tracked where asked; raises Refused 13."""
+    found = outcome(sheet, p, limit, tracked)
     if isinstance(found, TooWide):
         raise Refused(13) from found
     return found
@@ -137,19 +137,23 @@ def coordinate_list(found, chain):
     return [coordinate(found.kinds[i], values[i]) for i in found.places()]
 
 
+def check_cycle(sheet, p, chain, coefficient_limit):
+    """Raises Refused 10 to 12 for a chain of dimension p that is no cycle within the limit; None is a chain of no whole length."""
+    if chain is None or len(chain) != sheet.count(p):
+        raise Refused(10)
+    if any(abs(x) > coefficient_limit for x in chain):
+        raise Refused(11)
+    if not is_cycle(sheet, p, chain):
+        raise Refused(12)
+
+
 def coordinates(data, p, chain, count_limit=LIBRARY_COUNT_LIMIT, limit=ENTRY_LIMIT,
                 coordinate_length=None, work_length=None):
     """The coordinates of a chain of dimension p; None is a chain of no whole length."""
     sheet = admit(data, p, count_limit)
-    n = sheet.count(p)
-    if shorter(coordinate_length, n) or shorter(work_length, work_slots(sheet, p)):
+    if shorter(coordinate_length, sheet.count(p)) or shorter(work_length, work_slots(sheet, p)):
         raise Refused(9)
-    if chain is None or len(chain) != n:
-        raise Refused(10)
-    if any(abs(x) > COEFFICIENT_LIMIT for x in chain):
-        raise Refused(11)
-    if not is_cycle(sheet, p, chain):
-        raise Refused(12)
+    check_cycle(sheet, p, chain, COEFFICIENT_LIMIT)
     return coordinate_list(reduced(sheet, p, limit), chain)
 
 

@@ -44,6 +44,19 @@ def open_tower(floors):
     return tower(floors)[1:]
 
 
+def closed_tower(floors):
+    """The doubling tower with a triangle at both ends: one cavity, in which the last triangle is taken 2 ** floors times."""
+    facets = tower(floors)
+    last = vertex_count(facets) - 1
+    return facets + [(last - 2, last - 1, last)]
+
+
+def turned(facets):
+    """The facets with their vertices numbered from the other end."""
+    last = vertex_count(facets) - 1
+    return [tuple(last - v for v in facet) for facet in facets]
+
+
 def torus():
     """Moebius' torus with 7 vertices."""
     return [tuple((i + step) % 7 for step in steps)
