@@ -7,7 +7,7 @@ that a case that is left out, changed or added is told. The table must be all ca
 """
 
 from model import calls, homology
-from model.headroom import bits, peak
+from model.headroom import bits, largest, peak, whole
 from model.sheet import LIBRARY_COUNT_LIMIT, PROGRAM_COUNT_LIMIT, from_facets, layout, parse, refusal
 from tables import CRATES, Tables
 
@@ -121,8 +121,8 @@ def due(call):
     if number:
         return {"answer": ("refused", number), "output": after, "work": work}
     found = homology.classes(parse(data, LIBRARY_COUNT_LIMIT), p, tracked=asked[0] == "surface")
-    largest = peak(found.first, found.second)
-    counts = {"free": found.kinds.count(homology.FREE), "torsion": sum(kind > 1 for kind in found.kinds), "peak": largest, "bits": bits(largest)}
+    top = max(peak(found.first, found.second), largest(whole(found.second.held["column"])))
+    counts = {"free": found.kinds.count(homology.FREE), "torsion": sum(kind > 1 for kind in found.kinds), "peak": top, "bits": bits(top)}
     return {"answer": ("done", counts), "output": after, "work": work}
 
 
