@@ -7,8 +7,8 @@ that a case that is left out, changed or added is told. The table must be all ca
 """
 
 from model import calls, homology
-from model.headroom import bits
-from model.sheet import LIBRARY_COUNT_LIMIT, PROGRAM_COUNT_LIMIT, from_facets, layout, refusal
+from model.headroom import bits, largest, peak, whole
+from model.sheet import LIBRARY_COUNT_LIMIT, PROGRAM_COUNT_LIMIT, from_facets, layout, parse, refusal
 from tables import CRATES, Tables
 
 NO_CELLS = from_facets([])
@@ -22,6 +22,7 @@ REVERSED = layout([[(0,), (1,)], [(1, 0)], [], []])
 
 REPORT = ("report",)
 BACKWARDS, TWICE, OPEN, WIDE = [-1, 1, -1], [2, -2, 2], [1, 0, 0], [32768, 0, 0]
+FIFTEEN_TIMES, SIXTEEN_TIMES = [15, -15, 15], [16, -16, 16]
 
 
 def chain(*coefficients):
@@ -32,6 +33,16 @@ def chain(*coefficients):
 def many(number, coefficients=()):
     """The lists of so many chains are asked."""
     return ("lists", number, list(coefficients))
+
+
+def surface(*coefficients):
+    """The surface that a chain bounds is asked."""
+    return ("surface", list(coefficients))
+
+
+def back(coefficients):
+    """A chain run backwards."""
+    return [-x for x in coefficients]
 
 
 # Document 01, "Sheets to try": the words of each starred item; its calls; and what the words say of each, a refusal or the numbers written.
@@ -75,6 +86,21 @@ BESIDE = [
      [(HOLLOW, 1, many(2, BACKWARDS + TWICE), 5, 27), (HOLLOW, 1, many(2**64 - 1), 6, 27), (HOLLOW, 1, many((2**64 + 2) // 3, [0, 0]), 2, 27)]),
     ("The first faulty chain decides between 11 and 12",
      [(HOLLOW, 1, many(2, OPEN + WIDE), 6, 27), (HOLLOW, 1, many(2, WIDE + OPEN), 6, 27), (HOLLOW, 1, many(2, TWICE + OPEN), 6, 27)]),
+    ("The answer sums, over the pivots, the tracked column times its row of Q times the chain, over the pivot",
+     [(FILLED, 1, surface(1, -1, 1), 3, 30), (EDGE, 0, surface(-1, 1), 2, 11), (EDGE, 0, surface(7, -7), 1, 12)]
+     + [(HOLLOW, 1, surface(0, 0, 0), slots, 27) for slots in (2, 0)] + [(FILLED, 3, surface(), 2, 3)] + [(NO_CELLS, p, surface(), 2, 3) for p in range(4)]),
+    ("Coefficients lie within 15 either way here; check 11 uses that limit in this call",
+     [(FILLED, 1, surface(*times), 1, 28) for times in (FIFTEEN_TIMES, back(FIFTEEN_TIMES), SIXTEEN_TIMES, back(SIXTEEN_TIMES), [0, 0, -16])]
+     + [(FILLED, 1, chain(*times), 3, 27) for times in (FIFTEEN_TIMES, SIXTEEN_TIMES)]),
+    ("Check 9 wants n_(p+1) answer slots .. and n_(p+1) × n_(p+1) more work slots",
+     [(FILLED, 1, surface(1, -1, 1), 0, 28), (FILLED, 1, surface(1, -1, 1), 1, 27), (EDGE, 0, surface(1), 2, 10)]),
+    ("17, after 13, told exactly when the cycle bounds no chain with whole coefficients",
+     [(HOLLOW, 1, surface(1, -1, 1), 2, 28), (HOLLOW, 1, surface(*back(FIFTEEN_TIMES)), 0, 27), (EDGE, 0, surface(1, 0), 2, 11),
+      (EDGE, 0, surface(1, 1), 2, 11), (ONE_VERTEX, 0, surface(-1), 1, 2)]),
+    ("The refusals before it, in the surface call",
+     [(FIFTEEN, 0, surface(-1, 1), 1, 11), (REVERSED, 0, surface(-1, 1), 1, 11), (WITHOUT_VERTEX, 0, surface(1), 1, 11),
+      (FILLED, 4, surface(1, -1, 1), 1, 28), (FILLED, 4, surface(1, -1, 1), 0, 27), (FILLED, 1, surface(1, -1), 1, 28),
+      (FILLED, 1, surface(1, -1, 1, 0), 1, 28), (FILLED, 1, surface(16), 1, 28), (FILLED, 1, surface(*OPEN), 1, 28), (HOLLOW, 1, surface(*OPEN), 2, 27)]),
 ]
 # The sheets of the starred items, as crate sheet_format has them in its table.
 SHEETS = [NO_CELLS, ONE_VERTEX, EDGE, HOLLOW, FILLED, FIFTEEN, REVERSED, WITHOUT_VERTEX]
@@ -88,12 +114,15 @@ def due(call):
         number, after, work = calls.library_report(data, p, lent, work)
     elif asked[0] == "coordinates":
         number, after, work = calls.library_coordinates(data, p, asked[1], lent, work)
+    elif asked[0] == "surface":
+        number, after, work = calls.library_surface(data, p, asked[1], lent, work)
     else:
         number, after, work = calls.library_coordinate_lists(data, p, asked[1], asked[2], lent, work)
     if number:
         return {"answer": ("refused", number), "output": after, "work": work}
-    report = homology.report(data, p)
-    counts = {"free": report.numbers()[0], "torsion": report.numbers()[1], "peak": report.peak, "bits": bits(report.peak)}
+    found = homology.classes(parse(data, LIBRARY_COUNT_LIMIT), p, tracked=asked[0] == "surface")
+    top = max(peak(found.first, found.second), largest(whole(found.second.held["column"])))
+    counts = {"free": found.kinds.count(homology.FREE), "torsion": sum(kind > 1 for kind in found.kinds), "peak": top, "bits": bits(top)}
     return {"answer": ("done", counts), "output": after, "work": work}
 
 

@@ -2,7 +2,8 @@
 """Writes the data of the crates projective_plane and moore_space: sheets with one loop of finite order.
 
 The sheet, what its two reductions of dimension 1 leave, its report, the coordinates of its
-generator and of multiples of it, and the lines that the program prints are the model's.
+generator and of multiples of it, the surface that such a multiple bounds, and the lines that
+the program prints are the model's.
 """
 
 import argparse
@@ -11,11 +12,12 @@ from pathlib import Path
 
 from make_reduction_examples import Case, numbers, table
 from model import homology
-from model.calls import program_output
-from model.matrices import boundary, identity, multiply
+from model.calls import BOUNDS_NOTHING, DONE, library_surface, program_output
+from model.matrices import apply, boundary, identity, multiply, transpose
 from model.meshes import moore_space, tower
 from model.reduction import ENTRY_LIMIT
 from model.sheet import LIBRARY_COUNT_LIMIT, closure, from_facets, parse
+from model.surface import work_slots
 
 DIMENSION = 1
 SECTIONS = ("vertices", "edges", "triangles", "tetrahedra")
@@ -44,20 +46,21 @@ class Multiple:
 
 @dataclass(frozen=True)
 class Example:
-    """A sheet, what it is, the file of its data and the loop with its multiples."""
+    """A sheet, what it is, the file of its data, the loop with its multiples, and the one of them whose surface is asked for."""
 
     file: str
     text: str
     facets: list
     chains: list
+    bounding: Multiple = None
 
 
 LOOP = Multiple("loop", "the generator, a loop", 1, 1)
+TWICE = Multiple("twice", "twice the loop", 2, 0)
 EXAMPLES = [
     Example("projective_plane/specs/Plane.antt",
             'The doubling tower with one floor of document 01, "Sheets to try": a projective plane', tower(1),
-            [LOOP, Multiple("twice", "twice the loop", 2, 0),
-             Multiple("backwards", "the loop run backwards", -1, 1)]),
+            [LOOP, TWICE, Multiple("backwards", "the loop run backwards", -1, 1)], TWICE),
     Example("moore_space/specs/Space.antt",
             "A disc whose rim runs three times round a triangle: a Moore space of order 3", moore_space(3),
             [LOOP, Multiple("twice", "twice the loop", 2, -1),
@@ -93,8 +96,8 @@ def definition(about, name, kind, value):
     return f"\n-- {about}\nabbrev pub {name} : {kind}\n{name} =\n    {value}\n"
 
 
-def peak_of(sheet):
-    """The largest absolute value that an entry of the two reductions has had."""
+def peak_of(sheet, tracked=()):
+    """The largest absolute value that an entry of the two reductions has had, those of the columns tracked in the second included."""
     n, above = sheet.count(DIMENSION), sheet.count(DIMENSION + 1)
     first = Case("the first", sheet.count(DIMENSION - 1), n, boundary(sheet, DIMENSION), ENTRY_LIMIT,
                  {"column": identity(n), "column_inverse": identity(n)})
@@ -102,7 +105,7 @@ def peak_of(sheet):
     q = made.column_inverse[made.rank:]
     g = [row[made.rank:] for row in made.column]
     second = Case("the second", n - made.rank, above, multiply(q, boundary(sheet, DIMENSION + 1), above),
-                  ENTRY_LIMIT, {"row": q, "row_inverse": g})
+                  ENTRY_LIMIT, {"row": q, "row_inverse": g, **{name: identity(above) for name in tracked}})
     return max(first.peak(), second.peak())
 
 
@@ -146,6 +149,29 @@ def chains(example, data, loop):
         yield definition(one.text, one.name, "List ℤ", numbers(chain))
 
 
+def surfaces(example, data, loop):
+    """What the second reduction leaves where its columns are tracked, and the surface that a multiple of the loop bounds."""
+    if example.bounding is None:
+        return
+    sheet = parse(data, LIBRARY_COUNT_LIMIT)
+    above = sheet.count(DIMENSION + 1)
+    lent, work = [0] * above, [0] * work_slots(sheet, DIMENSION)
+    chain = times(example.bounding.factor, loop)
+    number, surface, _ = library_surface(data, DIMENSION, chain, lent, work)
+    assert number == DONE and apply(boundary(sheet, DIMENSION + 1), surface) == chain, example.text
+    assert library_surface(data, DIMENSION, loop, lent, work)[0] == BOUNDS_NOTHING, example.text
+    found = homology.classes(sheet, DIMENSION, tracked=True)
+    yield definition("what it leaves where the transform of its columns is kept", "tracked", "State", "record {\n"
+                     "      matrix = left .matrix;\n"
+                     "      rowFollower = left .rowFollower;\n"
+                     "      rowInverse = left .rowInverse;\n"
+                     f"      columnFollower ={tall(transpose(found.second.column, above))};\n"
+                     "      columnInverse = left .columnInverse;\n"
+                     f"      peak = {peak_of(sheet, ('column',))};\n"
+                     "    }")
+    yield definition(f"the surface that {example.bounding.text} bounds", "surface", "List ℤ", numbers(surface))
+
+
 def content(example):
     """The text of a file."""
     data = from_facets(example.facets)
@@ -160,6 +186,7 @@ def content(example):
         definition("what the second reduction leaves", "left", "State", left),
         definition("b, t, the orders and the generator", "report", "List ℤ", numbers(report.numbers())),
         *chains(example, data, report.generators[0]),
+        *surfaces(example, data, report.generators[0]),
         definition(", then ".join(text.splitlines()), "text", "List ℕ", bytes_of(text.encode())),
     ])
 

@@ -19,6 +19,7 @@ BUILT_IN = {
     "report": lambda: ("report",),
     "coordinates": lambda chain: ("coordinates", chain),
     "lists": lambda number, chains: ("lists", number, chains),
+    "surface": lambda chain: ("surface", chain),
     "done": lambda counts: ("done", counts),
     "refused": lambda number: ("refused", number),
 }

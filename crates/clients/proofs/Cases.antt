@@ -1,4 +1,5 @@
--- The hollow triangle written out, from what the contract of a call says: the call of the definition and what was answered and left are the same.
+-- The hollow and the filled triangle written out, from what the contract of a call says: the call of the definition and what was answered and left are the
+-- same.
 use mathlib.Core.Path.{_≡_, sym, _∙_, ap, subst}
 use mathlib.Core.List.{List, _++_}
 use Prim.Native.Nat.{ℕ, _+_}
@@ -13,16 +14,17 @@ use Rattle.trials.specs.Trial.{Answer, Called}
 use Rattle.sheet_format.specs.Starred.{hollowTriangle}
 use Rattle.reports.specs.Report.{Counts}
 use Rattle.requests.specs.Question.{asked}
-use Rattle.requests.specs.Call.{report, coordinates, lists, call}
-use Rattle.host_calls.specs.Host.{HostCalled, hostCall, coordinatesIn, listsIn}
+use Rattle.requests.specs.Call.{report, coordinates, lists, surface, call}
+use Rattle.host_calls.specs.Host.{HostCalled, hostCall, coordinatesIn, listsIn, surfaceIn}
 use Rattle.program_text.specs.Text.{programText}
 use Rattle.program_text.specs.Examples.{textGood, textGood-eq, text-examples}
 use Rattle.text.specs.Put.{PutsWithin}
 use Rattle.text.specs.Room.{textRoom}
 use Rattle.library_host.specs.LibraryAnswers.{told, HeadroomLeft}
 use Rattle.clients.specs.Hollow.{reportDone, reportRefused, hollowText}
-use Rattle.clients.specs.Used.{Gives, Numbers, HeadroomUsed, PrintUsed, ReportUsed, CoordinatesUsed, ListsUsed, HostGives, HostReportUsed, HostCoordinatesUsed, HostListsUsed}
+use Rattle.clients.specs.Used.{Gives, Numbers, HeadroomUsed, PrintUsed, ReportUsed, CoordinatesUsed, ListsUsed, SurfaceUsed, HostGives, HostReportUsed, HostCoordinatesUsed, HostListsUsed, HostSurfaceUsed}
 use Rattle.clients.proofs.Hollow.{report-done, report-refused, coordinates-done, coordinates-refused, lists-done, lists-refused, host-report-done, host-report-refused, host-coordinates-done, host-coordinates-refused, host-lists-done, host-lists-refused}
+use Rattle.clients.proofs.Surfaces.{surfaces}
 
 -- ---- the library's calls: `says` turns the definition's call into what the client has in hand
 
@@ -44,6 +46,13 @@ module _ {Says : Called Counts ℤ → Type 0} {s : List ℕ} {p : ℕ} {o w : L
   lists-used says = record {
     written = λ es ep en ec eo ew. says _ ((λ i. call libraryLimit (asked (es i) (ep i)) (lists (en i) (ec i)) (eo i) (ew i)) ∙ lists-done);
     refused = λ es ep en ec eo ew. says _ ((λ i. call libraryLimit (asked (es i) (ep i)) (lists (en i) (ec i)) (eo i) (ew i)) ∙ lists-refused);
+  }
+
+  pub surface-used : {z : List ℤ} → ((called : Called Counts ℤ) → call libraryLimit (asked s p) (surface z) o w ≡ called → Says called) → SurfaceUsed Says s p o w z
+  surface-used says = record {
+    written = λ es ep ez eo ew. says _ ((λ i. call libraryLimit (asked (es i) (ep i)) (surface (ez i)) (eo i) (ew i)) ∙ surfaces .done);
+    refused = λ es ep ez eo ew. says _ ((λ i. call libraryLimit (asked (es i) (ep i)) (surface (ez i)) (eo i) (ew i)) ∙ surfaces .refused);
+    nothing = λ es ep ez eo ew. says _ ((λ i. call libraryLimit (asked (es i) (ep i)) (surface (ez i)) (eo i) (ew i)) ∙ surfaces .nothing);
   }
 
 -- what the library's calls say, and their exports with a number
@@ -92,6 +101,13 @@ module _ {s : List ℕ} {p : ℕ} {o : List ℕ} {r : ℕ} {o′ : List ℕ} whe
   host-lists-used is = record {
     written = λ es ep en ec eo. host-gives is ((λ i. hostCall (asked (es i) (ep i)) (listsIn (asked (es i) (ep i)) (en i) (ec i)) (eo i)) ∙ host-lists-done);
     refused = λ es ep en ec eo. host-gives is ((λ i. hostCall (asked (es i) (ep i)) (listsIn (asked (es i) (ep i)) (en i) (ec i)) (eo i)) ∙ host-lists-refused);
+  }
+
+  pub host-surface-used : {z : List ℕ} → hostCall (asked s p) (surfaceIn (asked s p) z) o ≡ record { number = r; output = o′ } → HostSurfaceUsed s p o r o′ z
+  host-surface-used is = record {
+    written = λ es ep ez eo. host-gives is ((λ i. hostCall (asked (es i) (ep i)) (surfaceIn (asked (es i) (ep i)) (ez i)) (eo i)) ∙ surfaces .hostDone);
+    refused = λ es ep ez eo. host-gives is ((λ i. hostCall (asked (es i) (ep i)) (surfaceIn (asked (es i) (ep i)) (ez i)) (eo i)) ∙ surfaces .hostRefused);
+    nothing = λ es ep ez eo. host-gives is ((λ i. hostCall (asked (es i) (ep i)) (surfaceIn (asked (es i) (ep i)) (ez i)) (eo i)) ∙ surfaces .hostNothing);
   }
 
 -- ---- the program

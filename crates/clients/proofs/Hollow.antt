@@ -19,7 +19,7 @@ use Rattle.reduction_steps.specs.Lines.{onList, lineLess, onLines, onEntries}
 use Rattle.reduction_steps.specs.State.{State, largest, rowOperation, columnOperation, within, checked, andThen, onRow, onColumn}
 use Rattle.reduction_steps.specs.Pivot.{better, alongRow, downRows, release1}
 use Rattle.reduction_steps.specs.Step.{columnKeeps, rowKeeps, rowIndivisible, firstIndivisible, positive, bring, quotient, rowPass, columnPass, next, step, run, reduce}
-use Rattle.reports.specs.Reductions.{reduced, firstStart, product, secondStart, afterSecond, second, afterFirst, reductions}
+use Rattle.reports.specs.Reductions.{reduced, noTransforms, firstStart, product, secondStart, afterSecond, second, afterFirst, reductions}
 use Rattle.reports.specs.Report.{reported, columnsOf, torsionCount, halvings, bitsOf, reportList, coordinateAt, coordinateList}
 use Rattle.requests.specs.Question.{Question, asked, cells, rule, two}
 use Rattle.requests.specs.Chains.{coefficientExceeds, boundaryNotZero, chainChecks, cyclesChecks, chainsChecks}
@@ -42,7 +42,7 @@ left = record {
   peak = 1;
 }
 
-hollow-reduced : two hollow ≡ reduced 1 0 left
+hollow-reduced : two hollow noTransforms ≡ reduced 1 0 left
 unfolding cells rule two reductions firstStart afterFirst second product secondStart afterSecond countBelow boundary coefficient sign
     countField cellOf cellsOf sectionsOf without same start
     reduce run step next bring positive quotient rowPass columnPass columnKeeps rowKeeps rowIndivisible firstIndivisible

@@ -1,3 +1,4 @@
--- From what the calls promise to what they answer and leave on the hollow triangle.
+-- From what the calls promise to what they answer and leave on the hollow and the filled triangle.
 mod Hollow
+mod Surfaces
 mod Cases

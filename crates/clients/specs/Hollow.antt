@@ -17,22 +17,28 @@ lent n = replicate n 9
 abbrev minus : ℕ → ℤ
 minus n = negℤ (pos n)
 
--- the loop run backwards, the loop before it, and one edge
+-- the loop, the loop run backwards, both, and one edge
+abbrev pub loop : List ℤ
+loop = pos 1 ∷ minus 1 ∷ pos 1 ∷ []
+
 abbrev pub backwards : List ℤ
 backwards = minus 1 ∷ pos 1 ∷ minus 1 ∷ []
 
 abbrev pub both : List ℤ
-both = pos 1 ∷ minus 1 ∷ pos 1 ∷ backwards
+both = loop ++ backwards
 
 abbrev pub edge : List ℤ
 edge = pos 1 ∷ pos 0 ∷ pos 0 ∷ []
 
 -- the same in bytes
+abbrev pub loopBytes : List ℕ
+loopBytes = 1 ∷ 0 ∷ 0 ∷ 0 ∷ 255 ∷ 255 ∷ 255 ∷ 255 ∷ 1 ∷ 0 ∷ 0 ∷ 0 ∷ []
+
 abbrev pub backwardsBytes : List ℕ
 backwardsBytes = 255 ∷ 255 ∷ 255 ∷ 255 ∷ 1 ∷ 0 ∷ 0 ∷ 0 ∷ 255 ∷ 255 ∷ 255 ∷ 255 ∷ []
 
 abbrev pub bothBytes : List ℕ
-bothBytes = 1 ∷ 0 ∷ 0 ∷ 0 ∷ 255 ∷ 255 ∷ 255 ∷ 255 ∷ 1 ∷ 0 ∷ 0 ∷ 0 ∷ backwardsBytes
+bothBytes = loopBytes ++ backwardsBytes
 
 abbrev pub edgeBytes : List ℕ
 edgeBytes = 1 ∷ 0 ∷ 0 ∷ 0 ∷ 0 ∷ 0 ∷ 0 ∷ 0 ∷ 0 ∷ 0 ∷ 0 ∷ 0 ∷ []
@@ -41,7 +47,7 @@ edgeBytes = 1 ∷ 0 ∷ 0 ∷ 0 ∷ 0 ∷ 0 ∷ 0 ∷ 0 ∷ 0 ∷ 0 ∷ 0 ∷ 0 
 abbrev pub loops : Counts
 loops = record { free = 1; torsion = 0; peak = 1; bits = 1 }
 
--- ---- the library's calls, with 16, 4 and 7 slots for the answer and 30 for the work
+-- ---- the library's calls, with 16, 4, 7 and 2 slots for the answer and 30 for the work
 
 abbrev pub reportDone : Called Counts ℤ
 reportDone = record { answer = done loops; output = pos 1 ∷ pos 0 ∷ pos 1 ∷ minus 1 ∷ pos 1 ∷ nines 11; work = replicate 30 (pos 0) }
@@ -61,9 +67,13 @@ listsDone = record { answer = done loops; output = pos 1 ∷ pos 9 ∷ pos 9 ∷
 abbrev pub listsRefused : Called Counts ℤ
 listsRefused = record { answer = refused 10; output = nines 7; work = nines 30 }
 
--- ---- the host calls, with 118, 29 and 51 bytes
+-- the loop bounds nothing: the work slice reads 0 all the same
+abbrev pub nothingBounded : Called Counts ℤ
+nothingBounded = record { answer = refused 17; output = nines 2; work = replicate 30 (pos 0) }
 
-abbrev one : List ℕ
+-- ---- the host calls, with 118, 29, 51 and 13 bytes
+
+abbrev pub one : List ℕ
 one = 1 ∷ 0 ∷ 0 ∷ 0 ∷ 0 ∷ 0 ∷ 0 ∷ 0 ∷ []
 
 abbrev minusOne : List ℕ
@@ -86,6 +96,9 @@ hostListsDone = record { number = 0; output = one ++ (lent 16 ++ (minusOne ++ le
 
 abbrev pub hostListsRefused : HostCalled
 hostListsRefused = record { number = 10; output = lent 51 }
+
+abbrev pub hostNothingBounded : HostCalled
+hostNothingBounded = record { number = 17; output = lent 13 }
 
 -- ---- the program: H 0 1 0, G 0 0 1, H 1 1 0, G 1 -1 1, H 2 0 0, H 3 0 0
 

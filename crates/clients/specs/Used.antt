@@ -1,16 +1,17 @@
--- What a client of a public call is promised: where it was called on the hollow triangle with these slices, it answered and left what `Hollow` has; a call
--- of the library with its answer, one of the library's exports with a number, and one of the host with its bytes.
+-- What a client of a public call is promised: where it was called on the hollow or the filled triangle with these slices, it answered and left what
+-- `Hollow` and `Filled` have; a call of the library with its answer, one of the library's exports with a number, and one of the host with its bytes.
 use mathlib.Core.Path.{_≡_}
 use mathlib.Core.List.{List, _++_}
 use Prim.Native.Nat.{ℕ}
 use lib.ListN.{length, take, drop}
 use lib.IntN.{ℤ}
 use Rattle.trials.specs.Trial.{Answer, numberTold, Called}
-use Rattle.sheet_format.specs.Starred.{hollowTriangle}
+use Rattle.sheet_format.specs.Starred.{hollowTriangle, filledTriangle}
 use Rattle.reports.specs.Report.{Counts}
 use Rattle.host_calls.specs.Host.{HostCalled}
 use Rattle.program_text.specs.Text.{programText}
-use Rattle.clients.specs.Hollow.{nines, lent, backwards, both, edge, backwardsBytes, bothBytes, edgeBytes, reportDone, reportRefused, coordinatesDone, coordinatesRefused, listsDone, listsRefused, hostReportDone, hostReportRefused, hostCoordinatesDone, hostCoordinatesRefused, hostListsDone, hostListsRefused, hollowText}
+use Rattle.clients.specs.Hollow.{nines, lent, loop, backwards, both, edge, loopBytes, backwardsBytes, bothBytes, edgeBytes, reportDone, reportRefused, coordinatesDone, coordinatesRefused, listsDone, listsRefused, nothingBounded, hostReportDone, hostReportRefused, hostCoordinatesDone, hostCoordinatesRefused, hostListsDone, hostListsRefused, hostNothingBounded, hollowText}
+use Rattle.clients.specs.Filled.{surfaceDone, surfaceRefused, hostSurfaceDone, hostSurfaceRefused}
 
 -- ---- the library's calls, by what they say of an answer and two slices
 
@@ -35,6 +36,11 @@ module _ (Says : Called Counts ℤ → Type 0) (sheet : List ℕ) (p : ℕ) (out
     pub written : sheet ≡ hollowTriangle → p ≡ 1 → many ≡ 2 → chains ≡ both → output ≡ nines 7 → work ≡ nines 30 → Says listsDone
     pub refused : sheet ≡ hollowTriangle → p ≡ 1 → many ≡ 2 → chains ≡ edge → output ≡ nines 7 → work ≡ nines 30 → Says listsRefused
 
+  pub record SurfaceUsed (chain : List ℤ) : Type 0 where
+    pub written : sheet ≡ filledTriangle → p ≡ 1 → chain ≡ loop → output ≡ nines 2 → work ≡ nines 30 → Says surfaceDone
+    pub refused : sheet ≡ filledTriangle → p ≡ 1 → chain ≡ edge → output ≡ nines 2 → work ≡ nines 30 → Says surfaceRefused
+    pub nothing : sheet ≡ hollowTriangle → p ≡ 1 → chain ≡ loop → output ≡ nines 2 → work ≡ nines 30 → Says nothingBounded
+
 -- ---- the host calls
 
 abbrev pub HostGives : ℕ → List ℕ → HostCalled → Type 0
@@ -52,6 +58,11 @@ module _ (sheet : List ℕ) (p : ℕ) (output : List ℕ) (r : ℕ) (output′ :
   pub record HostListsUsed (many : ℕ) (chains : List ℕ) : Type 0 where
     pub written : sheet ≡ hollowTriangle → p ≡ 1 → many ≡ 2 → chains ≡ bothBytes → output ≡ lent 51 → HostGives r output′ hostListsDone
     pub refused : sheet ≡ hollowTriangle → p ≡ 1 → many ≡ 2 → chains ≡ edgeBytes → output ≡ lent 51 → HostGives r output′ hostListsRefused
+
+  pub record HostSurfaceUsed (chain : List ℕ) : Type 0 where
+    pub written : sheet ≡ filledTriangle → p ≡ 1 → chain ≡ loopBytes → output ≡ lent 13 → HostGives r output′ hostSurfaceDone
+    pub refused : sheet ≡ filledTriangle → p ≡ 1 → chain ≡ edgeBytes → output ≡ lent 13 → HostGives r output′ hostSurfaceRefused
+    pub nothing : sheet ≡ hollowTriangle → p ≡ 1 → chain ≡ loopBytes → output ≡ lent 13 → HostGives r output′ hostNothingBounded
 
 -- ---- headroom: the peak and the bits are written where the call is done, and left where it is refused
 

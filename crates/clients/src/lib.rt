@@ -1,15 +1,17 @@
 // Clients of the public calls but the import: each calls one and nothing else, and its contract says what the call's own contract gives on the hollow
-// triangle, written out.
+// triangle, of the surface calls on the filled one too, written out.
 ghost use Rattle.calls.specs.CallAnswers.{answered};
-ghost use Rattle.clients.specs.Used.{Gives, Numbers, ReportUsed, CoordinatesUsed, ListsUsed, HostReportUsed, HostCoordinatesUsed, HostListsUsed, HeadroomUsed, PrintUsed};
+ghost use Rattle.clients.specs.Used.{Gives, Numbers, ReportUsed, CoordinatesUsed, ListsUsed, SurfaceUsed, HostReportUsed, HostCoordinatesUsed, HostListsUsed, HostSurfaceUsed, HeadroomUsed, PrintUsed};
 use calls::answer::Answer;
 use fildwuk::fildwuk_coordinate_lists;
 use fildwuk::fildwuk_coordinates;
 use fildwuk::fildwuk_report;
+use fildwuk::fildwuk_surface;
 use library_host::fildwuk_library_coordinate_lists;
 use library_host::fildwuk_library_coordinates;
 use library_host::fildwuk_library_headroom;
 use library_host::fildwuk_library_report;
+use library_host::fildwuk_library_surface;
 use printer::print_input;
 use printer::room::INPUT_ROOM;
 use printer::room::TEXT_ROOM;
@@ -58,6 +60,23 @@ pub fn use_lists(
         ⌝ }
 {
     calls::coordinates::coordinate_lists(sheet, dimension, many, chains, coordinates, work)
+}
+
+// The library's surface.
+pub fn use_surface(
+    sheet: &[u8],
+    dimension: u32,
+    chain: &[i32],
+    surface: &mut [i64],
+    work: &mut [i32],
+) -> Answer
+    ensures { λ r.
+        let left = now (surface .exit) in
+        let work-left = now (work .exit) in ⌜
+        SurfaceUsed (Gives (answered r) left work-left) (now (sheet .entry)) dimension (now (surface .entry)) (now (work .entry)) (now (chain .entry))
+        ⌝ }
+{
+    calls::surface::surface(sheet, dimension, chain, surface, work)
 }
 
 // The library's report for C.
@@ -127,6 +146,23 @@ pub fn use_library_lists(
     fildwuk_library_coordinate_lists(sheet, dimension, many, chains, coordinates, work)
 }
 
+// The library's surface for C.
+pub fn use_library_surface(
+    sheet: &[u8],
+    dimension: u32,
+    chain: &[i32],
+    surface: &mut [i64],
+    work: &mut [i32],
+) -> u32
+    ensures { λ r.
+        let left = now (surface .exit) in
+        let work-left = now (work .exit) in ⌜
+        SurfaceUsed (Numbers r left work-left) (now (sheet .entry)) dimension (now (surface .entry)) (now (work .entry)) (now (chain .entry))
+        ⌝ }
+{
+    fildwuk_library_surface(sheet, dimension, chain, surface, work)
+}
+
 // The host's report.
 pub fn use_host_report(sheet: &[u8], dimension: u32, report: &mut [u8]) -> u32
     ensures { λ r. ⌜ HostReportUsed (now (sheet .entry)) dimension (now (report .entry)) r (now (report .exit)) ⌝ }
@@ -157,6 +193,13 @@ pub fn use_host_lists(
     ensures { λ r. ⌜ HostListsUsed (now (sheet .entry)) dimension (now (coordinates .entry)) r (now (coordinates .exit)) many (now (chains .entry)) ⌝ }
 {
     fildwuk_coordinate_lists(sheet, dimension, many, chains, coordinates)
+}
+
+// The host's surface.
+pub fn use_host_surface(sheet: &[u8], dimension: u32, chain: &[u8], surface: &mut [u8]) -> u32
+    ensures { λ r. ⌜ HostSurfaceUsed (now (sheet .entry)) dimension (now (surface .entry)) r (now (surface .exit)) (now (chain .entry)) ⌝ }
+{
+    fildwuk_surface(sheet, dimension, chain, surface)
 }
 
 // The program's text.

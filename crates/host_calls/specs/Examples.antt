@@ -27,19 +27,21 @@ use Rattle.reduction_steps.specs.Step.{columnKeeps, rowKeeps, rowIndivisible, f
 use Rattle.sheet_format.specs.Starred.{hollowTriangle}
 use Rattle.reports.specs.Reductions.{firstStart, product, secondStart, afterSecond, second, afterFirst, reductions}
 use Rattle.reports.specs.Report.{reported, columnsOf, torsionCount, reportList, coordinateAt, coordinateList}
+use Rattle.reports.specs.Surface.{boundsNothing, surfaceAt, surfaceList}
 use Rattle.requests.specs.Question.{asked, cells, rule, two}
 use Rattle.requests.specs.Chains.{coefficientExceeds, boundaryNotZero, chainChecks, cyclesChecks, chainsChecks}
 use Rattle.requests.specs.Call.{report, callChecks, earlyChecks}
 use Rattle.host_calls.specs.Bytes.{lowBytes, numberBytes, numbersBytes, coefficientAt, otherLength, chainFrom}
-use Rattle.host_calls.specs.Host.{HostCalled, hostCall, coordinatesIn, listsIn}
+use Rattle.host_calls.specs.Host.{HostCalled, hostCall, coordinatesIn, listsIn, surfaceIn}
 use Rattle.host_calls.specs.HostListsLaws.{host-no-cells}
-use Rattle.host_calls.specs.HostCases.{HostRequest, reportOf, coordinatesOf, listsOf, HostCase, hostCases}
+use Rattle.host_calls.specs.HostCases.{HostRequest, reportOf, coordinatesOf, listsOf, surfaceOf, HostCase, hostCases}
 
 -- what a request on the hollow triangle gives
 unfoldable pub called : ℕ → HostRequest → List ℕ → HostCalled
 called p reportOf output = hostCall (asked hollowTriangle p) report output
 called p (coordinatesOf chain) output = hostCall (asked hollowTriangle p) (coordinatesIn (asked hollowTriangle p) chain) output
 called p (listsOf many chains) output = hostCall (asked hollowTriangle p) (listsIn (asked hollowTriangle p) many chains) output
+called p (surfaceOf chain) output = hostCall (asked hollowTriangle p) (surfaceIn (asked hollowTriangle p) chain) output
 
 unfoldable pub sameCalled : HostCalled → HostCalled → Bool
 sameCalled x y = eqb (x .number) (y .number) && sameList eqb (x .output) (y .output)
@@ -66,7 +68,7 @@ unfolding every sameList hostGood called sameCalled
     release1 downRows alongRow better onRow onColumn checked andThen within largest rowOperation columnOperation onLines onEntries onList lineLess tableWithin tableLargest rowLargest table
     inverse identity null mul apply sum floor modulo residue divides tabulate reported torsionCount
     hostCall earlyChecks callChecks chainChecks coefficientExceeds boundaryNotZero chainsChecks cyclesChecks splices splice
-    chainFrom otherLength coefficientAt numbersBytes numberBytes lowBytes reportList coordinateList coordinateAt columnsOf
+    chainFrom otherLength coefficientAt numbersBytes numberBytes lowBytes reportList coordinateList coordinateAt columnsOf boundsNothing surfaceList surfaceAt
 host-examples = tt
 
 -- where there are no cells, as many chains as the host call can be asked for are done

@@ -13,7 +13,7 @@ use Rattle.requests.specs.Call.{Request, call}
 use Rattle.limits.specs.Limits.{libraryLimit}
 use Rattle.starred.specs.Same.{sameCalled, sameCalled-eq}
 
--- `output` is the slice lent for the report or the coordinates; it and `work` stand as they are lent
+-- `output` is the slice lent for the report, the coordinates or the surface; it and `work` stand as they are lent
 pub record Call : Type 0 where
   pub sheet : List ℕ
   pub dimension : ℕ

@@ -1,5 +1,5 @@
--- `starred-sheets-and-calls`: the report call and the coordinate calls are good on every case of the table, which holds the starred sheets of
--- document 01 and calls on many chains. By `good-eq` of `Case`, a good case has exactly the answer, the output slice and the work slice expected.
+-- `starred-sheets-and-calls`: the calls are good on every case of the table, which holds the starred sheets of document 01, calls on many chains and calls
+-- for a surface. By `good-eq` of `Case`, a good case has exactly the answer, the output slice and the work slice expected.
 -- `largest-number`: where there are no cells, as many chains as 64 bits can count are done.
 use mathlib.Core.Path.{_≡_, refl}
 use mathlib.Core.List.{List, [], _++_}
@@ -25,6 +25,7 @@ use Rattle.reduction_steps.specs.Pivot.{better, alongRow, downRows, release1}
 use Rattle.reduction_steps.specs.Step.{columnKeeps, rowKeeps, rowIndivisible, firstIndivisible, positive, bring, quotient, rowPass, columnPass, next, step, run, reduce}
 use Rattle.reports.specs.Reductions.{firstStart, product, secondStart, afterSecond, second, afterFirst, reductions}
 use Rattle.reports.specs.Report.{reported, columnsOf, torsionCount, halvings, bitsOf, reportList, coordinateAt, coordinateList}
+use Rattle.reports.specs.Surface.{boundsNothing, surfaceAt, surfaceList}
 use Rattle.trials.specs.Trial.{done}
 use Rattle.requests.specs.Question.{asked, cells, rule, two}
 use Rattle.requests.specs.Chains.{coefficientExceeds, boundaryNotZero, chainChecks, cyclesChecks, chainsChecks}
@@ -35,10 +36,11 @@ use Rattle.starred.specs.Case.{Case, good, counts, nines, zeros}
 use Rattle.starred.specs.DoneCases.{noCellsCases, reportCases, coordinateCases}
 use Rattle.starred.specs.RefusedCases.{sheetCases, dimensionCases, sliceCases, chainCases}
 use Rattle.starred.specs.ListCases.{listCases}
+use Rattle.starred.specs.SurfaceCases.{surfaceDoneCases, boundsNothingCases, surfaceRefusedCases}
 
 -- the table
 abbrev pub cases : List Case
-cases = noCellsCases ++ (reportCases ++ (coordinateCases ++ (sheetCases ++ (dimensionCases ++ (sliceCases ++ (chainCases ++ listCases))))))
+cases = noCellsCases ++ (reportCases ++ (coordinateCases ++ (sheetCases ++ (dimensionCases ++ (sliceCases ++ (chainCases ++ (listCases ++ (surfaceDoneCases ++ (boundsNothingCases ++ surfaceRefusedCases)))))))))
 
 pub starred-sheets-and-calls : T (every good cases)
 unfolding every good sameCalled sameAnswer sameCounts sameSlice sameList sameNumber
@@ -48,7 +50,7 @@ unfolding every good sameCalled sameAnswer sameCounts sameSlice sameList sameNum
     reduce run step next bring positive quotient rowPass columnPass columnKeeps rowKeeps rowIndivisible firstIndivisible
     release1 downRows alongRow better onRow onColumn checked andThen within largest rowOperation columnOperation onLines onEntries onList lineLess tableWithin tableLargest rowLargest table
     inverse identity null mul apply sum floor modulo residue divides tabulate
-    reportList coordinateList coordinateAt torsionCount bitsOf halvings columnsOf reported
+    reportList coordinateList coordinateAt torsionCount bitsOf halvings columnsOf reported boundsNothing surfaceList surfaceAt
     splices splice
 starred-sheets-and-calls = tt
 
