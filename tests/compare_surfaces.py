@@ -89,8 +89,8 @@ def refused_cases(rng, sheets, count_limit):
 
 def large_cases(rng):
     """Dimensions of sheets beyond 48 cells, each by itself: every kind of case, or boundaries and faulty chains alone."""
-    ring = meshes.sized()["ring 3x3x1"]
-    for name, facets, p in (("ring 3x3x1", ring, 1), ("ring 3x3x1", ring, 2), ("tower 10", meshes.tower(10), 1)):
+    ring, (title, (dimension, wide)) = meshes.sized()["ring 3x3x1"], next(iter(CASES.items()))
+    for name, facets, p in (("ring 3x3x1", ring, 1), ("ring 3x3x1", ring, 2), ("tower 10", meshes.tower(10), 1), (title, wide, dimension)):
         yield surface_cases.of_dimension(rng, name, from_facets(facets), p, LIBRARY_COUNT_LIMIT, 6)
     for name, data, p in (("closed tower 16, turned", from_facets(meshes.turned(meshes.closed_tower(16))), 1),
                           ("tower 20", from_facets(meshes.tower(20)), 2), ("256 cells of each dimension", sheet_cases.full(LIBRARY_COUNT_LIMIT), 0)):
@@ -112,7 +112,7 @@ def compare_both(host, library, options):
     rng = random.Random(options.seed)
     sheets = {**known_sheets(), **random_sheets(rng, options.random)}
     for side in (host, library):
-        side.compare(surface_cases.of_faults(side.count_limit) + surface_cases.of_coefficients())
+        side.compare(surface_cases.of_faults(side.count_limit) + surface_cases.of_coefficients() + surface_cases.beyond_the_top())
         side.compare(refused_cases(rng, {**fault_sheets(), **sheets}, side.count_limit))
     for name, data in sheets.items():
         if refusal(data, PROGRAM_COUNT_LIMIT) == 0:

@@ -44,7 +44,7 @@ static struct class class_of(const struct asked *a) {
     return found;
 }
 
-/* The largest absolute value of a coefficient, and whether one is -15. */
+/* The largest absolute value of a coefficient. */
 static int64_t largest(const struct asked *a) {
     int64_t most = 0;
     for (size_t i = 0; i < a->chain_len; i++)
@@ -52,6 +52,7 @@ static int64_t largest(const struct asked *a) {
     return most;
 }
 
+/* Whether a coefficient is -15. */
 static int has_least(const struct asked *a) {
     for (size_t i = 0; i < a->chain_len; i++)
         if (a->chain[i] == -FILDWUK_SURFACE_COEFFICIENT_MOST)

@@ -61,6 +61,14 @@ def of_refused(rng, name, data):
     return Case(name, data, rng.randrange(DIMENSIONS + 1), [0] * rng.randrange(5), rng.randrange(5), rng.randrange(20))
 
 
+def beyond_the_top():
+    """Dimensions above 3, also the largest, with the slices of dimension 1 and with none."""
+    data = from_facets(meshes.filled_triangle())
+    slices = lent(parse(data, PROGRAM_COUNT_LIMIT), 1, EXACT)
+    return [Case("filled triangle", data, p, chain, *each) for p in (DIMENSIONS, DIMENSIONS + 1, 2 ** 31, 2 ** 32 - 1)
+            for chain, each in ((LOOP, slices), ([], (0, 0)))]
+
+
 def of_coefficients():
     """The loop of a filled and of a hollow triangle, one vertex of an edge and both, up to 17 times either way."""
     made = []
