@@ -43,8 +43,10 @@ extern "C" {
  * 11 before 12; then 13, while the reduction runs; then 17, in the surface calls alone. In an import 14 over the whole text, then 15 over all
  * elements, then 16. The calls on a sheet tell 1 to 13 and 17, of which the reports have no 10 to 12; the imports tell 14 to 16 and no other.
  *
- * 13 says that this dimension of this sheet has no report under this release, and nothing against the sheet. The other dimensions may be done. The
- * surface calls keep one matrix more, so that 13 may be told there where the report and the coordinates of the same dimension are done.
+ * 13 says that the reduction of this dimension went too wide, and nothing against the sheet. Told by a report or a coordinate call, it says that this
+ * dimension of this sheet has no report under this release; the other dimensions may be done. Told by a surface call, it says that the call found no
+ * answer, neither that the cycle bounds nor that it does not: these calls keep one matrix more, so that the report and the coordinates of the same
+ * dimension may be done.
  * What to do: ask for regions that do not touch apart, since orders without a common divisor are read as their product when they stand in one sheet;
  * or number the nodes otherwise, since how wide a reduction goes depends on the order of the cells. Both were seen to help; neither always does: an
  * order beyond 1048575 is refused under every numbering.
@@ -76,7 +78,8 @@ enum fildwuk_answer {
 /* The most cells that a dimension may have. */
 #define FILDWUK_CELLS 48
 
-/* The bytes to lend for n cells in the dimension asked for. With n = FILDWUK_CELLS they are enough for every sheet. */
+/* The bytes to lend for n cells in the dimension asked for. With n = FILDWUK_CELLS those of the output are enough for every sheet; a chain has exactly
+ * FILDWUK_CHAIN_BYTES(n). */
 #define FILDWUK_REPORT_BYTES(n) (8 * (2 + (size_t)(n) + (size_t)(n) * (size_t)(n)))
 #define FILDWUK_COORDINATE_BYTES(n) (8 * (size_t)(n))
 #define FILDWUK_CHAIN_BYTES(n) (4 * (size_t)(n))
@@ -119,12 +122,15 @@ uint32_t fildwuk_coordinate_lists(const uint8_t *sheet, size_t sheet_len, uint32
                                   size_t chains_len, uint8_t *coordinates, size_t coordinates_len);
 
 /* The surface that a cycle bounds: a chain of the next dimension, one coefficient for each of its cells, whose boundary is the given chain exactly.
- * In dimension 1 the cycle is a loop and the chain a sum of triangles; in dimension 0 it is a sum of edges, in dimension 2 one of tetrahedra. There
- * may be others: any two differ by a cycle. Where there is none, the answer is 17, exactly then: where some coordinate of the cycle is not 0. In
- * dimension 3 only the chain of zeros bounds.
+ * In dimension 1 the cycle is a loop and its surface a sum of triangles; in dimension 0 the surface is a sum of edges, in dimension 2 one of
+ * tetrahedra. There may be other chains with that boundary: any two differ by a cycle.
  *
- * The chain has exactly FILDWUK_CHAIN_BYTES(n) bytes and coefficients within FILDWUK_SURFACE_COEFFICIENT_MOST. `surface_len` must be at least
- * FILDWUK_SURFACE_BYTES(above), where the next dimension has `above` cells. Bytes past the surface stay as they were. */
+ * The answer is 17 exactly where no earlier refusal applies and no chain with whole coefficients, however large, has that boundary. Where the
+ * coordinates of the cycle are done, that is where one of them is not 0. In dimension 3 only the chain of zeros bounds, and nothing is written.
+ *
+ * The chain has exactly FILDWUK_CHAIN_BYTES(n) bytes and coefficients within FILDWUK_SURFACE_COEFFICIENT_MOST. The coefficients of the surface are less
+ * than 2^60 either way, and may be beyond what a chain may have. `surface_len` must be at least FILDWUK_SURFACE_BYTES(above), where the next dimension
+ * has `above` cells; an incomplete number at the end gives no slot. Bytes past the surface stay as they were. */
 uint32_t fildwuk_surface(const uint8_t *sheet, size_t sheet_len, uint32_t dimension, const uint8_t *chain, size_t chain_len, uint8_t *surface,
                          size_t surface_len);
 
@@ -203,7 +209,7 @@ static inline uint16_t fildwuk_sheet_field(const uint8_t *sheet, size_t at)
     return (uint16_t)(sheet[at] | (unsigned)sheet[at + 1] << 8);
 }
 
-/* The number of cells of a dimension: 0 for a dimension that a sheet does not have, as 4, and (uint32_t)-1 below dimension 0. */
+/* The number of cells of a dimension: 0 for one that a sheet does not have, as 4 above dimension 3 and (uint32_t)-1 below dimension 0. */
 static inline size_t fildwuk_cell_count(const uint8_t *sheet, uint32_t dimension)
 {
     return dimension > 3 ? 0 : fildwuk_sheet_field(sheet, 4 * (size_t)dimension);

@@ -5,9 +5,10 @@
  * coordinates or of a surface an int64_t. A length counts the elements of its slice; for a sheet and a text these are bytes.
  *
  * Who owns what: the caller owns every slice and lends it for the time of the call; a call keeps none. A call reads `sheet`, `chain` or `chains` and
- * `text`, and writes its output and `work` alone. What it writes must overlap nothing else that it is lent, and nobody else may use it while the call
- * runs. A pointer may be null where its length is 0; `peak` and `bits` may not. There is no state: calls may run at the same time on several threads,
- * each with its own output and work slice. They always return, use no heap, and take no more stack than those of fildwuk.h.
+ * `text`, and writes its output and `work`, in the headroom call also `peak` and `bits`, and nothing else. What it writes must overlap nothing else
+ * that it is lent, and nobody else may use it while the call runs. A pointer may be null where its length is 0; `peak` and `bits` may not. There is
+ * no state: calls may run at the same time on several threads, each with its own output and work slice. They always return, use no heap, and take no
+ * more stack than those of fildwuk.h.
  *
  * What is left in the slices:
  *
@@ -44,7 +45,7 @@ extern "C" {
 #define FILDWUK_LIBRARY_COORDINATE_LISTS_SLOTS(number, n) ((size_t)(number) * (size_t)(n))
 
 /* The slots of the work slice, 4 bytes each, for n cells in the dimension asked for, `below` in the one before it and `above` in the next: 0 for the
- * dimensions -1 and 4, which have no cells. The most that any sheet asks for, 196,608, are 768 KiB. */
+ * dimensions -1 and 4, which have no cells. The most that any sheet asks for, 196,608, are 768 KiB. A surface call asks for more, below. */
 #define FILDWUK_LIBRARY_WORK_SLOTS(n, below, above) \
     ((size_t)(n) * (2 * (size_t)(n) + ((size_t)(below) > (size_t)(above) ? (size_t)(below) : (size_t)(above))))
 #define FILDWUK_LIBRARY_WORK_SLOTS_MOST FILDWUK_LIBRARY_WORK_SLOTS(FILDWUK_LIBRARY_CELLS, FILDWUK_LIBRARY_CELLS, FILDWUK_LIBRARY_CELLS)
@@ -66,7 +67,8 @@ uint32_t fildwuk_library_report(const uint8_t *sheet, size_t sheet_len, uint32_t
                                 size_t work_len);
 
 /* The report with its headroom: answer, report and work slice are those of fildwuk_library_report. Where it is done, `peak` is the largest absolute
- * value that any matrix of the two reductions has held, and `bits` the bits that it needs, 0 for 0. The peak is at most 1048575, which needs 20 bits;
+ * value that any matrix of the two reductions has held, and `bits` the bits that it needs, 0 for 0. A surface call keeps one matrix more, whose entries
+ * are not in this peak. The peak is at most 1048575, which needs 20 bits;
  * docs/PLANNER.md says how to read it. */
 uint32_t fildwuk_library_headroom(const uint8_t *sheet, size_t sheet_len, uint32_t dimension, int64_t *report, size_t report_len, int32_t *work,
                                   size_t work_len, uint64_t *peak, uint32_t *bits);

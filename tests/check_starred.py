@@ -16,6 +16,7 @@ ONE_VERTEX = from_facets([(7,)])
 EDGE = from_facets([(0, 1)])
 HOLLOW = from_facets([(0, 1), (0, 2), (1, 2)])
 FILLED = from_facets([(0, 1, 2)])
+TETRAHEDRON = from_facets([(0, 1, 2, 3)])
 FIFTEEN = NO_CELLS[:15]
 WITHOUT_VERTEX = layout([[(0,)], [(0, 1)], [], []])
 REVERSED = layout([[(0,), (1,)], [(1, 0)], [], []])
@@ -88,7 +89,8 @@ BESIDE = [
      [(HOLLOW, 1, many(2, OPEN + WIDE), 6, 27), (HOLLOW, 1, many(2, WIDE + OPEN), 6, 27), (HOLLOW, 1, many(2, TWICE + OPEN), 6, 27)]),
     ("The answer sums, over the pivots, the tracked column times its row of Q times the chain, over the pivot",
      [(FILLED, 1, surface(1, -1, 1), 3, 30), (EDGE, 0, surface(-1, 1), 2, 11), (EDGE, 0, surface(7, -7), 1, 12)]
-     + [(HOLLOW, 1, surface(0, 0, 0), slots, 27) for slots in (2, 0)] + [(FILLED, 3, surface(), 2, 3)] + [(NO_CELLS, p, surface(), 2, 3) for p in range(4)]),
+     + [(HOLLOW, 1, surface(0, 0, 0), slots, 27) for slots in (2, 0)] + [(FILLED, 3, surface(), 2, 3)]
+     + [(TETRAHEDRON, 2, surface(-1, 1, -1, 1), 2, 57), (TETRAHEDRON, 3, surface(0), 2, 6)] + [(NO_CELLS, p, surface(), 2, 3) for p in range(4)]),
     ("Coefficients lie within 15 either way here; check 11 uses that limit in this call",
      [(FILLED, 1, surface(*times), 1, 28) for times in (FIFTEEN_TIMES, back(FIFTEEN_TIMES), SIXTEEN_TIMES, back(SIXTEEN_TIMES), [0, 0, -16])]
      + [(FILLED, 1, chain(*times), 3, 27) for times in (FIFTEEN_TIMES, SIXTEEN_TIMES)]),
@@ -100,7 +102,8 @@ BESIDE = [
     ("The refusals before it, in the surface call",
      [(FIFTEEN, 0, surface(-1, 1), 1, 11), (REVERSED, 0, surface(-1, 1), 1, 11), (WITHOUT_VERTEX, 0, surface(1), 1, 11),
       (FILLED, 4, surface(1, -1, 1), 1, 28), (FILLED, 4, surface(1, -1, 1), 0, 27), (FILLED, 1, surface(1, -1), 1, 28),
-      (FILLED, 1, surface(1, -1, 1, 0), 1, 28), (FILLED, 1, surface(16), 1, 28), (FILLED, 1, surface(*OPEN), 1, 28), (HOLLOW, 1, surface(*OPEN), 2, 27)]),
+      (FILLED, 1, surface(1, -1, 1, 0), 1, 28), (FILLED, 1, surface(16), 1, 28), (FILLED, 1, surface(*OPEN), 1, 28), (HOLLOW, 1, surface(*OPEN), 2, 27),
+      (TETRAHEDRON, 3, surface(1), 2, 6)]),
 ]
 # The sheets of the starred items, as crate sheet_format has them in its table.
 SHEETS = [NO_CELLS, ONE_VERTEX, EDGE, HOLLOW, FILLED, FIFTEEN, REVERSED, WITHOUT_VERTEX]

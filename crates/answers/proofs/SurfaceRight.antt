@@ -1,6 +1,6 @@
 -- The surface that a cycle bounds, document 02, Note 6, after two reductions that are right. `bounds-iff`: 17 is not told exactly where the cycle is a
 -- boundary. `surface-bounds`: with the transform of the columns kept (`KeptColumns`, `reductions-columns`), the boundary of the surface is the cycle.
--- `surface-word`: every coefficient fits 64 bits.
+-- `surface-chain`: it is made of the coefficients of the chain alone. `surface-word`: every coefficient fits 64 bits.
 use mathlib.Core.Path.{_≡_, refl, sym, _∙_, ap, subst}
 use mathlib.Core.Logic.{_↔_}
 use mathlib.Core.Bool.{Bool, true, false, not}
@@ -126,6 +126,21 @@ module _ {K : Sections} {p s r : ℕ} {x : State} (C : KeptColumns K p s r x) (z
           getD-tabulate l (surfaceAt n r x z) j (pos 0) h
           ∙ sum-ext r (λ i. floor (rowTimes n x z i) (kind x i) *ℤ entry (x .columnFollower) i j) (λ i. floor (rowTimes n x z i) (kind x i) *ℤ C .right .reduced .W j i)
           (λ i k. ap (λ (t : ℤ). floor (rowTimes n x z i) (kind x i) *ℤ t) (C .columns .at j i h (le-trans k rank-below)))
+
+-- chains with the same coefficients have the same surface
+pub surface-chain : (n l r : ℕ) (x : State) (y z : List ℤ) → ((i : ℕ) → i < n → slot y i ≡ slot z i) → (j : ℕ) → j < l
+    → slot (surfaceList n l r x y) j ≡ slot (surfaceList n l r x z) j
+unfolding surfaceList surfaceAt apply
+surface-chain n l r x y z same j h =
+    getD-tabulate l (surfaceAt n r x y) j (pos 0) h
+    ∙ sum-ext r (taken y) (taken z) (λ i k.
+    ap (λ (t : ℤ). floor t (kind x i) *ℤ entry (x .columnFollower) i j)
+    (sum-ext n (λ m. entry (x .rowFollower) i m *ℤ slot y m) (λ m. entry (x .rowFollower) i m *ℤ slot z m)
+    (λ m g. ap (λ (t : ℤ). entry (x .rowFollower) i m *ℤ t) (same m g))))
+    ∙ sym (getD-tabulate l (surfaceAt n r x z) j (pos 0) h)
+  where
+    taken : List ℤ → ℕ → ℤ
+    taken v i = floor (rowTimes n x v i) (kind x i) *ℤ entry (x .columnFollower) i j
 
 -- ---- the coefficients fit 64 bits: 256 pivots, rows of 256 places, coefficients of the chain within 15, and two entries
 

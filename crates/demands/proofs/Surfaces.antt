@@ -23,7 +23,7 @@ use Rattle.reports.specs.Surface.{surfaceList}
 use Rattle.requests.specs.Question.{Question, cells, cellCount, nextCount}
 use Rattle.requests.specs.Call.{surface, workSlotsFor, earlyChecks, call}
 use Rattle.requests.proofs.CallLaws.{early-iff}
-use Rattle.host_calls.specs.Bytes.{numberAt, chainFrom}
+use Rattle.host_calls.specs.Bytes.{coefficientIn, numberAt, chainFrom}
 use Rattle.host_calls.specs.Host.{slotsIn, hostCall}
 use Rattle.host_calls.proofs.HostChainsLaws.{given-coefficient}
 use Rattle.answers.specs.Homology.{IsBoundary}
@@ -32,34 +32,63 @@ use Rattle.answers.specs.Outcome.{Outcome}
 use Rattle.answers.proofs.ReportRight.{has-counts, counts-unique}
 use Rattle.answers.proofs.CoordinatesRight.{coordinates-zero}
 use Rattle.answers.proofs.ChainChecks.{chain-passes}
+use Rattle.answers.proofs.Behind.{Behind, same-behind}
 use Rattle.answers.proofs.EndLaws.{surface-fills}
+use Rattle.answers.proofs.SurfaceRight.{surface-chain}
 use Rattle.answers.proofs.CallRight.{Answered, done-number, call-outcome, answered, list-reads}
 use Rattle.answers.proofs.HostRight.{host-answered, host-reads, carries}
 use Rattle.demands.specs.Surfaces as claims
-use Rattle.demands.specs.Surfaces.{SurfacesBound, SurfaceTold, SomeNonzero, SurfacesBeside}
+use Rattle.demands.specs.Surfaces.{SurfaceOf, SurfacesBound, OneSurface, SurfaceTold, SomeNonzero, SurfacesBeside}
 use Rattle.demands.proofs.Behind.{start, CoordinatesBehind, coordinates-behind}
 
--- ---- the boundary of a surface
+-- ---- the boundary of a surface, and that there is one
 
--- what a caller reads is the surface that stands behind the call
-reads-bound : (q : Question) (z : List ℤ) (c : Chain) {limit output work : ℕ} (A : Answered limit q (surface z) output work)
+-- the two reductions, the chain as it is given, and the surface
+record SurfaceBehind (q : Question) (z c : Chain) : Type 0 where
+  two : Behind q (secondColumnsOnly true)
+  chain : List ℤ
+  agrees : (i : ℕ) → i < cellCount q → slot chain i ≡ z i
+  reads : (j : ℕ) → j < nextCount q → c j ≡ slot (surfaceList (cellCount q) (nextCount q) (two .rank) (two .state) chain) j
+  fills : Same (cellCount q) (apply (nextCount q) (boundary (cells q) (suc (q .dimension))) c) (slot chain)
+
+behind : (q : Question) (z : List ℤ) (z′ c : Chain) {limit output work : ℕ} (A : Answered limit q (surface z) output work)
+    → ((i : ℕ) → i < cellCount q → slot z i ≡ z′ i)
     → ((j : ℕ) → j < nextCount q → c j ≡ slot (surfaceList (cellCount q) (nextCount q) (A .reductions-behind .rank) (A .reductions-behind .state) z) j)
-    → Same (cellCount q) (apply (nextCount q) (boundary (cells q) (suc (q .dimension))) c) (slot z)
-reads-bound q z c A reads =
-    same-trans (same-apply (cellCount q) (boundary (cells q) (suc (q .dimension))) (record { at = reads }))
-    (surface-fills q z (A .request-passed) (A .reductions-behind) (A .ends))
+    → SurfaceBehind q z′ c
+behind q z z′ c A agrees reads = record {
+  two = A .reductions-behind;
+  chain = z;
+  agrees = agrees;
+  reads = reads;
+  fills =
+      same-trans (same-apply (cellCount q) (boundary (cells q) (suc (q .dimension))) (record { at = reads }))
+      (surface-fills q z (A .request-passed) (A .reductions-behind) (A .ends));
+}
 
-pub surfacesBound : SurfacesBound
-surfacesBound q bytes z′ c (claims.SurfaceOf.by-library limit z output work counts e) i m =
-    reads-bound q z (slot (call limit q (surface z) output work .output)) (answered limit q (surface z) output work bytes (done-number e)) (λ j l.
+surface-behind : (q : Question) → Bytes (q .sheet) → {z c : Chain} → SurfaceOf q z c → SurfaceBehind q z c
+surface-behind q bytes (claims.SurfaceOf.by-library limit z output work counts e) =
+    behind q z (slot z) (slot (call limit q (surface z) output work .output)) (answered limit q (surface z) output work bytes (done-number e)) (λ i l. refl)
+    (λ j l.
     ap (slot (call limit q (surface z) output work .output)) (sym (start (nextCount q) j))
-    ∙ list-reads limit q (surface z) output work bytes (done-number e) 0 (omega arith) j l) .at i m
-surfacesBound q bytes z′ c (claims.SurfaceOf.by-host chain output e) i l =
+    ∙ list-reads limit q (surface z) output work bytes (done-number e) 0 (omega arith) j l)
+surface-behind q bytes (claims.SurfaceOf.by-host chain output e) =
     let z = chainFrom (cellCount q) chain in
     let A = host-answered q (surface z) output bytes e in
-    reads-bound q z (numberAt (hostCall q (surface z) output .output)) A (λ j m.
-    ap (numberAt (hostCall q (surface z) output .output)) (sym (start (nextCount q) j)) ∙ host-reads q (surface z) output bytes e 0 (omega arith) j m) .at i l
-    ∙ given-coefficient (cellCount q) chain (chain-passes surfaceCoefficientLimit (cells q) (q .dimension) z (A .request-passed) .size) i l
+    behind q z (coefficientIn chain) (numberAt (hostCall q (surface z) output .output)) A
+    (given-coefficient (cellCount q) chain (chain-passes surfaceCoefficientLimit (cells q) (q .dimension) z (A .request-passed) .size))
+    (λ j m. ap (numberAt (hostCall q (surface z) output .output)) (sym (start (nextCount q) j)) ∙ host-reads q (surface z) output bytes e 0 (omega arith) j m)
+
+pub surfacesBound : SurfacesBound
+surfacesBound q bytes z c of i l = let B = surface-behind q bytes of in B .fills .at i l ∙ B .agrees i l
+
+pub oneSurface : OneSurface
+oneSurface q bytes y z c d of-y of-z same j l =
+    let B = surface-behind q bytes of-y in
+    let D = surface-behind q bytes of-z in
+    let n = cellCount q in
+    let reads = same-behind (λ s r x. (j : ℕ) → j < nextCount q → d j ≡ slot (surfaceList n (nextCount q) r x (D .chain)) j) (D .two) (B .two) (D .reads) in
+    let chains : (i : ℕ) → i < n → slot (B .chain) i ≡ slot (D .chain) i = λ i m. B .agrees i m ∙ same i m ∙ sym (D .agrees i m) in
+    B .reads j l ∙ surface-chain n (nextCount q) (B .two .rank) (B .two .state) (B .chain) (D .chain) chains j l ∙ sym (reads j l)
 
 -- ---- beside the coordinates
 

@@ -37,7 +37,7 @@ use Rattle.demands.specs.Calls.{Calls}
 use Rattle.demands.specs.Answers.{CoordinatesOf, Counted}
 use Rattle.demands.specs.Host.{HostCalls}
 use Rattle.demands.specs.Surfaces as claims
-use Rattle.demands.specs.Surfaces.{SurfaceOf, SurfacesBound, SurfaceTold, SomeNonzero, SurfacesBeside}
+use Rattle.demands.specs.Surfaces.{SurfaceOf, SurfacesBound, OneSurface, SurfaceTold, SomeNonzero, SurfacesBeside}
 use Rattle.demands.proofs.Hollow.{hollow, hollow-bytes, nines}
 use Rattle.demands.proofs.Filled.{filled, filled-bytes, filled-chains, filled-left, filled-reduced, filled-narrow, loop, hollow-kept-narrow}
 use Rattle.demands.proofs.UseCalls.{when-nothing}
@@ -132,6 +132,24 @@ module _ (calls : Calls) where
       host-once =
           once (coefficientIn loopBytes) (numberAt (hostCall filled (surfaceIn filled loopBytes) (lent 27) .output)) refl
           (claims.SurfaceOf.by-host loopBytes (lent 27) host-surface-done)
+
+    -- ---- one surface: the host's bytes hold the number that the library's call leaves
+
+    module _ (oneSurface : OneSurface) where
+      same-by-host : numberAt (hostCall filled (surfaceIn filled loopBytes) (lent 27) .output) 0 ≡ pos 1
+      unfolding cells countField cellOf cellsOf sectionsOf start tabulate coefficientAt
+      same-by-host =
+          oneSurface filled filled-bytes (coefficientIn loopBytes) (slot loop) (numberAt (hostCall filled (surfaceIn filled loopBytes) (lent 27) .output))
+          (slot (call 48 filled (surface loop) (nines 3) (nines 30) .output))
+          (claims.SurfaceOf.by-host loopBytes (lent 27) host-surface-done)
+          (claims.SurfaceOf.by-library 48 loop (nines 3) (nines 30) none-left (ap (λ (c : Called Counts ℤ). c .answer) surface-written)) agree 0 (omega arith)
+          ∙ ap (λ (c : Called Counts ℤ). slot (c .output) 0) surface-written
+        where
+          agree : (i : ℕ) → i < 3 → coefficientIn loopBytes i ≡ slot loop i
+          agree zero l = refl
+          agree (suc zero) l = refl
+          agree (suc (suc zero)) l = refl
+          agree (suc (suc (suc i))) l = absurd (omega (arith, l))
 
 -- ---- beside the coordinates
 

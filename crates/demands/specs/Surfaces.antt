@@ -33,6 +33,12 @@ SurfacesBound =
     (q : Question) → Bytes (q .sheet) → (z c : Chain) → SurfaceOf q z c → (i : ℕ) → i < cellCount q →
     apply (nextCount q) (boundary (cells q) (suc (q .dimension))) c i ≡ z i
 
+-- there is one surface of a chain: any two that are read, from the library at any count limit or from the host, agree at all their places
+abbrev pub OneSurface : Type 0
+OneSurface =
+    (q : Question) → Bytes (q .sheet) → (y z c d : Chain) → SurfaceOf q y c → SurfaceOf q z d → ((i : ℕ) → i < cellCount q → y i ≡ z i) →
+    (j : ℕ) → j < nextCount q → c j ≡ d j
+
 -- the number that a surface call tells of a chain, 0 for done
 pub data SurfaceTold (q : Question) : Chain → ℕ → Type 0 where
   by-library : (limit : ℕ) (z output work : List ℤ) → SurfaceTold q (slot z) (numberTold (call limit q (surface z) output work .answer))

@@ -1,4 +1,5 @@
--- The two reductions of a dimension p: document 01, "The reduction"; the peak of both, document 02, Note 4.
+-- The two reductions of a dimension p: document 01, "The reduction"; the peak of both, document 02, Note 4; the
+-- transforms that may be kept besides, Note 6.
 use mathlib.Core.Bool.{Bool, true, false, cond}
 use Prim.Native.Nat.{ℕ, suc, _+_, _-_}
 use lib.Dec.{ltb}

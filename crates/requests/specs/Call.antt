@@ -77,7 +77,7 @@ module _ (q : Question) where
 abbrev pub workSlots : Sections → ℕ → ℕ
 workSlots K p = count K p * (2 * count K p + max (countBelow K p) (count K (suc p)))
 
--- with n_(p+1) × n_(p+1) more where the transform of the columns of the second reduction is kept
+-- with n_(p+1) × n_(p+1) more where the transform of the columns of the second reduction is kept; the calls keep no other
 abbrev pub workSlotsFor : Transforms → Sections → ℕ → ℕ
 workSlotsFor t K p = cond (t .secondColumns) (workSlots K p + count K (suc p) * count K (suc p)) (workSlots K p)
 

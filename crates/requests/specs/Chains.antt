@@ -1,4 +1,4 @@
--- The checks 10 to 12 of a chain, and of many in one slice: document 01, "The report and the coordinates"; document 02, Note 1. K lists the cells.
+-- The checks 10 to 12 of a chain, and of many in one slice: document 01, "The report and the coordinates"; document 02, Notes 1 and 6. K lists the cells.
 use mathlib.Core.Path.{_≡_}
 use mathlib.Core.Bool.{Bool, not}
 use mathlib.Core.List.{List, [], _∷_, _++_}

@@ -29,6 +29,15 @@ open-chain = pos 1 ∷ pos 0 ∷ pos 0 ∷ []
 abbrev wide-chain : List ℤ
 wide-chain = pos 0 ∷ pos 0 ∷ minus 16 ∷ []
 
+-- one tetrahedron with all its faces
+abbrev tetrahedron : List ℕ
+tetrahedron =
+    4 ∷ 0 ∷ 16 ∷ 0 ∷ 6 ∷ 0 ∷ 24 ∷ 0 ∷ 4 ∷ 0 ∷ 48 ∷ 0 ∷ 1 ∷ 0 ∷ 72 ∷ 0 ∷
+    0 ∷ 0 ∷ 1 ∷ 0 ∷ 2 ∷ 0 ∷ 3 ∷ 0 ∷
+    0 ∷ 0 ∷ 1 ∷ 0 ∷ 0 ∷ 0 ∷ 2 ∷ 0 ∷ 0 ∷ 0 ∷ 3 ∷ 0 ∷ 1 ∷ 0 ∷ 2 ∷ 0 ∷ 1 ∷ 0 ∷ 3 ∷ 0 ∷ 2 ∷ 0 ∷ 3 ∷ 0 ∷
+    0 ∷ 0 ∷ 1 ∷ 0 ∷ 2 ∷ 0 ∷ 0 ∷ 0 ∷ 1 ∷ 0 ∷ 3 ∷ 0 ∷ 0 ∷ 0 ∷ 2 ∷ 0 ∷ 3 ∷ 0 ∷ 1 ∷ 0 ∷ 2 ∷ 0 ∷ 3 ∷ 0 ∷
+    0 ∷ 0 ∷ 1 ∷ 0 ∷ 2 ∷ 0 ∷ 3 ∷ 0 ∷ []
+
 -- ---- done: the boundary of the triangle 012 is (1, -1, 1), that of the edge 01 is (-1, 1)
 
 -- no cells: the empty chain bounds
@@ -86,6 +95,15 @@ surfaceDoneCases =
       call = record { sheet = filledTriangle; dimension = 3; request = surface []; output = nines 2; work = nines 3 };
       expected = record { answer = done (counts 0 0 0 0); output = nines 2; work = zeros 3 };
     }
+    -- the rim of a tetrahedron, and in dimension 3 the chain of zeros
+    ∷ record {
+      call = record { sheet = tetrahedron; dimension = 2; request = surface (minus 1 ∷ pos 1 ∷ minus 1 ∷ pos 1 ∷ []); output = nines 2; work = nines 57 };
+      expected = record { answer = done (counts 0 0 1 1); output = pos 1 ∷ nines 1; work = zeros 57 };
+    }
+    ∷ record {
+      call = record { sheet = tetrahedron; dimension = 3; request = surface (zeros 1); output = nines 2; work = nines 6 };
+      expected = record { answer = done (counts 0 0 1 1); output = nines 2; work = zeros 6 };
+    }
     ∷ empty 0 ∷ empty 1 ∷ empty 2 ∷ empty 3
     ∷ []
 
@@ -132,4 +150,5 @@ surfaceRefusedCases =
     -- a nonzero boundary
     ∷ refuses 12 (record { sheet = filledTriangle; dimension = 1; request = surface open-chain; output = nines 1; work = nines 28 })
     ∷ refuses 12 (record { sheet = hollowTriangle; dimension = 1; request = surface open-chain; output = nines 2; work = nines 27 })
+    ∷ refuses 12 (record { sheet = tetrahedron; dimension = 3; request = surface (pos 1 ∷ []); output = nines 2; work = nines 6 })
     ∷ []
