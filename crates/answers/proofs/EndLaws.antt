@@ -1,6 +1,6 @@
 -- The checks at the end of the reductions, after two that are right: none applies exactly where the request's chain bounds what it must (ending-iff), and the
 -- one that does tells 17 (ending-number). surface-fills: the boundary of a surface that stands behind a call is the chain.
-use mathlib.Core.Path.{_≡_, refl, sym, _∙_, ap}
+use mathlib.Core.Path.{_≡_, refl, ap}
 use mathlib.Core.Logic.{_↔_, _≢_}
 use mathlib.Core.Bool.{Bool, true, false}
 use mathlib.Core.List.{List, [], _∷_}

@@ -6,7 +6,7 @@ use mathlib.Core.Logic.{_↔_}
 use mathlib.Core.Bool.{Bool, true, false, not}
 use mathlib.Core.List.{List}
 use Prim.Native.Nat.{ℕ, suc, _*_, _≤_, _<_}
-use native.Mathlib.Nat.{le-trans, min-le-left, min-le-right, mul-le-mul, mul-le-mul-right}
+use native.Mathlib.Nat.{le-trans, min-le-right, mul-le-mul, mul-le-mul-right}
 use native.Mathlib.Omega.{arith}
 use borrow.Author.Tests.{not-false}
 use lib.Dec.{T}
@@ -46,7 +46,7 @@ use Rattle.reports.specs.Surface.{boundsNothing, surfaceAt, surfaceList}
 use Rattle.answers.specs.Homology.{IsCycle, IsBoundary}
 use Rattle.answers.proofs.TwoReductions.{Right, both, both-right, both-columns, first-smith, second-smith}
 use Rattle.answers.proofs.KeptTransforms.{second-columns}
-use Rattle.answers.proofs.Fits.{Bounded, bounded-tabulate, small-word, row-small}
+use Rattle.answers.proofs.Fits.{bounded-tabulate, small-word, row-small}
 use Rattle.host_calls.proofs.BytesLaws.{Word}
 
 -- ---- 17

@@ -4,9 +4,8 @@ use mathlib.Core.Path.{_≡_, refl, sym, _∙_, ap}
 use mathlib.Core.Bool.{Bool, true, false}
 use mathlib.Core.Logic.{_≢_}
 use mathlib.Core.List.{List, [], _∷_, _++_}
-use Prim.Native.Nat.{ℕ, suc, _*_, _≤_}
+use Prim.Native.Nat.{ℕ, suc, _≤_}
 use native.Mathlib.Nat.{one-mul}
-use native.Mathlib.Omega.{arith}
 use borrow.Author.Tests.{ne-eqb, eq-eqb}
 use lib.IntN.{ℤ, pos, natAbs}
 use lib.ListN.{length, replicate}
@@ -22,7 +21,7 @@ use Rattle.reduction_steps.specs.State.{State}
 use Rattle.reduction_steps.proofs.PivotLaws.{pivotRule-is-rule}
 use Rattle.reports.specs.Report as reports
 use Rattle.reports.specs.Surface.{boundsNothing, surfaceList}
-use Rattle.reports.specs.Reductions.{Transforms, secondColumnsOnly, tooWide}
+use Rattle.reports.specs.Reductions.{secondColumnsOnly, tooWide}
 use Rattle.requests.specs.Question.{cells, rule, two}
 use Rattle.requests.specs.Chains.{cycleChecks, chainChecks}
 use Rattle.requests.proofs.ChainsLaws.{coefficients-iff}
@@ -40,7 +39,7 @@ use Rattle.calls.specs.CallAnswers.{CallAnswers}
 use Rattle.two_reductions.specs.declared.cell_counts.CellCounts.{CellCounts}
 use Rattle.calls.specs.declared.admission.Request.the-variants.{Surface}
 use Rattle.calls.specs.declared.answer.Answer.the-variants.{Done, Refused}
-use Rattle.calls.proofs.Admitting.{Lent, lengths, cellsOf, slotsAsked, spaceAsked, Granted, twice, Reduces}
+use Rattle.calls.proofs.Admitting.{Lent, lengths, slotsAsked, spaceAsked, Granted, twice, Reduces}
 use Rattle.calls.proofs.Answering.{refuses, goes-wide, bounds-nothing, is-done}
 use Rattle.calls.proofs.EarlyChecks.{early-told, early-next}
 use Rattle.calls.proofs.Writing.{follower-width, transform-width, can-surface}

@@ -6,16 +6,16 @@ use mathlib.Core.Logic.{_⊎_, inl, inr}
 use mathlib.Core.List.{List, [], _∷_}
 use Prim.Native.Nat.{ℕ, zero, suc, _<_}
 use native.Mathlib.Omega.{arith}
-use lib.ListN.{length, replicate}
+use lib.ListN.{replicate}
 use lib.IntN.{ℤ, pos, natAbs, _*ℤ_}
 use Rattle.integers.specs.Slot.{slot}
-use Rattle.integers.specs.Division.{floor, divides}
+use Rattle.integers.specs.Division.{floor}
 use Rattle.integers.proofs.Ring.{zero-add, one-mul}
 use Rattle.lists.specs.Tabulate.{tabulate}
 use Rattle.lists.specs.Splice.{splice, splices}
 use Rattle.matrices.specs.Sum.{sum}
 use Rattle.matrices.specs.Vector.{apply}
-use Rattle.trials.specs.Trial.{firstRefusal, done, refused, numberTold, Called, cleared}
+use Rattle.trials.specs.Trial.{done, refused, numberTold, Called, cleared}
 use Rattle.complexes.specs.Cell.{without, same, rises, precedes, listed}
 use Rattle.complexes.specs.Boundary.{sign, coefficient, countBelow, boundary}
 use Rattle.sheet_format.specs.Layout.{start}
@@ -37,7 +37,7 @@ use Rattle.demands.specs.Calls.{Calls}
 use Rattle.demands.specs.Answers.{CoordinatesOf, Counted}
 use Rattle.demands.specs.Host.{HostCalls}
 use Rattle.demands.specs.Surfaces as claims
-use Rattle.demands.specs.Surfaces.{SurfaceOf, SurfacesBound, OneSurface, SurfaceTold, SomeNonzero, SurfacesBeside}
+use Rattle.demands.specs.Surfaces.{SurfaceOf, SurfacesBound, OneSurface, SurfaceTold, SurfacesBeside}
 use Rattle.demands.proofs.Hollow.{hollow, hollow-bytes, nines}
 use Rattle.demands.proofs.Filled.{filled, filled-bytes, filled-chains, filled-left, filled-reduced, filled-narrow, loop, hollow-kept-narrow}
 use Rattle.demands.proofs.UseCalls.{when-nothing}

@@ -1,7 +1,7 @@
 -- A chain whose boundary is a given cycle, from the second reduction of `Reduced`. `filling-bounds`: where Q z has the entries of e times those of y, the
 -- boundary of the column transform times y is z. `pivots-bound`: so it is with the sum over the pivots of each column times Q z over the pivot, where e
 -- divides Q z, entry by entry.
-use Prim.Native.Nat.{ℕ, _+_, _-_, _<_, _≤_}
+use Prim.Native.Nat.{ℕ, _+_, _-_, _<_}
 use native.Mathlib.Nat.{le-trans, min-le-right}
 use native.Mathlib.Decide.{decLt}
 use native.Mathlib.Omega.{arith}

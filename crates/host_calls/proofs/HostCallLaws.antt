@@ -30,7 +30,7 @@ use Rattle.sheet_format.specs.Check.{refusal}
 use Rattle.sheet_format.specs.CheckLaws.{refusal-zero, countExceeds-false}
 use Rattle.sheet_format.specs.SheetLaws.{count-sectionsOf, countField-out}
 use Rattle.reduction_steps.specs.State.{State}
-use Rattle.reports.specs.Reductions.{Reductions, Transforms, secondColumnsOnly, noTransforms, tooWide, reduced}
+use Rattle.reports.specs.Reductions.{Reductions, Transforms, secondColumnsOnly, tooWide, reduced}
 use Rattle.reports.specs.Report.{Counts, countsOf}
 use Rattle.requests.specs.Question.{Question, cells, cellCount, nextCount, two}
 use Rattle.requests.specs.Chains.{chainChecks}

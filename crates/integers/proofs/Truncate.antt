@@ -1,5 +1,5 @@
 -- The machine's division, `quotZ` and `remZ`, which round towards zero, and how it gives the division of `Floor`.
--- `quotZ-remZ`: a = quotZ a d · d + remZ a d; `natAbs-quotZ`, `mag-quotZ`: the quotient's size; `natAbs-remZ`, `remZ-lt`: the remainder's size.
+-- `quotZ-remZ`: a = quotZ a d · d + remZ a d; `mag-quotZ`: the quotient's size; `natAbs-remZ`, `remZ-lt`: the remainder's size.
 -- For a positive divisor: `floor-quotZ` where the remainder is not negative, `floor-quotZ-pred` where it is.
 use mathlib.Core.Path.{_≡_, refl, sym, _∙_, ap, subst}
 use mathlib.Core.Logic.{_≢_}
@@ -31,12 +31,6 @@ quotZ-remZ (pos a) (pos d) = quot-rem a d
 quotZ-remZ (pos a) (negsuc d) = quot-rem a (suc d) ∙ neg-mul-neg (pos (a / suc d)) (pos (suc d)) (pos (a % suc d))
 quotZ-remZ (negsuc a) (pos d) = ap negℤ (quot-rem (suc a) d) ∙ neg-dividend (pos (suc a / d)) (pos d) (pos (suc a % d))
 quotZ-remZ (negsuc a) (negsuc d) = ap negℤ (quot-rem (suc a) (suc d)) ∙ neg-divisor (pos (suc a / suc d)) (pos (suc d)) (pos (suc a % suc d))
-
-pub natAbs-quotZ : (a d : ℤ) → natAbs (quotZ a d) ≤ natAbs a
-natAbs-quotZ (pos a) (pos d) = NatL.div-le-self a d
-natAbs-quotZ (pos a) (negsuc d) = rw natAbs-neg (NatL.div-le-self a (suc d))
-natAbs-quotZ (negsuc a) (pos d) = rw natAbs-neg (NatL.div-le-self (suc a) d)
-natAbs-quotZ (negsuc a) (negsuc d) = NatL.div-le-self (suc a) (suc d)
 
 mag-neg : (r a : ℕ) → r ≤ suc a → mag (negℤ (pos r)) ≤ a
 mag-neg zero a h = zero-le

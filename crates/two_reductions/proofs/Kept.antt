@@ -6,14 +6,13 @@ use mathlib.Core.List.{List}
 use Prim.Native.Nat.{ℕ, suc, _+_, _*_, _-_, _≤_, _<_, max}
 use native.Mathlib.Nat.{mul-comm, mul-add, le-refl, le-trans, le-max-left, le-max-right, max-le, min-le-right}
 use native.Mathlib.Omega.{arith}
-use lib.IntN.{ℤ, natAbs}
+use lib.IntN.{ℤ}
 use lib.ListN.{length}
 use Rattle.matrices.specs.Matrix.{Eq, identity, null}
 use Rattle.complexes.specs.Complex.{Sections, count}
 use Rattle.complexes.specs.Boundary.{countBelow}
 use Rattle.complexes.proofs.ChainComplex.{ChainComplex}
 use Rattle.reduction_steps.specs.Table.{table}
-use Rattle.reduction_steps.specs.State.{State}
 use Rattle.reduction_steps.specs.Pivot.{Rule, IsRule}
 use Rattle.reduction_steps.specs.Step.{done, reduce}
 use Rattle.reduction_laws.specs.Shape.{Shaped}
@@ -28,14 +27,14 @@ use Rattle.matrix_lines.specs.Matrices.{end, contents, Held}
 use Rattle.matrix_lines.specs.declared.matrix.Matrix.{Matrix}
 use Rattle.operations.specs.Laid.{Laid, linesOf, stateOf}
 use Rattle.operations.specs.declared.workspace.Workspace.{Workspace}
-use Rattle.operations.proofs.Regions.{Disjoint, Inside, entry-inside, contents-apart}
+use Rattle.operations.proofs.Regions.{Disjoint, entry-inside, contents-apart}
 use Rattle.reducer.specs.StageAnswers.{ReductionDone}
 use Rattle.boundaries.specs.Filled.{MatrixFilled}
 use Rattle.boundaries.proofs.Filled.{filled-under}
 use Rattle.two_reductions.specs.Workspaces.{firstWorkspace, secondWorkspace}
 use Rattle.two_reductions.specs.Slices.{firstWorkspaceOf, secondWorkspaceOf, firstReduction, startPeak, ZeroFrom}
 use Rattle.two_reductions.proofs.Places.{first-laid, held-column-follower}
-use Rattle.two_reductions.proofs.Filling.{state-is, lines-absent, identity-small, start-one, start-limit}
+use Rattle.two_reductions.proofs.Filling.{state-is, identity-small, start-one, start-limit}
 use Rattle.two_reductions.proofs.Between.{laid-second}
 
 -- a transform is a table of the identity, which has no entries where it is absent

@@ -1,5 +1,5 @@
 -- `surface::surface_through` meets its contract: what it answers and writes is `SurfaceThrough`'s to say, from what `surface_at` ensures.
-use mathlib.Core.Path.{_≡_, sym, _∙_, subst}
+use mathlib.Core.Path.{_≡_, sym}
 use mathlib.Core.Bool.{true}
 use mathlib.Core.Logic.{_≢_, _⊎_}
 use mathlib.Core.List.{List}

@@ -1,6 +1,6 @@
 -- `reductions::reduce_second` meets its contract: the transform that is kept is filled in room that reads 0 (`Kept`), and each call's answer is one step of
 -- the definition of the two reductions (`Outcomes`).
-use mathlib.Core.Path.{_≡_, refl, sym, _∙_, ap, subst}
+use mathlib.Core.Path.{_≡_, refl, sym, _∙_, ap}
 use mathlib.Core.Bool.{Bool, true, false}
 use Prim.Native.Nat.{ℕ, suc, _≤_, _<_, max}
 use native.Mathlib.Omega.{arith}

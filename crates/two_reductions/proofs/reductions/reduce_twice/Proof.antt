@@ -1,10 +1,10 @@
 -- `reductions::reduce_twice` meets its contract: the first reduction is lent a part of a slice of zeros, which comes back with zeros behind it (`Part`); the
 -- second is lent the slice.
 use mathlib.Core.Path.{_≡_, refl, sym, subst, _∙_, ap}
-use mathlib.Core.Bool.{Bool, true, false}
+use mathlib.Core.Bool.{Bool}
 use mathlib.Core.List.{List, _++_}
 use Prim.Native.Nat.{ℕ, _+_, _-_, _≤_}
-use native.Mathlib.Nat.{le-refl, le-of-eq}
+use native.Mathlib.Nat.{le-of-eq}
 use native.Mathlib.Omega.{arith}
 use borrow.Author.Needs.{needs}
 use denote.Ref.{now}
@@ -18,13 +18,13 @@ use Rattle.limits.specs.Limits.{libraryLimit}
 use Rattle.reduction_steps.specs.Pivot.{pivotRule}
 use Rattle.reduction_steps.proofs.PivotLaws.{pivotRule-is-rule}
 use Rattle.reports.specs.Reductions.{secondColumnsOnly, reductionsOf}
-use Rattle.requests.specs.Call.{workSlots, workSlotsFor}
+use Rattle.requests.specs.Call.{workSlots}
 use Rattle.refusal.specs.declared.Refusal.the-variants.{TooWide}
 use Rattle.two_reductions.specs.Slices.{firstWorkspaceOf, TwiceReduced}
 use Rattle.two_reductions.specs.declared.reductions.Reductions.the-variants.{Refused}
 use Rattle.two_reductions.proofs.Sheet.{sheet-chains, slots-of}
 use Rattle.two_reductions.proofs.Places.{room-kept}
-use Rattle.two_reductions.proofs.Outcomes.{reduces-done, reduces-refused, cleared-length, first-refused}
+use Rattle.two_reductions.proofs.Outcomes.{reduces-done, reduces-refused, first-refused}
 use Rattle.two_reductions.proofs.Part.{zeros, part-zeros, rest-zeros, zero-behind, done-whole, cleared-whole}
 use Rattle.two_reductions.proofs.reductions.reduce_twice.Statement.{statement}
 use Rattle.two_reductions.proofs.reductions.reduce_twice.Tie as tie

@@ -1,6 +1,6 @@
 -- `Request::work_slots` meets its contract: the two reductions are laid into so many slots, and a surface keeps one square more.
 use mathlib.Core.Path.{_≡_, sym, ap, _∙_}
-use Prim.Native.Nat.{ℕ, _+_, _*_, _^_, _≤_, _<_, max}
+use Prim.Native.Nat.{ℕ, _+_, _*_, _^_, _≤_, max}
 use native.Mathlib.Omega.{arith}
 use borrow.Author.Needs.{needs}
 use Rattle.two_reductions.proofs.Room.{product-below, slots-below, max-below}
