@@ -253,7 +253,7 @@ def shadow(room, name, change):
 
 
 def is_use(name):
-    return name.startswith("Use") or name in ("Hollow.antt", "Plane.antt")
+    return name.startswith("Use") or name in ("Filled.antt", "Hollow.antt", "Plane.antt")
 
 
 HALVES = """
