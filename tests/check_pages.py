@@ -26,7 +26,7 @@ OTHERS = {"solver.c", "FILE.msh", "FILE.sheet", "OUT.msh", "NEW.msh", "ring.msh"
 # A mesh without loops, and what the first program of PYTHON.md prints of it.
 TRIANGLE = ("$MeshFormat\n2.2 0 8\n$EndMeshFormat\n$Nodes\n3\n1 0 0 0\n2 1 0 0\n3 0 1 0\n$EndNodes\n"
             "$Elements\n1\n1 2 2 1 1 1 2 3\n$EndElements\n")
-NO_LOOPS = "0 free, orders [], peak 1, which needs 1 of 20 bits\n"
+NO_LOOPS = "0 free, orders [], peak 1, which needs 1 of 20 bits\nthe rim of triangle (1, 2, 3) bounds {(1, 2, 3): 1}\n"
 
 
 def code(page):
