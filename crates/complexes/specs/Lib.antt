@@ -2,6 +2,7 @@
 -- `Examples` the order and the words of some cells and the matrices of a tetrahedron.
 pub mod Cell
 pub mod Complex
+pub mod Loose
 pub mod Boundary
 pub mod Packed
 pub mod Examples

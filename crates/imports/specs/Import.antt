@@ -1,14 +1,17 @@
--- The import call: document 02, Note 3. What it answers, and what it leaves in the slice lent for the sheet.
+-- The import call: document 02, Note 3, and Note 7, "An import, after its 16, writes only what the sweep makes of its sheet". What it answers, and what it
+-- leaves in the slice lent for the sheet.
 use mathlib.Core.Bool.{Bool, true, false, not, cond, _||_}
-use mathlib.Core.List.{List, [], _∷_, _++_, map}
-use Prim.Native.Nat.{ℕ, zero, suc}
+use mathlib.Core.List.{List, [], _∷_, map}
+use Prim.Native.Nat.{ℕ, suc}
 use lib.Dec.{eqb, ltb}
-use lib.ListN.{length, drop}
+use lib.ListN.{length}
 use Rattle.lists.specs.Same.{every}
 use Rattle.complexes.specs.Complex.{Sections, count}
 use Rattle.sheet_format.specs.Layout.{layout}
-use Rattle.trials.specs.Trial.{firstRefusal, Answer, done, refused}
+use Rattle.trials.specs.Trial.{firstRefusal}
+use Rattle.trials.specs.Write.{WriteCalled, answerWith}
 use Rattle.sheet_format.specs.Check.{some}
+use Rattle.sweeps.specs.Sweep.{sweptSheet}
 use Rattle.closures.specs.Closure.{elementTop, cellWith, closure, member, repeats}
 use Rattle.mesh_format.specs.Mesh.{Element, Mesh}
 use Rattle.mesh_format.specs.Parse.{Parsed, malformed, parsed, meshOf}
@@ -66,17 +69,7 @@ meshChecks limit room m =
 
 -- ---- what the call answers and leaves
 
--- the answer, done with the sheet's length in bytes or refused, and the slice lent for the sheet as the call leaves it
-pub record ImportCalled : Type 0 where
-  pub answer : Answer ℕ
-  pub output : List ℕ
-
--- refused with the number, unless it is 0: the slice is left alone. Else the bytes are written from its start on, and it is untouched past them.
-unfoldable pub answerWith : ℕ → List ℕ → List ℕ → ImportCalled
-answerWith zero bytes sheet = record { answer = done (length bytes); output = bytes ++ drop (length bytes) sheet }
-answerWith (suc n) bytes sheet = record { answer = refused (suc n); output = sheet }
-
--- the import call at a count limit, on a text and a slice for the sheet
-unfoldable pub importCall : ℕ → List ℕ → List ℕ → ImportCalled
+-- the import call at a count limit, on a text and a slice for the sheet: 16 is about the sheet before the sweep
+unfoldable pub importCall : ℕ → List ℕ → List ℕ → WriteCalled
 importCall limit text sheet =
-    answerWith (firstRefusal (meshChecks limit (length sheet) (meshOf text))) (layout (complexOf (meshIn (meshOf text) .elements))) sheet
+    answerWith (firstRefusal (meshChecks limit (length sheet) (meshOf text))) (sweptSheet (complexOf (meshIn (meshOf text) .elements))) sheet

@@ -1,6 +1,8 @@
-// The refusals of documents 01 and 02.
+// The refusals of documents 01 and 02, and what a call that writes a sheet answers.
 ghost use mathlib.Core.Path.{_≡_};
 ghost use Rattle.refusal.specs.Number.{numberOf};
+
+pub mod written;
 
 pub enum Refusal {
     SheetTooShort,
@@ -20,6 +22,7 @@ pub enum Refusal {
     ElementFaulty,
     SheetTooLong,
     BoundsNothing,
+    LooseNode,
 }
 
 impl Refusal {
@@ -45,6 +48,7 @@ impl Refusal {
             Refusal::ElementFaulty => 15,
             Refusal::SheetTooLong => 16,
             Refusal::BoundsNothing => 17,
+            Refusal::LooseNode => 18,
         }
     }
 }

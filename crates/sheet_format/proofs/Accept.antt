@@ -1,7 +1,8 @@
 -- A sheet is accepted exactly when it holds a simplicial complex laid out as in document 01: demand 2, first half.
---     accepted-iff        no refusal applies exactly when the bytes are the layout of a complex within the limit
+--     accepted-iff        no refusal applies exactly when the bytes are the layout of a complex within the limit that has no loose node
 --     sections-layout, layout-sections, layout-injective     that complex is the one read from the bytes, and the only one
---     accepted-complex    what is read from an accepted sheet is a complex
+--     laid-complex, layout-laid      so it is where none of the checks 1 to 7 applies, loose nodes or not
+--     accepted-complex    what is read from an accepted sheet is a complex, accepted-used: without loose nodes
 --     accepted-chains     the cells that the calls work with make a chain complex
 use mathlib.Core.Path.{_≡_, sym, ap, _∙_, subst}
 use mathlib.Core.Logic.{_↔_}
@@ -14,12 +15,14 @@ use lib.Seq.{ext-getD}
 use Rattle.limits.specs.Limits.{libraryLimit}
 use Rattle.complexes.specs.Cell.{Cell}
 use Rattle.complexes.specs.Complex.{Sections, section, count, cell, Complex}
+use Rattle.complexes.specs.Loose.{NoLooseNodes}
 use Rattle.complexes.proofs.ChainComplex.{ChainComplex, complex-chains}
 use Rattle.sheet_format.specs.Layout.{top, start, layout}
-use Rattle.sheet_format.specs.Check.{fieldAt, countField, startAt, cellOf, sectionsOf, refusal}
+use Rattle.sheet_format.specs.Check.{fieldAt, countField, startAt, cellOf, sectionsOf, complexRefusal, refusal}
 use Rattle.sheet_format.specs.Sheet.{Bytes, IsSheet}
 use Rattle.sheet_format.specs.CheckLaws.{
   Passes,
+  complex-zero,
   refusal-zero,
   tooShort-false,
   countExceeds-false,
@@ -30,13 +33,14 @@ use Rattle.sheet_format.specs.CheckLaws.{
   faceMissing-false,
 }
 use Rattle.sheet_format.specs.SheetLaws.{countField-in, countField-out, countField-below, count-beyond, count-below, length-sectionsOf, count-sectionsOf, cell-sectionsOf, length-cellOf, getD-cellOf, start-ext, start-mono, fieldAt-lt}
+use Rattle.sheet_format.proofs.LooseLaws.{looseNode-false}
 use Rattle.sheet_format.proofs.Pieces.{carries-self, carries-all}
 use Rattle.sheet_format.proofs.LayoutLaws.{Reads, length-layout, bytes-layout, carries-layout}
 
--- ---- what is read from an accepted sheet
+-- ---- what is read from a sheet to which none of the checks 1 to 7 applies
 
-pub accepted-complex : (limit : ℕ) (b : List ℕ) → Bytes b → refusal limit b ≡ 0 → Complex top limit (sectionsOf b)
-accepted-complex limit b h e = record {
+pub laid-complex : (limit : ℕ) (b : List ℕ) → Bytes b → complexRefusal limit b ≡ 0 → Complex top limit (sectionsOf b)
+laid-complex limit b h e = record {
   dimensions = length-sectionsOf b;
   within = λ p. rw (count-sectionsOf b p) (within p (decLe p top));
   sized = λ p i l. ap length (at p i l) ∙ length-cellOf b (suc p) (startAt b p + 2 * (suc p * i));
@@ -48,7 +52,7 @@ accepted-complex limit b h e = record {
 }
   where
     passes : Passes limit b
-    passes = refusal-zero limit b .0 e
+    passes = complex-zero limit b .0 e
 
     within : (p : ℕ) → Dec (p ≤ top) → countField b p ≤ limit
     within p (yes l) = countExceeds-false limit b .0 (passes .counts) p l
@@ -59,6 +63,14 @@ accepted-complex limit b h e = record {
 
     at : (p i : ℕ) → i < count (sectionsOf b) p → cell (sectionsOf b) p i ≡ cellOf b (suc p) (startAt b p + 2 * (suc p * i))
     at p i l = cell-sectionsOf b p i (below p i l) (rw (count-sectionsOf b p) at l)
+
+-- ---- what is read from an accepted sheet
+
+pub accepted-complex : (limit : ℕ) (b : List ℕ) → Bytes b → refusal limit b ≡ 0 → Complex top limit (sectionsOf b)
+accepted-complex limit b h e = laid-complex limit b h (refusal-zero limit b .0 e .0)
+
+pub accepted-used : (limit : ℕ) (b : List ℕ) → Bytes b → refusal limit b ≡ 0 → NoLooseNodes (sectionsOf b)
+accepted-used limit b h e = looseNode-false (accepted-complex limit b h e) .0 (refusal-zero limit b .0 e .1)
 
 pub accepted-chains : (limit : ℕ) (b : List ℕ) → Bytes b → refusal limit b ≡ 0 → ChainComplex limit (sectionsOf b)
 accepted-chains limit b h e = complex-chains (accepted-complex limit b h e)
@@ -102,9 +114,9 @@ module _ {limit : ℕ} {K : Sections} (complex : Complex top limit K) where
   pub sections-layout : limit ≤ libraryLimit → sectionsOf (layout K) ≡ K
   sections-layout small = reads-sections (reads-layout small)
 
-  pub accepted-layout : limit ≤ libraryLimit → refusal limit (layout K) ≡ 0
+  pub laid-layout : limit ≤ libraryLimit → complexRefusal limit (layout K) ≡ 0
   unfolding start
-  accepted-layout small = refusal-zero limit (layout K) .1 (record {
+  laid-layout small = complex-zero limit (layout K) .1 (record {
     long = tooShort-false (layout K) .1 (rw (length-layout complex) (start-mono (count K) 0 (suc top) (omega arith)));
     counts = countExceeds-false limit (layout K) .1 (λ p _. rw (reads-count r p) (complex .within p));
     offsets = offsetDiffers-false (layout K) .1 (λ p l. r .offsets p l ∙ sym (reads-start r p));
@@ -117,15 +129,18 @@ module _ {limit : ℕ} {K : Sections} (complex : Complex top limit K) where
       r : Reads (layout K) K
       r = reads-layout small
 
+  pub accepted-layout : NoLooseNodes K → limit ≤ libraryLimit → refusal limit (layout K) ≡ 0
+  accepted-layout used small = refusal-zero limit (layout K) .1 (laid-layout small, rw (sections-layout small) (looseNode-false complex .1 used))
+
 pub layout-injective : {limit : ℕ} → limit ≤ libraryLimit → {K L : Sections} → Complex top limit K → Complex top limit L → layout K ≡ layout L → K ≡ L
 layout-injective small k l e = sym (sections-layout k small) ∙ ap sectionsOf e ∙ sections-layout l small
 
--- ---- an accepted sheet is the layout of what is read from it
+-- ---- such a sheet is the layout of what is read from it
 
-accepted-reads : (limit : ℕ) (b : List ℕ) → refusal limit b ≡ 0 → Reads b (sectionsOf b)
-accepted-reads limit b e = record {
+laid-reads : (limit : ℕ) (b : List ℕ) → complexRefusal limit b ≡ 0 → Reads b (sectionsOf b)
+laid-reads limit b e = record {
   counts = λ p l. sym (countField-in b p l) ∙ sym (count-sectionsOf b p);
-  offsets = λ p l. offsetDiffers-false b .0 (refusal-zero limit b .0 e .offsets) p l ∙ starts p;
+  offsets = λ p l. offsetDiffers-false b .0 (complex-zero limit b .0 e .offsets) p l ∙ starts p;
   vertices = λ p i j l m.
       let k : i < countField b p = rw (count-sectionsOf b p) at l in
       ap (λ (s : ℕ). fieldAt b (s + 2 * (suc p * i) + 2 * j)) (sym (starts p))
@@ -136,18 +151,26 @@ accepted-reads limit b e = record {
     starts : (p : ℕ) → startAt b p ≡ start (count (sectionsOf b)) p
     starts p = start-ext (countField b) (count (sectionsOf b)) p (λ q _. sym (count-sectionsOf b q))
 
-pub layout-sections : (limit : ℕ) → limit ≤ libraryLimit → (b : List ℕ) → Bytes b → refusal limit b ≡ 0 → layout (sectionsOf b) ≡ b
-layout-sections limit small b h e =
-    carries-all b (layout (sectionsOf b)) (carries-layout complex small b h .1 (accepted-reads limit b e))
+pub layout-laid : (limit : ℕ) → limit ≤ libraryLimit → (b : List ℕ) → Bytes b → complexRefusal limit b ≡ 0 → layout (sectionsOf b) ≡ b
+layout-laid limit small b h e =
+    carries-all b (layout (sectionsOf b)) (carries-layout complex small b h .1 (laid-reads limit b e))
     (length-layout complex
     ∙ start-ext (count (sectionsOf b)) (countField b) (suc top) (λ q _. count-sectionsOf b q)
-    ∙ sym (lengthDiffers-false b .0 (refusal-zero limit b .0 e .ends)))
+    ∙ sym (lengthDiffers-false b .0 (complex-zero limit b .0 e .ends)))
   where
     complex : Complex top limit (sectionsOf b)
-    complex = accepted-complex limit b h e
+    complex = laid-complex limit b h e
+
+pub layout-sections : (limit : ℕ) → limit ≤ libraryLimit → (b : List ℕ) → Bytes b → refusal limit b ≡ 0 → layout (sectionsOf b) ≡ b
+layout-sections limit small b h e = layout-laid limit small b h (refusal-zero limit b .0 e .0)
 
 pub accepted-iff : (limit : ℕ) → limit ≤ libraryLimit → (b : List ℕ) → Bytes b → (refusal limit b ≡ 0) ↔ IsSheet limit b
 accepted-iff limit small b h = (
-  λ e. record { cells = sectionsOf b; complex = accepted-complex limit b h e; bytes = layout-sections limit small b h e },
-  λ s. subst (λ (x : List ℕ). refusal limit x ≡ 0) (s .bytes) (accepted-layout (s .complex) small),
+  λ e. record {
+    cells = sectionsOf b;
+    complex = accepted-complex limit b h e;
+    used = accepted-used limit b h e;
+    bytes = layout-sections limit small b h e;
+  },
+  λ s. subst (λ (x : List ℕ). refusal limit x ≡ 0) (s .bytes) (accepted-layout (s .complex) (s .used) small),
 )

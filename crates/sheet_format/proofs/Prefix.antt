@@ -16,7 +16,7 @@ use borrow.Author.Tests.{le-ltb, ne-eqb}
 use Rattle.sheet_format.specs.Layout.{top, headerLength, longest}
 use Rattle.trials.specs.Trial.{firstRefusal}
 use Rattle.sheet_format.specs.Check.{fieldAt, countField, offsetField, startAt, countExceeds, offsetDiffers, lengthDiffers, sheetChecks, refusal}
-use Rattle.sheet_format.specs.CheckLaws.{some-ext, countExceeds-false, lengthDiffers-false, refusal-zero}
+use Rattle.sheet_format.specs.CheckLaws.{some-ext, countExceeds-false, lengthDiffers-false, complex-zero, refusal-zero}
 use Rattle.sheet_format.specs.SheetLaws.{countField-in, countField-out, start-ext, start-le}
 
 -- ---- a longer sheet
@@ -34,7 +34,7 @@ start-longest limit b e = start-le (countField b) limit (suc top) (λ p l. count
 
 pub accepted-length : (limit : ℕ) (b : List ℕ) → refusal limit b ≡ 0 → length b ≤ longest limit
 accepted-length limit b e =
-    let passes = refusal-zero limit b .0 e in
+    let passes = complex-zero limit b .0 (refusal-zero limit b .0 e .0) in
     omega (arith, start-longest limit b (passes .counts), lengthDiffers-false b .0 (passes .ends))
 
 length-long : (limit : ℕ) (b : List ℕ) → longest limit < length b → countExceeds limit b ≡ false → lengthDiffers b ≡ true

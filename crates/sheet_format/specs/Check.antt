@@ -1,6 +1,7 @@
--- What the bytes of a sheet hold, and the refusals 1 to 7: document 01, "The sheet" and "The report and the coordinates". Everything computes.
-use mathlib.Core.Bool.{Bool, false, not, cond, _||_}
-use mathlib.Core.List.{List, [], _∷_}
+-- What the bytes of a sheet hold, and the refusals 1 to 7 and 18: document 01, "The sheet" and "The report and the coordinates", and document 02, Note 7.
+-- Everything computes.
+use mathlib.Core.Bool.{Bool, false, not, cond, _&&_, _||_}
+use mathlib.Core.List.{List, [], _∷_, _++_}
 use Prim.Native.Nat.{ℕ, zero, suc, _+_, _*_, pred}
 use lib.Dec.{eqb, ltb, leb}
 use lib.ListN.{length, getD}
@@ -76,11 +77,23 @@ unfoldable pub faceMissing : Sections → Bool
 faceMissing K =
     some top (λ p. some (count K (suc p)) (λ i. some (suc (suc p)) (λ j. not (listed (without j (cell K (suc p) i)) (section K p)))))
 
+-- v is one of the two vertices of edge k
+abbrev pub onEdge : Sections → ℕ → ℕ → Bool
+onEdge K v k = eqb (getD (cell K 1 k) 0 0) v || eqb (getD (cell K 1 k) 1 0) v
+
+-- vertex i stands in no edge, where there is an edge
+unfoldable pub loose : Sections → ℕ → Bool
+loose K i = ltb 0 (count K 1) && not (some (count K 1) (onEdge K (getD (cell K 0 i) 0 0)))
+
+-- 18: a vertex is loose
+unfoldable pub looseNode : Sections → Bool
+looseNode K = some (count K 0) (loose K)
+
 -- ---- the order of trial
 
--- the checks of the sheet b at the count limit
-abbrev pub sheetChecks : ℕ → List ℕ → List (ℕ × Bool)
-sheetChecks limit b =
+-- the checks of the sheet b at the count limit: those that the sweep tries ..
+abbrev pub complexChecks : ℕ → List ℕ → List (ℕ × Bool)
+complexChecks limit b =
     (1, tooShort b)
     ∷ (2, countExceeds limit b)
     ∷ (3, offsetDiffers b)
@@ -88,6 +101,14 @@ sheetChecks limit b =
     ∷ (5, verticesDoNotRise (sectionsOf b))
     ∷ (6, cellsDoNotRise (sectionsOf b))
     ∷ (7, faceMissing (sectionsOf b)) ∷ []
+
+-- .. and all of them, which every other call tries
+abbrev pub sheetChecks : ℕ → List ℕ → List (ℕ × Bool)
+sheetChecks limit b = complexChecks limit b ++ ((18, looseNode (sectionsOf b)) ∷ [])
+
+-- the number of the first refusal of the sweep's that applies to the sheet b at the count limit, 0 for none
+unfoldable pub complexRefusal : ℕ → List ℕ → ℕ
+complexRefusal limit b = firstRefusal (complexChecks limit b)
 
 -- the number of the first refusal that applies to the sheet b at the count limit, 0 if it is accepted
 unfoldable pub refusal : ℕ → List ℕ → ℕ

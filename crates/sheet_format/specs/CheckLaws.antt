@@ -1,11 +1,12 @@
 -- Laws of the checks: what `some` decides, when `refusal` is 0.
 --     some-true, some-false    a test passes for some number below n, or fails for each
 --     tooShort-false, ..       what it means that a check tells no fault
---     refusal-zero             a sheet is accepted exactly when none of the seven checks tells one
+--     complex-zero             none of the checks 1 to 7 applies exactly when none of them tells a fault
+--     refusal-zero             a sheet is accepted exactly when none of them applies and no node is loose
 use mathlib.Core.Path.{_≡_, refl, ap, _∙_, ap₂}
 use mathlib.Core.Logic.{_↔_, _⊎_, inl, inr}
 use mathlib.Core.Bool.{Bool, true, false, not, _||_, true≢false, false≢true}
-use mathlib.Core.List.{List}
+use mathlib.Core.List.{List, [], _∷_}
 use Prim.Native.Nat.{ℕ, zero, suc, pred, _≤_, _<_, suc-le-suc}
 use native.Mathlib.Nat.{le-of-suc-le-suc, not-suc-le-zero, lt-suc-self}
 use native.Mathlib.Decide.{decLt}
@@ -17,8 +18,9 @@ use Rattle.complexes.specs.Cell.{Cell, without, rises, precedes, listed, Listed
 use Rattle.complexes.specs.Complex.{Sections, section, count, cell}
 use Rattle.complexes.proofs.CellLaws.{listed-true, Listed-listed}
 use Rattle.sheet_format.specs.Layout.{top, headerLength}
-use Rattle.sheet_format.specs.Check.{countField, offsetField, startAt, sectionsOf, some, sheetChecks, refusal, tooShort, countExceeds, offsetDiffers, lengthDiffers, verticesDoNotRise, cellsDoNotRise, faceMissing}
-use Rattle.trials.proofs.FirstLaws.{first-zero}
+use Rattle.sheet_format.specs.Check.{countField, offsetField, startAt, sectionsOf, some, complexChecks, complexRefusal, refusal, looseNode, tooShort, countExceeds, offsetDiffers, lengthDiffers, verticesDoNotRise, cellsDoNotRise, faceMissing}
+use Rattle.trials.specs.Trial.{firstRefusal}
+use Rattle.trials.proofs.FirstLaws.{first-zero, first-append-zero}
 
 -- ---- some
 
@@ -28,7 +30,7 @@ pub record Found (n : ℕ) (f : ℕ → Bool) : Type 0 where
   pub below : place < n
   pub passes : f place ≡ true
 
-or-cases : (a b : Bool) → a || b ≡ true → (a ≡ true) ⊎ (b ≡ true)
+pub or-cases : (a b : Bool) → a || b ≡ true → (a ≡ true) ⊎ (b ≡ true)
 or-cases true b e = inl refl
 or-cases false b e = inr e
 
@@ -184,14 +186,25 @@ pub record Passes (limit : ℕ) (b : List ℕ) : Type 0 where
   pub cells : cellsDoNotRise (sectionsOf b) ≡ false
   pub faces : faceMissing (sectionsOf b) ≡ false
 
-pub refusal-zero : (limit : ℕ) (b : List ℕ) → refusal limit b ≡ 0 ↔ Passes limit b
-unfolding refusal
-refusal-zero limit b = (to, from)
+pub complex-zero : (limit : ℕ) (b : List ℕ) → complexRefusal limit b ≡ 0 ↔ Passes limit b
+unfolding complexRefusal
+complex-zero limit b = (to, from)
   where
-    to : refusal limit b ≡ 0 → Passes limit b
+    to : complexRefusal limit b ≡ 0 → Passes limit b
     to e =
-        let (long, (counts, (offsets, (ends, (vertices, (cells, (faces, _))))))) = first-zero (sheetChecks limit b) refl .0 e in
+        let (long, (counts, (offsets, (ends, (vertices, (cells, (faces, _))))))) = first-zero (complexChecks limit b) refl .0 e in
         record { long = long; counts = counts; offsets = offsets; ends = ends; vertices = vertices; cells = cells; faces = faces }
 
-    from : Passes limit b → refusal limit b ≡ 0
+    from : Passes limit b → complexRefusal limit b ≡ 0
     from k = rw (k .long, k .counts, k .offsets, k .ends, k .vertices, k .cells, k .faces)
+
+-- no node is loose, told by the last check alone
+last-zero : (fault : Bool) → firstRefusal ((18, fault) ∷ []) ≡ 0 ↔ (fault ≡ false)
+last-zero fault = (λ e. first-zero ((18, fault) ∷ []) refl .0 e .0, λ e. rw e)
+
+pub refusal-zero : (limit : ℕ) (b : List ℕ) → refusal limit b ≡ 0 ↔ ((complexRefusal limit b ≡ 0) × (looseNode (sectionsOf b) ≡ false))
+unfolding refusal complexRefusal
+refusal-zero limit b =
+    let parts = first-append-zero (complexChecks limit b) ((18, looseNode (sectionsOf b)) ∷ []) refl in
+    let last = last-zero (looseNode (sectionsOf b)) in
+    (λ e. let k = parts .0 e in (k .0, last .0 (k .1)), λ k. parts .1 (k .0, last .1 (k .1)))

@@ -1,4 +1,4 @@
--- The sheet as bytes: its layout, and the checks 1 to 7.
+-- The sheet as bytes: its layout, and the checks 1 to 7 and 18.
 pub mod Layout
 pub mod Check
 pub mod Sheet
