@@ -11,7 +11,7 @@ use Prim.Native.Nat.{ℕ, zero, suc, _+_}
 use native.Mathlib.Omega.{arith}
 use lib.ListN.{length, drop}
 use Rattle.complexes.specs.Complex.{Sections}
-use Rattle.sheet_format.specs.Layout.{layout}
+use Rattle.sweeps.specs.Sweep.{sweptSheet}
 use Rattle.trials.specs.Trial.{firstRefusal}
 use Rattle.closures.specs.Closure.{elementTop, member}
 use Rattle.closures.specs.Form.{IsClosure}
@@ -19,17 +19,14 @@ use Rattle.mesh_format.specs.Mesh.{Mesh}
 use Rattle.mesh_format.specs.Form.{MeshText}
 use Rattle.mesh_format.specs.Parse.{Parsed, malformed, parsed, meshOf}
 use Rattle.trials.specs.Trial.{done, refused, numberTold}
-use Rattle.imports.specs.Import.{elementsRight, nodeLists, complexOf, meshIn, isMalformed, tooLong, meshChecks, answerWith, importCall}
+use Rattle.trials.specs.Write.{answerWith}
+use Rattle.trials.proofs.WriteLaws.{answer-number, answer-left}
+use Rattle.imports.specs.Import.{elementsRight, nodeLists, complexOf, meshIn, isMalformed, tooLong, meshChecks, importCall}
 use Rattle.mesh_format.proofs.Accept.{mesh-iff, malformed-iff, meshOf-ends}
 use Rattle.closures.proofs.ClosureLaws.{closure-is, closure-unique}
 use Rattle.imports.proofs.ElementLaws.{right-few}
 
 -- ---- the number told
-
-answerWith-number : (n : ℕ) (bytes sheet : List ℕ) → numberTold (answerWith n bytes sheet .answer) ≡ n
-unfolding answerWith
-answerWith-number zero bytes sheet = refl
-answerWith-number (suc n) bytes sheet = refl
 
 -- 15 and 16, where the elements are right or not and the sheet too long or not
 abbrev pub told : Bool → Bool → ℕ
@@ -64,7 +61,7 @@ module _ (limit : ℕ) (text sheet : List ℕ) where
 
   number-is : numberTold (importCall limit text sheet .answer) ≡ number
   unfolding importCall
-  number-is = answerWith-number number (layout (complexOf (meshIn (meshOf text) .elements))) sheet
+  number-is = answer-number number (sweptSheet (complexOf (meshIn (meshOf text) .elements))) sheet
 
   abbrev long : Mesh → Bool
   long m = tooLong limit (length sheet) (complexOf (m .elements))
@@ -79,7 +76,7 @@ module _ (limit : ℕ) (text sheet : List ℕ) where
 
   -- what the call does on a text that tells a mesh, and on one that is not of the form
   pub import-is : (m : Mesh) (at : ℕ) → meshOf text ≡ parsed m at
-      → importCall limit text sheet ≡ answerWith (told (elementsRight m) (long m)) (layout (complexOf (m .elements))) sheet
+      → importCall limit text sheet ≡ answerWith (told (elementsRight m) (long m)) (sweptSheet (complexOf (m .elements))) sheet
   unfolding importCall meshChecks isMalformed meshIn
   import-is m at e = rw e refl
 
@@ -115,7 +112,7 @@ module _ (limit : ℕ) (text sheet : List ℕ) where
           (rw (import-parsed m t) (told-16 (elementsRight m) (long m) r))
 
       pub import-done : tooLong limit (length sheet) K ≡ false
-          → importCall limit text sheet ≡ record { answer = done (length (layout K)); output = layout K ++ drop (length (layout K)) sheet }
+          → importCall limit text sheet ≡ record { answer = done (length (sweptSheet K)); output = sweptSheet K ++ drop (length (sweptSheet K)) sheet }
       unfolding importCall answerWith meshIn
       import-done short =
           rw (sym same)
@@ -124,12 +121,8 @@ module _ (limit : ℕ) (text sheet : List ℕ) where
   -- ---- what is left
 
   pub import-left : numberTold (importCall limit text sheet .answer) ≢ 0 → importCall limit text sheet .output ≡ sheet
-  unfolding importCall answerWith
-  import-left d = left number (λ e. d (number-is ∙ e))
-    where
-      left : (n : ℕ) → (n ≡ 0 → ⊥) → answerWith n (layout (complexOf (meshIn (meshOf text) .elements))) sheet .output ≡ sheet
-      left zero d = absurd (d refl)
-      left (suc n) d = refl
+  unfolding importCall
+  import-left = answer-left number (sweptSheet (complexOf (meshIn (meshOf text) .elements))) sheet
 
   -- ---- where it is done
 

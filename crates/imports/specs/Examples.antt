@@ -2,17 +2,19 @@
 --     import-examples                          every line of the table is right
 --     hollow-text, hollow-right, hollow-done, hollow-host-done   a text, its mesh and imports that are done
 use mathlib.Core.Path.{_≡_, refl}
-use mathlib.Core.Bool.{Bool, true, false, cond, _&&_}
+use mathlib.Core.Bool.{true, cond}
 use mathlib.Core.List.{List, [], _∷_, _++_, map}
 use Prim.Native.Nat.{ℕ, _+_, _/_, _%_}
-use lib.Dec.{T, eqb, ltb}
-use lib.ListN.{length, drop, replicate}
+use lib.Dec.{T, ltb}
+use lib.ListN.{length}
 use Rattle.lists.specs.Tabulate.{tabulate}
 use Rattle.lists.specs.Same.{every, sameList}
 use Rattle.complexes.specs.Cell.{without, precedes}
 use Rattle.sheet_format.specs.Layout.{cellBytes, sectionBytes, sectionsBytes, start, headerBytes, layout}
-use Rattle.sheet_format.specs.Check.{some}
+use Rattle.sheet_format.specs.Check.{some, loose}
 use Rattle.sheet_format.specs.Starred.{noCells, hollowTriangle, filledTriangle}
+use Rattle.sheet_format.specs.OrderCases.{twoVertices}
+use Rattle.closures.specs.Keep.{kept, keep}
 use Rattle.closures.specs.Insert.{insert, insertAll}
 use Rattle.closures.specs.Closure.{member, repeats, ofDimension, facesOf, closedSection, closure}
 use Rattle.mesh_format.specs.Mesh.{Mesh}
@@ -21,8 +23,10 @@ use Rattle.mesh_format.specs.Form.{joined, MeshText}
 use Rattle.mesh_format.specs.Examples.{openFormat, format, endFormat, openNodes, endNodes, openElements, endElements}
 use Rattle.mesh_format.specs.Parse.{then, run, someBytes, word, gap, lineEnd, digitsAt, number, node, theWord, words, wordLine, titleLine, formatLine, countLine, nodeLine, nodesWithin, nodeNumbers, elementLine, nodeLines, elementLines, closingWithin, closingLine, sectionsWithin, sections, headOf, nodesOf, elementsOf, meshOf}
 use Rattle.mesh_format.proofs.Accept.{mesh-iff}
-use Rattle.trials.specs.Trial.{Answer, done, refused, numberTold}
-use Rattle.imports.specs.Import.{nodesOfKind, faulty, noneFaulty, elementsRight, meshIn, isMalformed, tooLong, meshChecks, ImportCalled, answerWith, importCall}
+use Rattle.trials.specs.Trial.{done, numberTold}
+use Rattle.trials.specs.Write.{answerWith}
+use Rattle.sweeps.specs.Cases.{lent, Case, written, told, sameAnswer, good}
+use Rattle.imports.specs.Import.{nodesOfKind, faulty, noneFaulty, elementsRight, meshIn, isMalformed, tooLong, meshChecks, importCall}
 
 -- ---- texts
 
@@ -49,6 +53,14 @@ hollow = textOf (0 ∷ 1 ∷ 2 ∷ []) ((1 ∷ 1 ∷ 0 ∷ 1 ∷ 0 ∷ []) ∷ (
 -- the triangle 0, 1, 2, with its corner 1
 abbrev pub filled : List ℕ
 filled = textOf (2 ∷ 1 ∷ 0 ∷ []) ((1 ∷ 2 ∷ 0 ∷ 2 ∷ 0 ∷ 1 ∷ []) ∷ (2 ∷ 15 ∷ 0 ∷ 1 ∷ []) ∷ [])
+
+-- the triangle 0, 1, 2, and the node 3 as a point, which is loose
+abbrev pub filledAndPoint : List ℕ
+filledAndPoint = textOf (0 ∷ 1 ∷ 2 ∷ 3 ∷ []) ((1 ∷ 15 ∷ 0 ∷ 3 ∷ []) ∷ (2 ∷ 2 ∷ 0 ∷ 0 ∷ 1 ∷ 2 ∷ []) ∷ [])
+
+-- the nodes 3 and 5 as points
+abbrev pub points : List ℕ
+points = textOf (3 ∷ 5 ∷ []) ((1 ∷ 15 ∷ 0 ∷ 5 ∷ []) ∷ (2 ∷ 15 ∷ 0 ∷ 3 ∷ []) ∷ [])
 
 -- the tetrahedron 1, 2, 5, 7, with a node listed twice and one that no element uses
 abbrev pub tetrahedron : List ℕ
@@ -89,25 +101,6 @@ none = textOf [] []
 
 -- ---- the table
 
--- the slice lent for the sheet: so many bytes, all 9
-abbrev pub lent : ℕ → List ℕ
-lent room = replicate room 9
-
--- a text, the count limit, the bytes lent, and what is answered and left
-pub record Case : Type 0 where
-  pub text : List ℕ
-  pub limit : ℕ
-  pub room : ℕ
-  pub called : ImportCalled
-
--- done with the sheet, of so many bytes
-abbrev written : List ℕ → ℕ → ℕ → ℕ → List ℕ → Case
-written text limit room n sheet =
-    record { text = text; limit = limit; room = room; called = record { answer = done n; output = sheet ++ drop n (lent room) } }
-
-abbrev told : List ℕ → ℕ → ℕ → ℕ → Case
-told text limit room n = record { text = text; limit = limit; room = room; called = record { answer = refused n; output = lent room } }
-
 unfoldable pub table : List Case
 table =
     written hollow 256 40 34 hollowTriangle
@@ -116,6 +109,11 @@ table =
     ∷ told hollow 2 40 16
     ∷ written filled 48 40 40 filledTriangle
     ∷ told filled 48 39 16
+    ∷ written filledAndPoint 48 50 40 filledTriangle
+    ∷ written filledAndPoint 4 42 40 filledTriangle
+    ∷ told filledAndPoint 48 41 16
+    ∷ told filledAndPoint 3 50 16
+    ∷ written points 48 30 20 twoVertices
     ∷ written tetrahedron 6 82 80 tetrahedronSheet
     ∷ told tetrahedron 5 82 16
     ∷ told otherKind 48 40 15
@@ -129,24 +127,13 @@ table =
     ∷ told none 48 15 16
     ∷ []
 
-unfoldable pub sameAnswer : Answer ℕ → Answer ℕ → Bool
-sameAnswer (done m) (done n) = eqb m n
-sameAnswer (done m) (refused n) = false
-sameAnswer (refused m) (done n) = false
-sameAnswer (refused m) (refused n) = eqb m n
-
-unfoldable pub good : Case → Bool
-good case =
-    sameAnswer (importCall (case .limit) (case .text) (lent (case .room)) .answer) (case .called .answer)
-    && sameList eqb (importCall (case .limit) (case .text) (lent (case .room)) .output) (case .called .output)
-
-pub import-examples : T (every good table)
+pub import-examples : T (every (good importCall) table)
 unfolding joined shown line textOf every table good sameAnswer sameList some tabulate without precedes
     then run someBytes word gap lineEnd digitsAt number node theWord words wordLine titleLine formatLine countLine nodeLine nodesWithin nodeNumbers elementLine
     nodeLines elementLines closingWithin closingLine sectionsWithin sections headOf nodesOf elementsOf meshOf valueFrom
     insert insertAll member repeats ofDimension facesOf closedSection closure
     nodesOfKind faulty noneFaulty meshIn isMalformed tooLong meshChecks answerWith importCall
-    layout headerBytes start sectionsBytes sectionBytes cellBytes
+    loose kept keep layout headerBytes start sectionsBytes sectionBytes cellBytes
 import-examples = tt
 
 -- ---- the hypotheses of the claims are met
@@ -178,7 +165,7 @@ unfolding joined shown line textOf every sameList some tabulate without precedes
     nodeLines elementLines closingWithin closingLine sectionsWithin sections headOf nodesOf elementsOf meshOf valueFrom
     insert insertAll member repeats ofDimension facesOf closedSection closure
     nodesOfKind faulty noneFaulty meshIn isMalformed tooLong meshChecks answerWith importCall
-    layout headerBytes start sectionsBytes sectionBytes cellBytes
+    loose kept keep layout headerBytes start sectionsBytes sectionBytes cellBytes
 hollow-done = refl
 
 pub hollow-host-done : numberTold (importCall 48 hollow (lent 40) .answer) ≡ 0
@@ -187,5 +174,5 @@ unfolding joined shown line textOf every sameList some tabulate without precedes
     nodeLines elementLines closingWithin closingLine sectionsWithin sections headOf nodesOf elementsOf meshOf valueFrom
     insert insertAll member repeats ofDimension facesOf closedSection closure
     nodesOfKind faulty noneFaulty meshIn isMalformed tooLong meshChecks answerWith importCall
-    layout headerBytes start sectionsBytes sectionBytes cellBytes
+    loose kept keep layout headerBytes start sectionsBytes sectionBytes cellBytes
 hollow-host-done = refl

@@ -1,20 +1,24 @@
 -- Loose nodes of a complex.
 --     loose-false        a vertex is not loose exactly when it stands in an edge or there is none
 --     looseNode-false    no vertex is loose exactly when there is no edge or each stands in one
-use mathlib.Core.Path.{_≡_, refl, sym, _∙_, ap}
+--     refusal-18         18 is told exactly where none of the checks 1 to 7 applies and a vertex is loose
+--     refusal-edgeless   a sheet without edges is refused as by the checks 1 to 7 alone
+use mathlib.Core.Path.{_≡_, refl, _∙_, ap}
 use mathlib.Core.Logic.{_↔_, _⊎_, inl, inr}
-use mathlib.Core.Bool.{Bool, true, false, not, _&&_, _||_, or-true, true≢false, false≢true}
+use mathlib.Core.List.{List, [], _∷_}
+use mathlib.Core.Bool.{Bool, true, false, not, _&&_, _||_, or-true}
 use Prim.Native.Nat.{ℕ, zero, suc, _<_}
-use native.Mathlib.Decide.{decLt}
 use native.Mathlib.Omega.{arith}
 use lib.Dec.{eqb, ltb}
 use lib.ListN.{length, getD}
-use borrow.Author.Tests.{lt-ltb, ltb-true, eqb-true, eq-eqb, not-false}
+use borrow.Author.Tests.{lt-ltb, le-ltb, ltb-true, eqb-true, eq-eqb, not-false}
 use Rattle.complexes.specs.Cell.{Cell, Vertex, Subset}
 use Rattle.complexes.specs.Complex.{Sections, count, cell, Complex}
 use Rattle.complexes.specs.Loose.{InEdge, NoLooseNodes}
 use Rattle.sheet_format.specs.Layout.{top}
-use Rattle.sheet_format.specs.Check.{some, onEdge, loose, looseNode}
+use Rattle.trials.specs.Trial.{firstRefusal}
+use Rattle.trials.proofs.FirstLaws.{orElse, first-append, first-append-absent, first-append-passed}
+use Rattle.sheet_format.specs.Check.{sectionsOf, some, onEdge, loose, looseNode, complexChecks, complexRefusal, refusal}
 use Rattle.sheet_format.specs.CheckLaws.{Found, or-cases, some-true, some-false}
 
 module _ {limit : ℕ} {K : Sections} (complex : Complex top limit K) where
@@ -38,9 +42,6 @@ module _ {limit : ℕ} {K : Sections} (complex : Complex top limit K) where
       pick (inr e) = record { place = 1; below = omega (arith, complex .sized 1 k l); is = eqb-true (getD e₁ 1 0) v e }
 
   module _ (i : ℕ) (l : i < count K 0) where
-    node : ℕ
-    node = getD (cell K 0 i) 0 0
-
     found-edge : Found (count K 1) (onEdge K (getD (cell K 0 i) 0 0)) ↔ InEdge K (cell K 0 i)
     found-edge = (to, from)
       where
@@ -66,9 +67,6 @@ module _ {limit : ℕ} {K : Sections} (complex : Complex top limit K) where
     unfolding loose
     loose-false = (to, from)
       where
-        test : Bool
-        test = some (count K 1) (onEdge K (getD (cell K 0 i) 0 0))
-
         to : ltb 0 (count K 1) && not (some (count K 1) (onEdge K (getD (cell K 0 i) 0 0))) ≡ false → 0 < count K 1 → InEdge K (cell K 0 i)
         to e h =
             found-edge .0 (some-true (count K 1) (onEdge K (getD (cell K 0 i) 0 0)) .0
@@ -88,3 +86,35 @@ module _ {limit : ℕ} {K : Sections} (complex : Complex top limit K) where
         λ e. record { used = λ h i l. loose-false i l .0 (each .0 e i l) h },
         λ n. each .1 (λ i l. loose-false i l .1 (λ h. n .used h i l)),
       )
+
+-- ---- 18
+
+last-18 : (fault : Bool) → firstRefusal ((18, fault) ∷ []) ≡ 18 → fault ≡ true
+last-18 true e = refl
+last-18 false e = absurd (omega (arith, e))
+
+module _ (limit : ℕ) (b : List ℕ) where
+  pub refusal-18 : (refusal limit b ≡ 18) ↔ ((complexRefusal limit b ≡ 0) × (looseNode (sectionsOf b) ≡ true))
+  unfolding refusal complexRefusal
+  refusal-18 = (
+    λ e.
+    let parts = first-append-absent (complexChecks limit b) ((18, looseNode (sectionsOf b)) ∷ []) refl 18 refl e in
+    (parts .0, last-18 (looseNode (sectionsOf b)) (parts .1)),
+    λ h. first-append-passed (complexChecks limit b) ((18, looseNode (sectionsOf b)) ∷ []) refl (h .0) ∙ rw (h .1) refl,
+  )
+
+  no-edge : count (sectionsOf b) 1 ≡ 0 → looseNode (sectionsOf b) ≡ false
+  unfolding looseNode loose
+  no-edge e =
+      some-false (count (sectionsOf b) 0) (loose (sectionsOf b)) .1
+      (λ i l. ap (λ (t : Bool). t && not (some (count (sectionsOf b) 1) (onEdge (sectionsOf b) (getD (cell (sectionsOf b) 0 i) 0 0)))) (le-ltb 0 (count (sectionsOf b) 1) (omega arith)))
+
+  pub refusal-edgeless : count (sectionsOf b) 1 ≡ 0 → refusal limit b ≡ complexRefusal limit b
+  unfolding refusal complexRefusal
+  refusal-edgeless e =
+      first-append (complexChecks limit b) ((18, looseNode (sectionsOf b)) ∷ []) refl
+      ∙ rw (no-edge e) (none (firstRefusal (complexChecks limit b)))
+    where
+      none : (k : ℕ) → orElse k 0 ≡ k
+      none zero = refl
+      none (suc k) = refl

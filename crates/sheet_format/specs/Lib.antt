@@ -2,6 +2,7 @@
 pub mod Layout
 pub mod Check
 pub mod Sheet
+pub mod Written
 pub mod CheckLaws
 pub mod SheetLaws
 pub mod OrderCases

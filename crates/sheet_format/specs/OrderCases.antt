@@ -40,6 +40,41 @@ cellsAndFace =
     0 ∷ 0 ∷ 1 ∷ 0 ∷
     0 ∷ 0 ∷ 2 ∷ 0 ∷ 0 ∷ 0 ∷ 1 ∷ 0 ∷ []
 
+-- 7 and 18: the edge 01 without its vertex 1, and the vertex 2, which is loose
+abbrev pub faceAndLooseNode : List ℕ
+faceAndLooseNode =
+    2 ∷ 0 ∷ 16 ∷ 0 ∷ 1 ∷ 0 ∷ 20 ∷ 0 ∷ 0 ∷ 0 ∷ 24 ∷ 0 ∷ 0 ∷ 0 ∷ 24 ∷ 0 ∷
+    0 ∷ 0 ∷ 2 ∷ 0 ∷
+    0 ∷ 0 ∷ 1 ∷ 0 ∷ []
+
+-- ---- loose nodes
+
+-- the vertices 3 and 5 and no edge
+abbrev pub twoVertices : List ℕ
+twoVertices =
+    2 ∷ 0 ∷ 16 ∷ 0 ∷ 0 ∷ 0 ∷ 20 ∷ 0 ∷ 0 ∷ 0 ∷ 20 ∷ 0 ∷ 0 ∷ 0 ∷ 20 ∷ 0 ∷
+    3 ∷ 0 ∷ 5 ∷ 0 ∷ []
+
+abbrev pub twoVerticesSections : Sections
+twoVerticesSections = ((3 ∷ []) ∷ (5 ∷ []) ∷ []) ∷ [] ∷ [] ∷ [] ∷ []
+
+-- the edge 02, and the vertex 1 between its vertices, which is loose
+abbrev pub edgeAndNode : List ℕ
+edgeAndNode =
+    3 ∷ 0 ∷ 16 ∷ 0 ∷ 1 ∷ 0 ∷ 22 ∷ 0 ∷ 0 ∷ 0 ∷ 26 ∷ 0 ∷ 0 ∷ 0 ∷ 26 ∷ 0 ∷
+    0 ∷ 0 ∷ 1 ∷ 0 ∷ 2 ∷ 0 ∷
+    0 ∷ 0 ∷ 2 ∷ 0 ∷ []
+
+-- .. without it
+abbrev pub edgeAlone : List ℕ
+edgeAlone =
+    2 ∷ 0 ∷ 16 ∷ 0 ∷ 1 ∷ 0 ∷ 20 ∷ 0 ∷ 0 ∷ 0 ∷ 24 ∷ 0 ∷ 0 ∷ 0 ∷ 24 ∷ 0 ∷
+    0 ∷ 0 ∷ 2 ∷ 0 ∷
+    0 ∷ 0 ∷ 2 ∷ 0 ∷ []
+
+abbrev pub edgeAloneSections : Sections
+edgeAloneSections = ((0 ∷ []) ∷ (2 ∷ []) ∷ []) ∷ ((0 ∷ 2 ∷ []) ∷ []) ∷ [] ∷ [] ∷ []
+
 -- ---- the order of cells: by first vertex, so the edge 03 stands before 12
 
 -- the vertices 0 to 3 and two edges

@@ -1,6 +1,6 @@
 -- What the bytes of a sheet hold, by dimension, cell and vertex, and how large it can be.
 --     length-sectionsOf, section-sectionsOf, count-sectionsOf, cell-sectionsOf
---     start-ext, start-mono, start-le, fieldAt-lt, countField-lt, startAt-le
+--     start-ext, start-mono, start-le, start-fewer, fieldAt-lt, countField-lt, startAt-le
 use mathlib.Core.Path.{_≡_, refl, sym, ap, _∙_, subst, ap₂}
 use mathlib.Core.Bool.{Bool, cond}
 use mathlib.Core.List.{List, []}
@@ -113,6 +113,12 @@ unfolding start
 start-le n limit zero h = omega arith
 start-le n limit (suc p) h =
     omega (arith, start-le n limit p (λ q k. h q (omega arith)), mul-le-mul (le-refl (suc p)) (h p (lt-suc-self p)))
+
+-- fewer cells end sooner
+pub start-fewer : (n m : ℕ → ℕ) (p : ℕ) → ((q : ℕ) → n q ≤ m q) → start n p ≤ start m p
+unfolding start
+start-fewer n m zero h = omega arith
+start-fewer n m (suc p) h = omega (arith, start-fewer n m p h, mul-le-mul (le-refl (suc p)) (h p))
 
 -- ---- bounds for bytes
 

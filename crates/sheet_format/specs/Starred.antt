@@ -13,7 +13,7 @@ use Rattle.lists.specs.Tabulate.{tabulate}
 use Rattle.lists.specs.Same.{every}
 use Rattle.sheet_format.specs.Layout.{cellBytes, sectionBytes, sectionsBytes, start, headerBytes, layout}
 use Rattle.sheet_format.specs.Check.{countField, offsetField, cellOf, cellsOf, sectionsOf, some, verticesDoNotRise, cellsDoNotRise, faceMissing, loose, looseNode, refusal}
-use Rattle.sheet_format.specs.OrderCases.{shortWithCount, countAndOffset, offsetAndLength, lengthAndVertices, verticesAndCells, cellsAndFace, twoEdges, twoEdgesSections, twoEdgesSwapped, edgeTwice, edgeOfOneVertex}
+use Rattle.sheet_format.specs.OrderCases.{shortWithCount, countAndOffset, offsetAndLength, lengthAndVertices, verticesAndCells, cellsAndFace, faceAndLooseNode, twoVertices, twoVerticesSections, edgeAndNode, edgeAlone, edgeAloneSections, twoEdges, twoEdgesSections, twoEdgesSwapped, edgeTwice, edgeOfOneVertex}
 
 -- ---- the sheets: a line for the header, then a line for each section that has cells
 
@@ -111,6 +111,10 @@ table =
     ∷ refused lengthAndVertices 4
     ∷ refused verticesAndCells 5
     ∷ refused cellsAndFace 6
+    ∷ refused faceAndLooseNode 7
+    ∷ accepted twoVertices twoVerticesSections
+    ∷ refused edgeAndNode 18
+    ∷ accepted edgeAlone edgeAloneSections
     ∷ accepted twoEdges twoEdgesSections
     ∷ refused twoEdgesSwapped 6
     ∷ refused edgeTwice 6
