@@ -1,9 +1,11 @@
 -- The claims on the import.
+use lib.ListN.{length}
 use Rattle.closures.proofs.ClosureLaws.{closure-unique}
 use Rattle.mesh_format.proofs.Accept.{mesh-unique}
 use Rattle.imports.specs.Import.{complexOf}
 use Rattle.imports.proofs.ImportLaws.{import-malformed, import-faulty, mesh-cells, import-too-long, import-done, import-left}
-use Rattle.imports.proofs.SheetLaws.{import-sheet, import-number}
+use Rattle.imports.proofs.SheetLaws.{mesh-complex, import-sheet, import-number}
+use Rattle.sweeps.proofs.SweptLaws.{swept-unique}
 use Rattle.demands.specs.Meshes.{ImportMalformed, MeshesUnique, ImportFaulty, MeshCells, MeshCellsUnique, ImportTooLong, ImportDone, ImportLeft, ImportSheet, HostImportSheet}
 
 pub importMalformed : ImportMalformed
@@ -25,7 +27,9 @@ pub importTooLong : ImportTooLong
 importTooLong = import-too-long
 
 pub importDone : ImportDone
-importDone = import-done
+importDone limit text sheet m is-text right K is short L complex swept =
+    let whole = mesh-complex limit (length sheet) text m is-text K is short in
+    rw (swept-unique whole complex swept) (import-done limit text sheet m is-text right K is short)
 
 pub importLeft : ImportLeft
 importLeft = import-left

@@ -1,6 +1,7 @@
--- Uses of the claims on the import: the mesh text of the hollow triangle, its sheet in a slice of 40 bytes, and texts and slices that are refused.
+-- Uses of the claims on the import: the mesh text of the hollow triangle, its sheet in a slice of 40 bytes, texts and slices that are refused, and a triangle
+-- beside a point, whose node is loose.
 use mathlib.Core.Path.{_≡_, refl, sym, _∙_, subst}
-use mathlib.Core.Bool.{false≢true}
+use mathlib.Core.Bool.{true, false≢true}
 use mathlib.Core.List.{List, [], _∷_, _++_}
 use Prim.Native.Nat.{ℕ, _≤_}
 use native.Mathlib.Omega.{arith}
@@ -9,12 +10,13 @@ use Rattle.limits.specs.Limits.{libraryLimit, hostLimit}
 use Rattle.trials.specs.Trial.{done, numberTold}
 use Rattle.lists.specs.Tabulate.{tabulate}
 use Rattle.lists.specs.Same.{every, sameList}
-use Rattle.complexes.specs.Cell.{without, precedes}
-use Rattle.complexes.specs.Complex.{Sections}
-use Rattle.sheet_format.specs.Layout.{cellBytes, sectionBytes, sectionsBytes, start, headerBytes, layout}
+use Rattle.complexes.specs.Cell.{without, precedes, Listed}
+use Rattle.complexes.specs.Complex.{Sections, section, Complex}
+use Rattle.sheet_format.specs.Layout.{top, cellBytes, sectionBytes, sectionsBytes, start, headerBytes, layout}
 use Rattle.sheet_format.specs.Check.{some, sectionsOf, refusal}
 use Rattle.sheet_format.specs.Sheet.{Bytes}
-use Rattle.sheet_format.specs.Starred.{hollowTriangle}
+use Rattle.sheet_format.specs.Written.{headerGives}
+use Rattle.sheet_format.specs.Starred.{filledTriangle, filledTriangleSections}
 use Rattle.closures.specs.Insert.{insert, insertAll}
 use Rattle.closures.specs.Closure.{elementTop, member, repeats, ofDimension, facesOf, closedSection, closure}
 use Rattle.closures.specs.Form.{IsClosure}
@@ -23,10 +25,17 @@ use Rattle.mesh_format.specs.Words.{valueFrom}
 use Rattle.mesh_format.specs.Form.{joined, MeshText}
 use Rattle.mesh_format.specs.Parse.{then, run, someBytes, word, gap, lineEnd, digitsAt, number, node, theWord, words, wordLine, titleLine, formatLine, countLine, nodeLine, nodesWithin, nodeNumbers, elementLine, nodeLines, elementLines, closingWithin, closingLine, sectionsWithin, sections, headOf, nodesOf, elementsOf, meshOf}
 use Rattle.mesh_format.proofs.Accept.{mesh-iff}
-use Rattle.imports.specs.Import.{nodesOfKind, faulty, noneFaulty, nodeLists, complexOf, meshIn, isMalformed, tooLong, meshChecks, answerWith, importCall}
+use Rattle.imports.specs.Import.{nodesOfKind, faulty, noneFaulty, elementsRight, nodeLists, complexOf, meshIn, isMalformed, tooLong, meshChecks, importCall}
+use Rattle.trials.specs.Write.{answerWith}
 use Rattle.imports.proofs.ImportLaws.{mesh-cells}
-use Rattle.imports.specs.Sheet.{headerGives, ImportedSheet}
-use Rattle.imports.specs.Examples.{shown, line, textOf, hollow, twice, lent, hollowMesh, hollow-text, hollow-right, hollow-done, hollow-host-done}
+use Rattle.imports.proofs.SheetLaws.{mesh-complex}
+use Rattle.sweeps.specs.Sweep.{swept}
+use Rattle.sweeps.specs.Swept.{IsSwept}
+use Rattle.sweeps.proofs.SweptLaws.{swept-is, swept-complex}
+use Rattle.closures.specs.Keep.{kept, keep}
+use Rattle.imports.specs.Sheet.{ImportedSheet}
+use Rattle.sweeps.specs.Cases.{lent}
+use Rattle.imports.specs.Examples.{shown, line, textOf, hollow, filledAndPoint, twice, hollowMesh, hollow-text, hollow-right, hollow-done, hollow-host-done}
 use Rattle.demands.specs.Meshes.{ImportMalformed, MeshesUnique, ImportFaulty, MeshCells, MeshCellsUnique, ImportTooLong, ImportDone, ImportLeft, ImportSheet, HostImportSheet}
 use Rattle.demands.proofs.Hollow.{hollowCells}
 
@@ -106,12 +115,52 @@ module _ (importTooLong : ImportTooLong) where
   not-16 told = false≢true (importTooLong 3 hollow (lent 34) hollowMesh hollow-text hollow-right written written-closure .0 told)
 
   module _ (importLeft : ImportLeft) where
-    kept : importCall 48 hollow (lent 33) .output ≡ lent 33
-    kept = importLeft 48 hollow (lent 33) (λ none. let sixteen : _≡_ {A = ℕ} 16 0 = sym short ∙ none in absurd (omega (arith, sixteen)))
+    left-alone : importCall 48 hollow (lent 33) .output ≡ lent 33
+    left-alone = importLeft 48 hollow (lent 33) (λ none. let sixteen : _≡_ {A = ℕ} 16 0 = sym short ∙ none in absurd (omega (arith, sixteen)))
 
-imported : ImportDone → importCall 3 hollow (lent 40) ≡ record { answer = done 34; output = hollowTriangle ++ lent 6 }
+-- ---- a triangle and a point, which is loose
+
+abbrev pointMesh : Mesh
+pointMesh = record { nodes = 0 ∷ 1 ∷ 2 ∷ 3 ∷ []; elements = record { kind = 15; nodes = 3 ∷ [] } ∷ record { kind = 2; nodes = 0 ∷ 1 ∷ 2 ∷ [] } ∷ [] }
+
+point-text : MeshText pointMesh filledAndPoint
+unfolding joined shown line textOf sameList
+    then run someBytes word gap lineEnd digitsAt number node theWord words wordLine titleLine formatLine countLine nodeLine nodesWithin nodeNumbers elementLine
+    nodeLines elementLines closingWithin closingLine sectionsWithin sections headOf nodesOf elementsOf meshOf valueFrom
+point-text = mesh-iff pointMesh filledAndPoint .1 refl
+
+point-right : elementsRight pointMesh ≡ true
+unfolding every member repeats nodesOfKind faulty noneFaulty
+point-right = refl
+
+abbrev pointCells : Sections
+pointCells = complexOf (pointMesh .elements)
+
+point-closure : IsClosure elementTop (nodeLists (pointMesh .elements)) pointCells
+point-closure = mesh-cells pointMesh point-right
+
+point-complex : Complex top 4 pointCells
 unfolding tooLong some insert insertAll ofDimension facesOf closedSection closure tabulate without precedes layout headerBytes start sectionsBytes sectionBytes cellBytes
-imported importDone = importDone 3 hollow (lent 40) hollowMesh hollow-text hollow-right written written-closure refl
+point-complex = mesh-complex 4 42 filledAndPoint pointMesh point-text pointCells point-closure refl
+
+-- what the sweep leaves of them is the filled triangle
+point-swept : swept pointCells ≡ filledTriangleSections
+unfolding some kept keep insert insertAll ofDimension facesOf closedSection closure tabulate without precedes
+point-swept = refl
+
+point-is : IsSwept pointCells filledTriangleSections
+point-is = rw point-swept at (swept-is point-complex)
+
+-- 16 is about the sheet before the sweep, of 42 bytes; the one that is written has 40
+point-short : ImportTooLong → numberTold (importCall 4 filledAndPoint (lent 41) .answer) ≡ 16
+unfolding tooLong some insert insertAll ofDimension facesOf closedSection closure tabulate without precedes layout headerBytes start sectionsBytes sectionBytes cellBytes
+point-short importTooLong = importTooLong 4 filledAndPoint (lent 41) pointMesh point-text point-right pointCells point-closure .1 refl
+
+imported : ImportDone → importCall 4 filledAndPoint (lent 42) ≡ record { answer = done 40; output = filledTriangle ++ lent 2 }
+unfolding tooLong some insert insertAll ofDimension facesOf closedSection closure tabulate without precedes layout headerBytes start sectionsBytes sectionBytes cellBytes
+imported importDone =
+    importDone 4 filledAndPoint (lent 42) pointMesh point-text point-right pointCells point-closure refl filledTriangleSections
+    (rw point-swept at (swept-complex point-complex)) point-is
 
 -- ---- the sheet that is written
 
@@ -119,25 +168,33 @@ module _ (after : List ℕ) (limit : ℕ) (n : ℕ) (sheet : ImportedSheet limit
   same-mesh : sheet .mesh ≡ hollowMesh
   same-mesh = meshesUnique (sheet .mesh) hollowMesh hollow (sheet .is-text) hollow-text
 
-  same-cells : sectionsOf (take n after) ≡ hollowCells
+  same-cells : sheet .unswept ≡ hollowCells
   same-cells =
-      unique hollowMesh (sectionsOf (take n after)) written (subst (λ (m : Mesh). IsClosure elementTop (nodeLists (m .elements)) (sectionsOf (take n after))) same-mesh (sheet .cells)) written-closure
+      unique hollowMesh (sheet .unswept) written (subst (λ (m : Mesh). IsClosure elementTop (nodeLists (m .elements)) (sheet .unswept)) same-mesh (sheet .elements)) written-closure
       ∙ written-cells
 
+  -- the edges are those of the triangle
+  edges : Listed (0 ∷ 1 ∷ []) (section (sectionsOf (take n after)) 1)
+  edges =
+      sheet .cells .exactly 1 (0 ∷ 1 ∷ []) .1 (record {
+        listed = subst (λ (K : Sections). Listed (0 ∷ 1 ∷ []) (section K 1)) (sym same-cells) (record { place = 0; below = omega arith; is = refl });
+        used = λ one. absurd (omega (arith, one));
+      })
+
   inside : n ≤ length after
-  inside = sheet .within
+  inside = sheet .sheet .within
 
   bytes : Bytes (take n after)
-  bytes = sheet .bytes
+  bytes = sheet .sheet .bytes
 
   accepted : refusal limit (take n after) ≡ 0
-  accepted = sheet .accepted
+  accepted = sheet .sheet .accepted
 
   header : headerGives after ≡ n
-  header = sheet .in-header
+  header = sheet .sheet .in-header
 
   past : drop n after ≡ drop n (lent 40)
-  past = sheet .past
+  past = sheet .sheet .past
 
 library-sheet : ImportSheet → ImportedSheet libraryLimit hollow (lent 40) (importCall libraryLimit hollow (lent 40) .output) 34
 library-sheet importSheet = importSheet libraryLimit (omega arith) hollow (lent 40) 34 hollow-done

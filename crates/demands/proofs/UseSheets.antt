@@ -1,27 +1,35 @@
--- Uses of the claims on acceptance: the hollow triangle is a sheet at the limit 3, with its cells, and none at the limit 2.
+-- Uses of the claims on acceptance: the hollow triangle is a sheet at the limit 3, with its cells, and none at the limit 2; an edge with a loose node is the
+-- layout of a complex, and is refused with 18; two vertices without an edge are accepted.
 use mathlib.Core.Path.{_≡_, refl, sym, _∙_}
+use mathlib.Core.List.{List}
 use Prim.Native.Nat.{ℕ}
 use native.Mathlib.Omega.{arith}
 use Rattle.lists.specs.Tabulate.{tabulate}
 use Rattle.complexes.specs.Cell.{without, same, rises, precedes, listed}
 use Rattle.complexes.specs.Complex.{Complex}
+use Rattle.complexes.specs.Loose.{NoLooseNodes}
 use Rattle.sheet_format.specs.Layout.{start, layout, top}
-use Rattle.sheet_format.specs.Check.{countField, offsetField, cellOf, cellsOf, sectionsOf, some, verticesDoNotRise, cellsDoNotRise, faceMissing, refusal}
-use Rattle.sheet_format.specs.Sheet.{IsSheet}
+use Rattle.sheet_format.specs.Check.{countField, offsetField, cellOf, cellsOf, sectionsOf, some, verticesDoNotRise, cellsDoNotRise, faceMissing, complexRefusal, refusal}
+use Rattle.sheet_format.specs.Sheet.{Bytes, IsLayout, IsSheet}
 use Rattle.sheet_format.specs.Starred.{hollowTriangle}
-use Rattle.demands.specs.Sheets.{Acceptance, SheetCells}
+use Rattle.sheet_format.specs.OrderCases.{faceAndLooseNode, twoVertices, edgeAndNode}
+use Rattle.demands.specs.Sheets.{Acceptance, SheetCells, Layouts, LooseRefused, EdgelessSheets}
 use Rattle.demands.proofs.Hollow.{hollow-bytes, hollowCells}
+use Rattle.demands.proofs.Loose.{loose-bytes, face-bytes, looseCells, loose-node}
 
 module _ (acceptance : Acceptance) where
   is-sheet : IsSheet 3 hollowTriangle
   unfolding refusal countField offsetField cellOf cellsOf sectionsOf some verticesDoNotRise cellsDoNotRise faceMissing without same rises precedes listed start tabulate
   is-sheet = acceptance 3 (omega arith) hollowTriangle hollow-bytes .0 refl
 
-  complex : Complex top 3 (is-sheet .cells)
-  complex = is-sheet .complex
+  complex : Complex top 3 (is-sheet .laid .cells)
+  complex = is-sheet .laid .complex
 
-  bytes : layout (is-sheet .cells) ≡ hollowTriangle
-  bytes = is-sheet .bytes
+  used : NoLooseNodes (is-sheet .laid .cells)
+  used = is-sheet .used
+
+  bytes : layout (is-sheet .laid .cells) ≡ hollowTriangle
+  bytes = is-sheet .laid .bytes
 
   -- three edges: told 2 at the limit 2
   no-sheet : IsSheet 2 hollowTriangle → ⊥
@@ -36,6 +44,44 @@ module _ (acceptance : Acceptance) where
   unfolding refusal countField offsetField cellOf cellsOf sectionsOf some verticesDoNotRise cellsDoNotRise faceMissing without same rises precedes listed start tabulate
   largest = acceptance 256 (omega arith) hollowTriangle hollow-bytes .0 refl
 
-  cells : SheetCells → largest .cells ≡ hollowCells
+  cells : SheetCells → largest .laid .cells ≡ hollowCells
   unfolding sectionsOf cellsOf cellOf countField start tabulate
-  cells sheetCells = sheetCells 256 (omega arith) hollowTriangle largest
+  cells sheetCells = sheetCells 256 (omega arith) hollowTriangle (largest .laid)
+
+-- ---- loose nodes
+
+module _ (layouts : Layouts) where
+  loose-layout : IsLayout 48 edgeAndNode
+  unfolding complexRefusal countField offsetField cellOf cellsOf sectionsOf some verticesDoNotRise cellsDoNotRise faceMissing without same rises precedes listed start tabulate
+  loose-layout = layouts 48 (omega arith) edgeAndNode loose-bytes .0 refl
+
+  -- a face is missing: told 7
+  no-layout : IsLayout 48 faceAndLooseNode → ⊥
+  unfolding complexRefusal countField offsetField cellOf cellsOf sectionsOf some verticesDoNotRise cellsDoNotRise faceMissing without same rises precedes listed start tabulate
+  no-layout laid = let seven : _≡_ {A = ℕ} 7 0 = sym told ∙ layouts 48 (omega arith) faceAndLooseNode face-bytes .1 laid in omega (arith, seven)
+    where
+      told : complexRefusal 48 faceAndLooseNode ≡ 7
+      told = refl
+
+  -- the cells of the layout are the edge's, its vertices and the loose one
+  loose-cells : SheetCells → loose-layout .cells ≡ looseCells
+  unfolding sectionsOf cellsOf cellOf countField start tabulate
+  loose-cells sheetCells = sheetCells 48 (omega arith) edgeAndNode loose-layout
+
+module _ (looseRefused : LooseRefused) where
+  -- no edge has the vertex 1
+  loose-told : refusal 48 edgeAndNode ≡ 18
+  unfolding complexRefusal countField offsetField cellOf cellsOf sectionsOf some verticesDoNotRise cellsDoNotRise faceMissing without same rises precedes listed start tabulate
+  loose-told = looseRefused 48 edgeAndNode loose-bytes .1 (refl, λ none. loose-node (none .used (omega arith) 1 (omega arith)))
+
+  -- where 18 is told, the sheet passes the earlier checks, and not all its nodes stand in edges
+  told-laid : (b : List ℕ) → Bytes b → refusal 48 b ≡ 18 → complexRefusal 48 b ≡ 0
+  told-laid b bytes e = looseRefused 48 b bytes .0 e .0
+
+  not-used : NoLooseNodes (sectionsOf edgeAndNode) → ⊥
+  not-used = looseRefused 48 edgeAndNode loose-bytes .0 loose-told .1
+
+-- two vertices and no edge
+edgeless : EdgelessSheets → refusal 48 twoVertices ≡ 0
+unfolding complexRefusal countField offsetField cellOf cellsOf sectionsOf some verticesDoNotRise cellsDoNotRise faceMissing without same rises precedes listed start tabulate
+edgeless edgelessSheets = edgelessSheets 48 twoVertices refl

@@ -1,4 +1,4 @@
--- Meshes straight from the mesher: document 02, Note 3, for every text and slice.
+-- Meshes straight from the mesher: document 02, Notes 3 and 7, for every text and slice.
 use mathlib.Core.Path.{_≡_}
 use mathlib.Core.Logic.{_↔_, _≢_}
 use mathlib.Core.Bool.{true, false}
@@ -6,15 +6,17 @@ use mathlib.Core.List.{List, _++_}
 use Prim.Native.Nat.{ℕ, _≤_}
 use lib.ListN.{length, drop}
 use Rattle.limits.specs.Limits.{libraryLimit}
-use Rattle.complexes.specs.Complex.{Sections}
-use Rattle.sheet_format.specs.Layout.{layout}
+use Rattle.complexes.specs.Complex.{Sections, Complex}
+use Rattle.sheet_format.specs.Layout.{top, layout}
+use Rattle.sheet_format.specs.Written.{headerGives}
 use Rattle.closures.specs.Closure.{elementTop}
 use Rattle.closures.specs.Form.{IsClosure}
+use Rattle.sweeps.specs.Swept.{IsSwept}
 use Rattle.mesh_format.specs.Mesh.{Mesh}
 use Rattle.mesh_format.specs.Form.{MeshText}
 use Rattle.trials.specs.Trial.{done, numberTold}
 use Rattle.imports.specs.Import.{elementsRight, nodeLists, tooLong, importCall}
-use Rattle.imports.specs.Sheet.{headerGives, ImportedSheet}
+use Rattle.imports.specs.Sheet.{ImportedSheet}
 
 -- 02, Note 3. The contracts of `importer::import::import` and `fildwuk_import` say that these calls answer and leave what `importCall` says, at the
 -- limits of the library and of the host calls. "New numbers: 14, the text is not of that form or a node number exceeds 65535":
@@ -43,27 +45,28 @@ MeshCells = (m : Mesh) → elementsRight m ≡ true → HasCells m
 abbrev pub MeshCellsUnique : Type 0
 MeshCellsUnique = (m : Mesh) (K L : Sections) → IsClosure elementTop (nodeLists (m .elements)) K → IsClosure elementTop (nodeLists (m .elements)) L → K ≡ L
 
--- "16, the sheet's slice is too short or a count would exceed its limit": where neither 14 nor 15 applies
+-- "16, the sheet's slice is too short or a count would exceed its limit": where neither 14 nor 15 applies. Note 7, "An import, after its 16, writes only what
+-- the sweep makes of its sheet": 16 is about the sheet before the sweep
 abbrev pub ImportTooLong : Type 0
 ImportTooLong =
     (limit : ℕ) (text sheet : List ℕ) (m : Mesh) → MeshText m text → elementsRight m ≡ true → (K : Sections) → IsClosure elementTop (nodeLists (m .elements)) K →
     (numberTold (importCall limit text sheet .answer) ≡ 16) ↔ (tooLong limit (length sheet) K ≡ true)
 
 -- demand 3, "A call answers done whenever no numbered refusal applies to it"; "A call that writes a sheet answers done with its length in bytes"; 01,
--- "untouched past what the call writes"
+-- "untouched past what the call writes"; Note 7, "its cells are the earlier ones less those the sweep drops"
 abbrev pub ImportDone : Type 0
 ImportDone =
     (limit : ℕ) (text sheet : List ℕ) (m : Mesh) → MeshText m text → elementsRight m ≡ true → (K : Sections) → IsClosure elementTop (nodeLists (m .elements)) K →
-    tooLong limit (length sheet) K ≡ false →
-    importCall limit text sheet ≡ record { answer = done (length (layout K)); output = layout K ++ drop (length (layout K)) sheet }
+    tooLong limit (length sheet) K ≡ false → (L : Sections) → Complex top limit L → IsSwept K L →
+    importCall limit text sheet ≡ record { answer = done (length (layout L)); output = layout L ++ drop (length (layout L)) sheet }
 
 -- 01, "Every other slice that a call writes is untouched by a refusal"
 abbrev pub ImportLeft : Type 0
 ImportLeft =
     (limit : ℕ) (text sheet : List ℕ) → numberTold (importCall limit text sheet .answer) ≢ 0 → importCall limit text sheet .output ≡ sheet
 
--- "The sheet written is always accepted, and its cells are exactly the elements' vertex sets and their nonempty subsets": so the claims above hold of it
--- as of any sheet
+-- "The sheet written is always accepted, and its cells are exactly the elements' vertex sets and their nonempty subsets", less the loose nodes: so the claims
+-- above hold of it as of any sheet
 abbrev pub ImportSheet : Type 0
 ImportSheet =
     (limit : ℕ) → limit ≤ libraryLimit → (text sheet : List ℕ) (n : ℕ) → importCall limit text sheet .answer ≡ done n →

@@ -27,7 +27,7 @@ use Rattle.complexes.specs.Complex.{count}
 use Rattle.complexes.specs.Boundary.{countBelow}
 use Rattle.sheet_format.specs.Layout.{top}
 use Rattle.sheet_format.specs.Check.{refusal}
-use Rattle.sheet_format.specs.CheckLaws.{refusal-zero, countExceeds-false}
+use Rattle.sheet_format.specs.CheckLaws.{complex-zero, refusal-zero, countExceeds-false}
 use Rattle.sheet_format.specs.SheetLaws.{count-sectionsOf, countField-out}
 use Rattle.reduction_steps.specs.State.{State}
 use Rattle.reports.specs.Reductions.{Reductions, Transforms, secondColumnsOnly, tooWide, reduced}
@@ -71,7 +71,7 @@ module _ (q : Question) (accepted : refusal hostLimit (q .sheet) ≡ 0) where
   counts-within p = go (decLe p top)
     where
       go : Dec (p ≤ top) → count (cells q) p ≤ hostLimit
-      go (yes h) = omega (arith, count-sectionsOf (q .sheet) p, countExceeds-false hostLimit (q .sheet) .0 (refusal-zero hostLimit (q .sheet) .0 accepted .counts) p h)
+      go (yes h) = omega (arith, count-sectionsOf (q .sheet) p, countExceeds-false hostLimit (q .sheet) .0 (complex-zero hostLimit (q .sheet) .0 (refusal-zero hostLimit (q .sheet) .0 accepted .0) .counts) p h)
       go (no h) = omega (arith, count-sectionsOf (q .sheet) p, countField-out (q .sheet) p (omega arith))
 
   rows-within : (p : ℕ) → countBelow (cells q) p ≤ hostLimit

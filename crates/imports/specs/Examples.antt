@@ -11,7 +11,7 @@ use Rattle.lists.specs.Tabulate.{tabulate}
 use Rattle.lists.specs.Same.{every, sameList}
 use Rattle.complexes.specs.Cell.{without, precedes}
 use Rattle.sheet_format.specs.Layout.{cellBytes, sectionBytes, sectionsBytes, start, headerBytes, layout}
-use Rattle.sheet_format.specs.Check.{some, loose}
+use Rattle.sheet_format.specs.Check.{some}
 use Rattle.sheet_format.specs.Starred.{noCells, hollowTriangle, filledTriangle}
 use Rattle.sheet_format.specs.OrderCases.{twoVertices}
 use Rattle.closures.specs.Keep.{kept, keep}
@@ -133,7 +133,7 @@ unfolding joined shown line textOf every table good sameAnswer sameList some tab
     nodeLines elementLines closingWithin closingLine sectionsWithin sections headOf nodesOf elementsOf meshOf valueFrom
     insert insertAll member repeats ofDimension facesOf closedSection closure
     nodesOfKind faulty noneFaulty meshIn isMalformed tooLong meshChecks answerWith importCall
-    loose kept keep layout headerBytes start sectionsBytes sectionBytes cellBytes
+    kept keep layout headerBytes start sectionsBytes sectionBytes cellBytes
 import-examples = tt
 
 -- ---- the hypotheses of the claims are met
@@ -165,7 +165,7 @@ unfolding joined shown line textOf every sameList some tabulate without precedes
     nodeLines elementLines closingWithin closingLine sectionsWithin sections headOf nodesOf elementsOf meshOf valueFrom
     insert insertAll member repeats ofDimension facesOf closedSection closure
     nodesOfKind faulty noneFaulty meshIn isMalformed tooLong meshChecks answerWith importCall
-    loose kept keep layout headerBytes start sectionsBytes sectionBytes cellBytes
+    kept keep layout headerBytes start sectionsBytes sectionBytes cellBytes
 hollow-done = refl
 
 pub hollow-host-done : numberTold (importCall 48 hollow (lent 40) .answer) ≡ 0
@@ -174,5 +174,5 @@ unfolding joined shown line textOf every sameList some tabulate without precedes
     nodeLines elementLines closingWithin closingLine sectionsWithin sections headOf nodesOf elementsOf meshOf valueFrom
     insert insertAll member repeats ofDimension facesOf closedSection closure
     nodesOfKind faulty noneFaulty meshIn isMalformed tooLong meshChecks answerWith importCall
-    loose kept keep layout headerBytes start sectionsBytes sectionBytes cellBytes
+    kept keep layout headerBytes start sectionsBytes sectionBytes cellBytes
 hollow-host-done = refl

@@ -1,7 +1,7 @@
 -- A sheet is accepted exactly when it holds a simplicial complex laid out as in document 01: demand 2, first half.
 --     accepted-iff        no refusal applies exactly when the bytes are the layout of a complex within the limit that has no loose node
 --     sections-layout, layout-sections, layout-injective     that complex is the one read from the bytes, and the only one
---     laid-complex, layout-laid      so it is where none of the checks 1 to 7 applies, loose nodes or not
+--     laid-iff, laid-complex, layout-laid      none of the checks 1 to 7 applies exactly when they are the layout of a complex within the limit
 --     accepted-complex    what is read from an accepted sheet is a complex, accepted-used: without loose nodes
 --     accepted-chains     the cells that the calls work with make a chain complex
 use mathlib.Core.Path.{_≡_, sym, ap, _∙_, subst}
@@ -19,7 +19,7 @@ use Rattle.complexes.specs.Loose.{NoLooseNodes}
 use Rattle.complexes.proofs.ChainComplex.{ChainComplex, complex-chains}
 use Rattle.sheet_format.specs.Layout.{top, start, layout}
 use Rattle.sheet_format.specs.Check.{fieldAt, countField, startAt, cellOf, sectionsOf, complexRefusal, refusal}
-use Rattle.sheet_format.specs.Sheet.{Bytes, IsSheet}
+use Rattle.sheet_format.specs.Sheet.{Bytes, IsLayout, IsSheet}
 use Rattle.sheet_format.specs.CheckLaws.{
   Passes,
   complex-zero,
@@ -164,13 +164,17 @@ layout-laid limit small b h e =
 pub layout-sections : (limit : ℕ) → limit ≤ libraryLimit → (b : List ℕ) → Bytes b → refusal limit b ≡ 0 → layout (sectionsOf b) ≡ b
 layout-sections limit small b h e = layout-laid limit small b h (refusal-zero limit b .0 e .0)
 
+abbrev is-laid : (limit : ℕ) → limit ≤ libraryLimit → (b : List ℕ) → Bytes b → complexRefusal limit b ≡ 0 → IsLayout limit b
+is-laid limit small b h e = record { cells = sectionsOf b; complex = laid-complex limit b h e; bytes = layout-laid limit small b h e }
+
+pub laid-iff : (limit : ℕ) → limit ≤ libraryLimit → (b : List ℕ) → Bytes b → (complexRefusal limit b ≡ 0) ↔ IsLayout limit b
+laid-iff limit small b h = (
+  is-laid limit small b h,
+  λ s. subst (λ (x : List ℕ). complexRefusal limit x ≡ 0) (s .bytes) (laid-layout (s .complex) small),
+)
+
 pub accepted-iff : (limit : ℕ) → limit ≤ libraryLimit → (b : List ℕ) → Bytes b → (refusal limit b ≡ 0) ↔ IsSheet limit b
 accepted-iff limit small b h = (
-  λ e. record {
-    cells = sectionsOf b;
-    complex = accepted-complex limit b h e;
-    used = accepted-used limit b h e;
-    bytes = layout-sections limit small b h e;
-  },
-  λ s. subst (λ (x : List ℕ). refusal limit x ≡ 0) (s .bytes) (accepted-layout (s .complex) (s .used) small),
+  λ e. record { laid = is-laid limit small b h (refusal-zero limit b .0 e .0); used = accepted-used limit b h e },
+  λ s. subst (λ (x : List ℕ). refusal limit x ≡ 0) (s .laid .bytes) (accepted-layout (s .laid .complex) (s .used) small),
 )

@@ -64,7 +64,6 @@ module _ {limit : ℕ} {K : Sections} (complex : Complex top limit K) where
         }
 
     pub loose-false : (loose K i ≡ false) ↔ (0 < count K 1 → InEdge K (cell K 0 i))
-    unfolding loose
     loose-false = (to, from)
       where
         to : ltb 0 (count K 1) && not (some (count K 1) (onEdge K (getD (cell K 0 i) 0 0))) ≡ false → 0 < count K 1 → InEdge K (cell K 0 i)
@@ -80,7 +79,6 @@ module _ {limit : ℕ} {K : Sections} (complex : Complex top limit K) where
             go true e = ap not (some-true (count K 1) (onEdge K (getD (cell K 0 i) 0 0)) .1 (found-edge .1 (h (ltb-true 0 (count K 1) e))))
 
   pub looseNode-false : (looseNode K ≡ false) ↔ NoLooseNodes K
-  unfolding looseNode
   looseNode-false =
       let each = some-false (count K 0) (loose K) in (
         λ e. record { used = λ h i l. loose-false i l .0 (each .0 e i l) h },
@@ -104,7 +102,6 @@ module _ (limit : ℕ) (b : List ℕ) where
   )
 
   no-edge : count (sectionsOf b) 1 ≡ 0 → looseNode (sectionsOf b) ≡ false
-  unfolding looseNode loose
   no-edge e =
       some-false (count (sectionsOf b) 0) (loose (sectionsOf b)) .1
       (λ i l. ap (λ (t : Bool). t && not (some (count (sectionsOf b) 1) (onEdge (sectionsOf b) (getD (cell (sectionsOf b) 0 i) 0 0)))) (le-ltb 0 (count (sectionsOf b) 1) (omega arith)))

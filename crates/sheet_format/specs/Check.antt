@@ -82,11 +82,11 @@ abbrev pub onEdge : Sections → ℕ → ℕ → Bool
 onEdge K v k = eqb (getD (cell K 1 k) 0 0) v || eqb (getD (cell K 1 k) 1 0) v
 
 -- vertex i stands in no edge, where there is an edge
-unfoldable pub loose : Sections → ℕ → Bool
+abbrev pub loose : Sections → ℕ → Bool
 loose K i = ltb 0 (count K 1) && not (some (count K 1) (onEdge K (getD (cell K 0 i) 0 0)))
 
 -- 18: a vertex is loose
-unfoldable pub looseNode : Sections → Bool
+abbrev pub looseNode : Sections → Bool
 looseNode K = some (count K 0) (loose K)
 
 -- ---- the order of trial

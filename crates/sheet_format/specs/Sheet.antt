@@ -11,9 +11,13 @@ use Rattle.sheet_format.specs.Layout.{top, layout}
 pub record Bytes (b : List ℕ) : Type 0 where
   pub small : (i : ℕ) → getD b i 0 < 256
 
--- b is the sheet of a complex with at most `limit` cells in each dimension, which has no edge or each of whose vertices stands in one
-pub record IsSheet (limit : ℕ) (b : List ℕ) : Type 0 where
+-- b is the layout of a complex with at most `limit` cells in each dimension
+pub record IsLayout (limit : ℕ) (b : List ℕ) : Type 0 where
   pub cells : Sections
   pub complex : Complex top limit cells
-  pub used : NoLooseNodes cells
   pub bytes : layout cells ≡ b
+
+-- .. of one that has no edge, or each of whose vertices stands in one
+pub record IsSheet (limit : ℕ) (b : List ℕ) : Type 0 where
+  pub laid : IsLayout limit b
+  pub used : NoLooseNodes (laid .cells)

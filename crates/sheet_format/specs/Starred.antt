@@ -12,7 +12,7 @@ use Rattle.complexes.specs.Complex.{Sections}
 use Rattle.lists.specs.Tabulate.{tabulate}
 use Rattle.lists.specs.Same.{every}
 use Rattle.sheet_format.specs.Layout.{cellBytes, sectionBytes, sectionsBytes, start, headerBytes, layout}
-use Rattle.sheet_format.specs.Check.{countField, offsetField, cellOf, cellsOf, sectionsOf, some, verticesDoNotRise, cellsDoNotRise, faceMissing, loose, looseNode, refusal}
+use Rattle.sheet_format.specs.Check.{countField, offsetField, cellOf, cellsOf, sectionsOf, some, verticesDoNotRise, cellsDoNotRise, faceMissing, refusal}
 use Rattle.sheet_format.specs.OrderCases.{shortWithCount, countAndOffset, offsetAndLength, lengthAndVertices, verticesAndCells, cellsAndFace, faceAndLooseNode, twoVertices, twoVerticesSections, edgeAndNode, edgeAlone, edgeAloneSections, twoEdges, twoEdgesSections, twoEdgesSwapped, edgeTwice, edgeOfOneVertex}
 
 -- ---- the sheets: a line for the header, then a line for each section that has cells
@@ -130,6 +130,6 @@ good line =
 
 pub starred-sheets : T (every good table)
 unfolding every table good
-    refusal countField offsetField tabulate cellOf cellsOf sectionsOf some verticesDoNotRise cellsDoNotRise faceMissing loose looseNode without same rises precedes listed
+    refusal countField offsetField tabulate cellOf cellsOf sectionsOf some verticesDoNotRise cellsDoNotRise faceMissing without same rises precedes listed
     layout headerBytes start sectionsBytes sectionBytes cellBytes
 starred-sheets = tt

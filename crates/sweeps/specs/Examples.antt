@@ -11,7 +11,7 @@ use Rattle.trials.specs.Trial.{done, numberTold}
 use Rattle.trials.specs.Write.{answerWith}
 use Rattle.complexes.specs.Cell.{without, same, rises, precedes, listed}
 use Rattle.sheet_format.specs.Layout.{cellBytes, sectionBytes, sectionsBytes, start, headerBytes, layout}
-use Rattle.sheet_format.specs.Check.{countField, offsetField, cellOf, cellsOf, sectionsOf, some, verticesDoNotRise, cellsDoNotRise, faceMissing, loose}
+use Rattle.sheet_format.specs.Check.{countField, offsetField, cellOf, cellsOf, sectionsOf, some, verticesDoNotRise, cellsDoNotRise, faceMissing}
 use Rattle.sheet_format.specs.OrderCases.{shortWithCount, countAndOffset, offsetAndLength, lengthAndVertices, verticesAndCells, cellsAndFace, faceAndLooseNode, twoVertices, edgeAndNode, edgeAlone}
 use Rattle.sheet_format.specs.Starred.{noCells, hollowTriangle, filledTriangle}
 use Rattle.closures.specs.Keep.{kept, keep}
@@ -63,7 +63,7 @@ table =
 
 pub sweep-examples : T (every (good sweepCall) table)
 unfolding every table good sameAnswer sameList sweepCall answerWith
-    countField offsetField tabulate cellOf cellsOf sectionsOf some verticesDoNotRise cellsDoNotRise faceMissing loose without same rises precedes listed
+    countField offsetField tabulate cellOf cellsOf sectionsOf some verticesDoNotRise cellsDoNotRise faceMissing without same rises precedes listed
     kept keep layout headerBytes start sectionsBytes sectionBytes cellBytes
 sweep-examples = tt
 
@@ -71,12 +71,12 @@ sweep-examples = tt
 
 pub loose-done : sweepCall 256 edgeAndNode (lent 30) .answer ≡ done 24
 unfolding sweepCall answerWith
-    countField offsetField tabulate cellOf cellsOf sectionsOf some verticesDoNotRise cellsDoNotRise faceMissing loose without same rises precedes listed
+    countField offsetField tabulate cellOf cellsOf sectionsOf some verticesDoNotRise cellsDoNotRise faceMissing without same rises precedes listed
     kept keep layout headerBytes start sectionsBytes sectionBytes cellBytes
 loose-done = refl
 
 pub loose-host-done : numberTold (sweepCall 48 edgeAndNode (lent 30) .answer) ≡ 0
 unfolding sweepCall answerWith
-    countField offsetField tabulate cellOf cellsOf sectionsOf some verticesDoNotRise cellsDoNotRise faceMissing loose without same rises precedes listed
+    countField offsetField tabulate cellOf cellsOf sectionsOf some verticesDoNotRise cellsDoNotRise faceMissing without same rises precedes listed
     kept keep layout headerBytes start sectionsBytes sectionBytes cellBytes
 loose-host-done = refl

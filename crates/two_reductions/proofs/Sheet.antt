@@ -15,7 +15,7 @@ use Rattle.complexes.specs.Boundary.{countBelow}
 use Rattle.sheet_format.specs.Sheet.{Bytes}
 use Rattle.sheet_format.proofs.Accept.{accepted-chains}
 use Rattle.sheet_format.specs.Check.{countField, sectionsOf, refusal}
-use Rattle.sheet_format.specs.CheckLaws.{Passes, refusal-zero, countExceeds-false}
+use Rattle.sheet_format.specs.CheckLaws.{Passes, complex-zero, refusal-zero, countExceeds-false}
 use Rattle.sheet_format.specs.SheetLaws.{count-sectionsOf}
 use Rattle.fields.specs.Read.{ReadsBelow}
 use Rattle.limits.specs.Limits.{libraryLimit}
@@ -42,7 +42,7 @@ rows-before b p d = rows-section (sectionsOf b) p (pos-of-ne-zero d) ∙ count-s
 
 pub accepted-library : {limit : ℕ} {b : List ℕ} → limit ≤ libraryLimit → refusal limit b ≡ 0 → Accepted b
 accepted-library {limit} {b} h e = record {
-  none-applies = refusal-zero libraryLimit b .1 (record {
+  none-applies = refusal-zero libraryLimit b .1 (complex-zero libraryLimit b .1 (record {
     long = passes .long;
     counts = countExceeds-false libraryLimit b .1 (λ p l. le-trans (countExceeds-false limit b .0 (passes .counts) p l) h);
     offsets = passes .offsets;
@@ -50,11 +50,11 @@ accepted-library {limit} {b} h e = record {
     vertices = passes .vertices;
     cells = passes .cells;
     faces = passes .faces;
-  });
+  }), refusal-zero limit b .0 e .1);
 }
   where
     passes : Passes limit b
-    passes = refusal-zero limit b .0 e
+    passes = complex-zero limit b .0 (refusal-zero limit b .0 e .0)
 
 pub sheet-chains : {b : List ℕ} → Bytes b → Accepted b → ChainComplex libraryLimit (sectionsOf b)
 sheet-chains {b} bytes h = accepted-chains libraryLimit b bytes (h .none-applies)

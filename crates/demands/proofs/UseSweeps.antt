@@ -1,0 +1,112 @@
+-- Uses of the claims on the sweep: the edge 02 with the loose node 1, its sweep in a slice of 30 bytes, and sheets and slices that are refused.
+use mathlib.Core.Path.{_≡_, refl, sym, _∙_}
+use mathlib.Core.Logic.{_≢_}
+use mathlib.Core.List.{List, [], _∷_, _++_}
+use Prim.Native.Nat.{ℕ, _≤_}
+use native.Mathlib.Omega.{arith}
+use lib.ListN.{length, take, drop}
+use Rattle.limits.specs.Limits.{libraryLimit, hostLimit}
+use Rattle.trials.specs.Trial.{done, numberTold}
+use Rattle.lists.specs.Tabulate.{tabulate}
+use Rattle.complexes.specs.Cell.{without, same, rises, precedes, listed, Listed}
+use Rattle.complexes.specs.Complex.{Sections, section, Complex}
+use Rattle.sheet_format.specs.Layout.{top, cellBytes, sectionBytes, sectionsBytes, start, headerBytes, layout}
+use Rattle.sheet_format.specs.Check.{countField, offsetField, cellOf, cellsOf, sectionsOf, some, verticesDoNotRise, cellsDoNotRise, faceMissing, complexRefusal, refusal}
+use Rattle.sheet_format.specs.Sheet.{Bytes}
+use Rattle.sheet_format.specs.Written.{headerGives}
+use Rattle.sheet_format.specs.OrderCases.{faceAndLooseNode, edgeAndNode, edgeAlone, edgeAloneSections}
+use Rattle.sweeps.specs.Sweep.{sweepCall}
+use Rattle.sweeps.specs.Swept.{IsSwept, SweptSheet}
+use Rattle.sweeps.specs.Cases.{lent}
+use Rattle.sweeps.specs.Examples.{loose-done, loose-host-done}
+use Rattle.demands.specs.Sweeps.{SweepRefused, SweptCells, SweptUnique, SweepTooShort, SweepDone, SweepLeft, SweepSheet, HostSweepSheet, SweepUnchanged, SweepTwice}
+use Rattle.demands.proofs.Loose.{loose-bytes, alone-bytes, looseCells, loose-sections, loose-laid, laid-48, alone-is, alone-complex, loose-node, edge-node}
+
+-- ---- 1 to 7
+
+told-7 : SweepRefused → (slice : List ℕ) → numberTold (sweepCall 48 faceAndLooseNode slice .answer) ≡ 7
+unfolding complexRefusal countField offsetField cellOf cellsOf sectionsOf some verticesDoNotRise cellsDoNotRise faceMissing without same rises precedes listed start tabulate
+told-7 sweepRefused slice = sweepRefused 48 faceAndLooseNode slice (λ e. omega (arith, e))
+
+-- ---- the cells
+
+has-cells : (sweptCells : SweptCells) → SweptUnique → sweptCells 48 looseCells (loose-laid 48 laid-48) .cells ≡ edgeAloneSections
+has-cells sweptCells sweptUnique =
+    let has = sweptCells 48 looseCells (loose-laid 48 laid-48) in
+    sweptUnique 48 looseCells (has .cells) edgeAloneSections (loose-laid 48 laid-48) (has .complex) (has .are) alone-complex alone-is
+
+-- ---- 16, and done
+
+swept-sections : IsSwept (sectionsOf edgeAndNode) edgeAloneSections
+swept-sections = rw loose-sections alone-is
+
+module _ (sweepTooShort : SweepTooShort) where
+  short : numberTold (sweepCall 48 edgeAndNode (lent 23) .answer) ≡ 16
+  unfolding layout headerBytes start sectionsBytes sectionBytes cellBytes
+  short = sweepTooShort 48 edgeAndNode (lent 23) (omega arith) loose-bytes laid-48 edgeAloneSections alone-complex swept-sections .1 (omega arith)
+
+  -- at the length of the swept sheet
+  not-16 : numberTold (sweepCall 48 edgeAndNode (lent 24) .answer) ≡ 16 → ⊥
+  unfolding layout headerBytes start sectionsBytes sectionBytes cellBytes
+  not-16 told =
+      omega (arith, sweepTooShort 48 edgeAndNode (lent 24) (omega arith) loose-bytes laid-48 edgeAloneSections alone-complex swept-sections .0 told)
+
+  module _ (sweepLeft : SweepLeft) where
+    kept : sweepCall 48 edgeAndNode (lent 23) .output ≡ lent 23
+    kept = sweepLeft 48 edgeAndNode (lent 23) (λ none. let sixteen : _≡_ {A = ℕ} 16 0 = sym short ∙ none in absurd (omega (arith, sixteen)))
+
+swept : SweepDone → sweepCall 48 edgeAndNode (lent 30) ≡ record { answer = done 24; output = edgeAlone ++ lent 6 }
+unfolding layout headerBytes start sectionsBytes sectionBytes cellBytes
+swept sweepDone =
+    sweepDone 48 edgeAndNode (lent 30) (omega arith) loose-bytes laid-48 edgeAloneSections alone-complex swept-sections (omega arith)
+
+-- ---- the sheet that is written
+
+module _ (after : List ℕ) (limit : ℕ) (n : ℕ) (sheet : SweptSheet limit edgeAndNode (lent 30) after n) where
+  cells : IsSwept looseCells (sectionsOf (take n after))
+  cells = rw loose-sections at (sheet .cells)
+
+  -- the loose node is dropped, a vertex of the edge is not, and the edge stays
+  dropped : Listed (1 ∷ []) (section (sectionsOf (take n after)) 0) → ⊥
+  dropped h = loose-node (cells .exactly 0 (1 ∷ []) .0 h .used refl (omega arith))
+
+  stays : Listed (0 ∷ []) (section (sectionsOf (take n after)) 0)
+  stays = cells .exactly 0 (0 ∷ []) .1 (record { listed = record { place = 0; below = omega arith; is = refl }; used = λ _ _. edge-node })
+
+  edge : Listed (0 ∷ 2 ∷ []) (section (sectionsOf (take n after)) 1)
+  edge = cells .exactly 1 (0 ∷ 2 ∷ []) .1 (record { listed = record { place = 0; below = omega arith; is = refl }; used = λ one. absurd (omega (arith, one)) })
+
+  -- nothing is added
+  old : (p : ℕ) (c : List ℕ) → Listed c (section (sectionsOf (take n after)) p) → Listed c (section looseCells p)
+  old p c h = cells .exactly p c .0 h .listed
+
+  inside : n ≤ length after
+  inside = sheet .sheet .within
+
+  bytes : Bytes (take n after)
+  bytes = sheet .sheet .bytes
+
+  accepted : refusal limit (take n after) ≡ 0
+  accepted = sheet .sheet .accepted
+
+  header : headerGives after ≡ n
+  header = sheet .sheet .in-header
+
+  past : drop n after ≡ drop n (lent 30)
+  past = sheet .sheet .past
+
+library-sheet : SweepSheet → SweptSheet libraryLimit edgeAndNode (lent 30) (sweepCall libraryLimit edgeAndNode (lent 30) .output) 24
+library-sheet sweepSheet = sweepSheet libraryLimit edgeAndNode (lent 30) (omega arith) loose-bytes 24 loose-done
+
+host-sheet : HostSweepSheet → SweptSheet hostLimit edgeAndNode (lent 30) (sweepCall hostLimit edgeAndNode (lent 30) .output) (headerGives (sweepCall hostLimit edgeAndNode (lent 30) .output))
+host-sheet hostSweepSheet = hostSweepSheet hostLimit edgeAndNode (lent 30) (omega arith) loose-bytes loose-host-done
+
+-- ---- written unchanged
+
+unchanged : SweepUnchanged → sweepCall 48 edgeAlone (lent 30) ≡ record { answer = done 24; output = edgeAlone ++ lent 6 }
+unfolding refusal countField offsetField cellOf cellsOf sectionsOf some verticesDoNotRise cellsDoNotRise faceMissing without same rises precedes listed start tabulate
+unchanged sweepUnchanged = sweepUnchanged 48 (omega arith) edgeAlone (lent 30) alone-bytes refl (omega arith)
+
+twice : SweepTwice → sweepCall libraryLimit (take 24 (sweepCall libraryLimit edgeAndNode (lent 30) .output)) (lent 26)
+    ≡ record { answer = done 24; output = take 24 (sweepCall libraryLimit edgeAndNode (lent 30) .output) ++ lent 2 }
+twice sweepTwice = sweepTwice libraryLimit (omega arith) edgeAndNode (lent 30) (lent 26) loose-bytes 24 loose-done (omega arith)
