@@ -6,3 +6,4 @@ pub mod CellWithLaws
 pub mod SublistLaws
 pub mod SectionLaws
 pub mod ClosureLaws
+pub mod KeepCount

@@ -1,5 +1,5 @@
 -- The layout of a complex, field by field.
---     length-layout     its length is where the section past the last would start
+--     length-sized, length-layout     its length is where the section past the last would start
 --     bytes-layout      it consists of bytes
 --     carries-layout      b carries it exactly when each field of b is the one required
 use mathlib.Core.Path.{_≡_, refl, sym, ap, _∙_, subst, subst₂, ap₂}
@@ -177,22 +177,31 @@ pub record Reads (b : List ℕ) (K : Sections) : Type 0 where
   pub vertices : (p i j : ℕ) → i < count K p → j < suc p
       → fieldAt b (start (count K) p + 2 * (suc p * i) + 2 * j) ≡ getD (cell K p i) j 0
 
--- ---- the layout of a complex
+-- ---- the layout
 
-module _ {limit : ℕ} {K : Sections} (complex : Complex top limit K) where
-  sections-starts : Starts (length K) (start (count K)) (λ p. sectionBytes (section K p))
+-- of cells that have as many vertices as their dimension says
+module _ (K : Sections) (sized : (p i : ℕ) → i < count K p → length (cell K p i) ≡ suc p) where
+  sections-start : Starts (length K) (start (count K)) (λ p. sectionBytes (section K p))
   unfolding start
-  sections-starts = record {
-    next = λ p l. ap (λ (s : ℕ). start (count K) p + s) (sym (length-sectionBytes (suc p) (section K p) (λ i k. complex .sized p i k)));
+  sections-start = record {
+    next = λ p l. ap (λ (s : ℕ). start (count K) p + s) (sym (length-sectionBytes (suc p) (section K p) (sized p)));
   }
 
-  pub length-layout : length (layout K) ≡ start (count K) (suc top)
+  pub length-sized : length K ≡ suc top → length (layout K) ≡ start (count K) (suc top)
   unfolding layout start
-  length-layout =
+  length-sized dimensions =
       length-append (headerBytes (count K) 0 (suc top)) (sectionsBytes K)
       ∙ ap₂ _+_ (length-headerBytes (count K) (suc top)) (ap length (sectionsBytes-pieces K))
-      ∙ length-pieces (length K) (start (count K)) (λ p. sectionBytes (section K p)) sections-starts
-      ∙ ap (start (count K)) (complex .dimensions)
+      ∙ length-pieces (length K) (start (count K)) (λ p. sectionBytes (section K p)) sections-start
+      ∙ ap (start (count K)) dimensions
+
+-- of a complex
+module _ {limit : ℕ} {K : Sections} (complex : Complex top limit K) where
+  sections-starts : Starts (length K) (start (count K)) (λ p. sectionBytes (section K p))
+  sections-starts = sections-start K (complex .sized)
+
+  pub length-layout : length (layout K) ≡ start (count K) (suc top)
+  length-layout = length-sized K (complex .sized) (complex .dimensions)
 
   start-small : limit ≤ libraryLimit → (p : ℕ) → p ≤ suc top → start (count K) p < 65536
   start-small small p h =
