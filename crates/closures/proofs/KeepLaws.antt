@@ -1,24 +1,24 @@
 -- Laws of kept cells.
 --     KeptAt, kept-listed     a cell stands among those kept exactly when its place is kept
 --     kept-rising             they rise if the list does
---     kept-all                where every place is kept, they are all of them
---     section-keep, keep-listed, keep-below, keep-all     the same for the sections of a complex, dimension by dimension
+--     kept-whole              where every place is kept, they are all of them
+--     keep-listed, keep-below, keep-whole, keep-ext     the same for the sections of a complex, and for two choices that agree
 --     keep-complex            where the faces of each cell kept are kept, they are a complex
-use mathlib.Core.Path.{_≡_, refl, sym, ap, _∙_, subst}
+use mathlib.Core.Path.{_≡_, refl, sym, ap, ap₂, _∙_}
 use mathlib.Core.Logic.{_↔_, _⊎_, inl, inr}
 use mathlib.Core.Bool.{Bool, true, false, cond, false≢true}
 use mathlib.Core.List.{List, [], _∷_, _++_, append-nil}
 use Prim.Native.Nat.{ℕ, zero, suc, _≤_, _<_}
-use native.Mathlib.Decide.{decLt, decLe, ℕ-discrete}
+use native.Mathlib.Decide.{decLt, ℕ-discrete}
 use native.Mathlib.Omega.{arith}
-use lib.ListN.{length, getD, take, length-append, List·getD-append, List·getD-eq-default}
+use lib.ListN.{length, getD, take, length-append, List·getD-append}
 use lib.Seq.{take-suc, take-length, ext-getD, getD-append-add}
-use Rattle.lists.specs.Tabulate.{tabulate}
-use Rattle.lists.proofs.TabulateLaws.{length-tabulate, getD-tabulate, getD-tabulate-beyond}
+use Rattle.lists.proofs.TabulateLaws.{tabulate-ext}
 use Rattle.complexes.specs.Cell.{Cell, without, precedes, Listed}
 use Rattle.complexes.specs.Complex.{Sections, section, count, cell, Complex}
 use Rattle.closures.specs.Rising.{Rising}
 use Rattle.closures.specs.Keep.{kept, keep}
+use Rattle.closures.proofs.KeepCount.{kept-few, length-keep, section-keep}
 use Rattle.closures.proofs.RisingLaws.{Stands, listed-stands, stands-append, stands-at, stands-cases, stands-nil, rising-before, cells-order}
 
 -- c stands at a place below n of the list that the choice keeps
@@ -72,15 +72,6 @@ module _ (keeps : ℕ → Bool) (l : List Cell) where
   pub kept-listed : (n : ℕ) (c : Cell) → Listed c (kept keeps l n) ↔ KeptAt keeps l n c
   kept-listed n c = (λ h. kept-stands n c .0 (listed-stands .0 h), λ h. listed-stands .1 (kept-stands n c .1 h))
 
-  pub kept-below : (n : ℕ) → length (kept keeps l n) ≤ n
-  unfolding kept
-  kept-below zero = omega arith
-  kept-below (suc n) = omega (arith, kept-below n, length-append (kept keeps l n) (last n), small (keeps n))
-    where
-      small : (t : Bool) → length (cond t (getD l n [] ∷ []) []) ≤ 1
-      small true = omega arith
-      small false = omega arith
-
   -- a cell behind a list that rises, all of whose cells are before it
   rising-last : (m : List Cell) (x : Cell) → Rising precedes [] m → ((y : Cell) → Stands [] y m → precedes y x ≡ true) → Rising precedes [] (m ++ (x ∷ []))
   rising-last m x r before i h = pick (decLt (suc i) (length m))
@@ -112,38 +103,21 @@ module _ (keeps : ℕ → Bool) (l : List Cell) where
   kept-take (suc n) h e =
       rw (e n (omega arith)) (ap (λ (m : List Cell). m ++ (getD l n [] ∷ [])) (kept-take n (omega arith) (λ i k. e i (omega arith))) ∙ sym (take-suc l n [] h))
 
-  pub kept-all : ((i : ℕ) → i < length l → keeps i ≡ true) → kept keeps l (length l) ≡ l
-  kept-all e = kept-take (length l) (omega arith) e ∙ take-length l
+  pub kept-whole : ((i : ℕ) → i < length l → keeps i ≡ true) → kept keeps l (length l) ≡ l
+  kept-whole e = kept-take (length l) (omega arith) e ∙ take-length l
 
 -- ---- the sections of a complex
 
 module _ (keeps : ℕ → ℕ → Bool) (K : Sections) where
-  pub length-keep : length (keep keeps K) ≡ length K
-  unfolding keep
-  length-keep = length-tabulate (length K) (λ p. kept (keeps p) (section K p) (count K p))
-
-  pub section-keep : (p : ℕ) → section (keep keeps K) p ≡ kept (keeps p) (section K p) (count K p)
-  unfolding keep kept
-  section-keep p = pick (decLt p (length K))
-    where
-      nothing : (l : List Cell) → l ≡ [] → kept (keeps p) l (length l) ≡ []
-      nothing l e = rw e refl
-
-      pick : Dec (p < length K) → getD (tabulate (length K) (λ q. kept (keeps q) (section K q) (count K q))) p [] ≡ kept (keeps p) (section K p) (count K p)
-      pick (yes h) = getD-tabulate (length K) (λ q. kept (keeps q) (section K q) (count K q)) p [] h
-      pick (no h) =
-          getD-tabulate-beyond (length K) (λ q. kept (keeps q) (section K q) (count K q)) p [] (omega arith)
-          ∙ sym (nothing (section K p) (List·getD-eq-default K [] {n = p} (omega arith)))
-
   pub keep-listed : (p : ℕ) (c : Cell) → Listed c (section (keep keeps K) p) ↔ KeptAt (keeps p) (section K p) (count K p) c
-  keep-listed p c = rw (section-keep p) (kept-listed (keeps p) (section K p) (count K p) c)
+  keep-listed p c = rw (section-keep keeps K p) (kept-listed (keeps p) (section K p) (count K p) c)
 
   pub keep-below : (p : ℕ) → count (keep keeps K) p ≤ count K p
-  keep-below p = rw (section-keep p) (kept-below (keeps p) (section K p) (count K p))
+  keep-below p = rw (section-keep keeps K p) (kept-few (keeps p) (section K p) (count K p))
 
-  pub keep-all : ((p i : ℕ) → i < count K p → keeps p i ≡ true) → keep keeps K ≡ K
-  keep-all e =
-      ext-getD [] (keep keeps K) K length-keep (λ p _. section-keep p ∙ kept-all (keeps p) (section K p) (λ i h. e p i h))
+  pub keep-whole : ((p i : ℕ) → i < count K p → keeps p i ≡ true) → keep keeps K ≡ K
+  keep-whole e =
+      ext-getD [] (keep keeps K) K (length-keep keeps K) (λ p _. section-keep keeps K p ∙ kept-whole (keeps p) (section K p) (λ i h. e p i h))
 
   -- cell i of those kept is one of K's
   cell-kept : (p i : ℕ) → i < count (keep keeps K) p → KeptAt (keeps p) (section K p) (count K p) (cell (keep keeps K) p i)
@@ -153,15 +127,28 @@ module _ (keeps : ℕ → ℕ → Bool) (K : Sections) where
       → ((p i j : ℕ) → i < count K (suc p) → keeps (suc p) i ≡ true → j < suc (suc p) → KeptAt (keeps p) (section K p) (count K p) (without j (cell K (suc p) i)))
       → Complex top limit (keep keeps K)
   keep-complex {top} {limit} complex faces = record {
-    dimensions = length-keep ∙ complex .dimensions;
+    dimensions = length-keep keeps K ∙ complex .dimensions;
     within = λ p. omega (arith, keep-below p, complex .within p);
     sized = λ p i h. let k = cell-kept p i h in rw (sym (k .is)) (complex .sized p (k .place) (k .below));
     numbered = λ p i j h m. let k = cell-kept p i h in rw (sym (k .is)) (complex .numbered p (k .place) j (k .below) m);
     rising = λ p i h. let k = cell-kept p i h in rw (sym (k .is)) (complex .rising p (k .place) (k .below));
-    ordered = λ p i h. rw (section-keep p)
-        (kept-rising (keeps p) (section K p) (complex .ordered p) (count K p) (omega arith) i (rw (section-keep p) at h));
+    ordered = λ p i h. rw (section-keep keeps K p)
+        (kept-rising (keeps p) (section K p) (complex .ordered p) (count K p) (omega arith) i (rw (section-keep keeps K p) at h));
     closed = λ p i j h m.
         let k = cell-kept (suc p) i h in
         keep-listed p (without j (cell (keep keeps K) (suc p) i)) .1
         (rw (sym (k .is)) (faces p (k .place) j (k .below) (k .stays) m));
   }
+
+-- two choices that agree on the cells keep the same
+kept-ext : (f g : ℕ → Bool) (l : List Cell) (n : ℕ) → ((i : ℕ) → i < n → f i ≡ g i) → kept f l n ≡ kept g l n
+unfolding kept
+kept-ext f g l zero e = refl
+kept-ext f g l (suc n) e =
+    ap₂ (λ (m : List Cell) (t : Bool). m ++ cond t (getD l n [] ∷ []) []) (kept-ext f g l n (λ i h. e i (omega arith))) (e n (omega arith))
+
+pub keep-ext : (f g : ℕ → ℕ → Bool) (K : Sections) → ((p i : ℕ) → i < count K p → f p i ≡ g p i) → keep f K ≡ keep g K
+unfolding keep
+keep-ext f g K e =
+    tabulate-ext (length K) (λ p. kept (f p) (section K p) (count K p)) (λ p. kept (g p) (section K p) (count K p))
+    (λ p _. kept-ext (f p) (g p) (section K p) (count K p) (e p))

@@ -6,4 +6,5 @@ pub mod CellWithLaws
 pub mod SublistLaws
 pub mod SectionLaws
 pub mod ClosureLaws
+pub mod KeepCount
 pub mod KeepLaws

@@ -35,7 +35,7 @@ use Rattle.sheet_format.specs.CheckLaws.{
 use Rattle.sheet_format.specs.SheetLaws.{countField-in, countField-out, countField-below, count-beyond, count-below, length-sectionsOf, count-sectionsOf, cell-sectionsOf, length-cellOf, getD-cellOf, start-ext, start-mono, fieldAt-lt}
 use Rattle.sheet_format.proofs.LooseLaws.{looseNode-false}
 use Rattle.sheet_format.proofs.Pieces.{carries-self, carries-all}
-use Rattle.sheet_format.proofs.LayoutLaws.{Reads, length-layout, bytes-layout, carries-layout}
+use Rattle.sheet_format.proofs.LayoutLaws.{Reads, Shaped, complex-shaped, length-layout, bytes-layout, carries-layout}
 
 -- ---- what is read from a sheet to which none of the checks 1 to 7 applies
 
@@ -77,7 +77,7 @@ accepted-chains limit b h e = complex-chains (accepted-complex limit b h e)
 
 -- ---- the bytes of a complex give the complex back
 
-module _ {limit : ℕ} {K : Sections} (complex : Complex top limit K) where
+module _ {limit : ℕ} {K : Sections} (shape : Shaped limit K) where
   module _ {b : List ℕ} (r : Reads b K) where
     reads-count : (p : ℕ) → countField b p ≡ count K p
     reads-count p = pick (decLe p top)
@@ -85,42 +85,43 @@ module _ {limit : ℕ} {K : Sections} (complex : Complex top limit K) where
         pick : Dec (p ≤ top) → countField b p ≡ count K p
         pick (yes l) = countField-in b p l ∙ r .counts p l
         pick (no l) =
-            countField-out b p (omega arith) ∙ sym (count-beyond K p (omega (arith, complex .dimensions)))
+            countField-out b p (omega arith) ∙ sym (count-beyond K p (omega (arith, shape .dimensions)))
 
     reads-start : (p : ℕ) → startAt b p ≡ start (count K) p
     reads-start p = start-ext (countField b) (count K) p (λ q l. reads-count q)
 
     reads-cell : (p i : ℕ) → i < count K p → cell (sectionsOf b) p i ≡ cell K p i
     reads-cell p i l =
-        cell-sectionsOf b p i (omega (arith, count-below K p i l, complex .dimensions)) (rw (reads-count p) l)
+        cell-sectionsOf b p i (omega (arith, count-below K p i l, shape .dimensions)) (rw (reads-count p) l)
         ∙ ap (λ (s : ℕ). cellOf b (suc p) (s + 2 * (suc p * i))) (reads-start p)
-        ∙ ext-getD 0 (cellOf b (suc p) at) (cell K p i) (length-cellOf b (suc p) at ∙ sym (complex .sized p i l))
+        ∙ ext-getD 0 (cellOf b (suc p) at) (cell K p i) (length-cellOf b (suc p) at ∙ sym (shape .sized p i l))
         (λ j m. let k : j < suc p = rw (length-cellOf b (suc p) at) at m in getD-cellOf b (suc p) at j k ∙ r .vertices p i j l k)
       where
         at : ℕ
         at = start (count K) p + 2 * (suc p * i)
 
-    reads-sections : sectionsOf b ≡ K
+    pub reads-sections : sectionsOf b ≡ K
     reads-sections =
-        ext-getD [] (sectionsOf b) K (length-sectionsOf b ∙ sym (complex .dimensions))
+        ext-getD [] (sectionsOf b) K (length-sectionsOf b ∙ sym (shape .dimensions))
         (λ p _. ext-getD [] (section (sectionsOf b) p) (section K p) (same p) (λ i l. reads-cell p i (rw (same p) at l)))
       where
         same : (p : ℕ) → count (sectionsOf b) p ≡ count K p
         same p = count-sectionsOf b p ∙ reads-count p
 
+module _ {limit : ℕ} {K : Sections} (complex : Complex top limit K) where
   pub reads-layout : limit ≤ libraryLimit → Reads (layout K) K
-  reads-layout small = carries-layout complex small (layout K) (bytes-layout K) .0 (carries-self (layout K))
+  reads-layout small = carries-layout (complex-shaped complex) small (layout K) (bytes-layout K) .0 (carries-self (layout K))
 
   pub sections-layout : limit ≤ libraryLimit → sectionsOf (layout K) ≡ K
-  sections-layout small = reads-sections (reads-layout small)
+  sections-layout small = reads-sections (complex-shaped complex) (reads-layout small)
 
   pub laid-layout : limit ≤ libraryLimit → complexRefusal limit (layout K) ≡ 0
   unfolding start
   laid-layout small = complex-zero limit (layout K) .1 (record {
     long = tooShort-false (layout K) .1 (rw (length-layout complex) (start-mono (count K) 0 (suc top) (omega arith)));
-    counts = countExceeds-false limit (layout K) .1 (λ p _. rw (reads-count r p) (complex .within p));
-    offsets = offsetDiffers-false (layout K) .1 (λ p l. r .offsets p l ∙ sym (reads-start r p));
-    ends = lengthDiffers-false (layout K) .1 (length-layout complex ∙ sym (reads-start r (suc top)));
+    counts = countExceeds-false limit (layout K) .1 (λ p _. rw (reads-count (complex-shaped complex) r p) (complex .within p));
+    offsets = offsetDiffers-false (layout K) .1 (λ p l. r .offsets p l ∙ sym (reads-start (complex-shaped complex) r p));
+    ends = lengthDiffers-false (layout K) .1 (length-layout complex ∙ sym (reads-start (complex-shaped complex) r (suc top)));
     vertices = rw (sections-layout small) (verticesDoNotRise-false K .1 (λ p i _ l. complex .rising p i l));
     cells = rw (sections-layout small) (cellsDoNotRise-false K .1 (λ p i _ l. complex .ordered p i l));
     faces = rw (sections-layout small) (faceMissing-false K .1 (λ p i j _ l m. complex .closed p i j l m));
@@ -153,7 +154,7 @@ laid-reads limit b e = record {
 
 pub layout-laid : (limit : ℕ) → limit ≤ libraryLimit → (b : List ℕ) → Bytes b → complexRefusal limit b ≡ 0 → layout (sectionsOf b) ≡ b
 layout-laid limit small b h e =
-    carries-all b (layout (sectionsOf b)) (carries-layout complex small b h .1 (laid-reads limit b e))
+    carries-all b (layout (sectionsOf b)) (carries-layout (complex-shaped complex) small b h .1 (laid-reads limit b e))
     (length-layout complex
     ∙ start-ext (count (sectionsOf b)) (countField b) (suc top) (λ q _. count-sectionsOf b q)
     ∙ sym (lengthDiffers-false b .0 (complex-zero limit b .0 e .ends)))

@@ -1,7 +1,7 @@
 -- The layout of a complex, field by field.
---     length-layout     its length is where the section past the last would start
+--     length-sized, length-layout     its length is where the section past the last would start
 --     bytes-layout      it consists of bytes
---     carries-layout      b carries it exactly when each field of b is the one required
+--     Shaped, complex-shaped, carries-layout      b carries it exactly when each field of b is the one required
 use mathlib.Core.Path.{_≡_, refl, sym, ap, _∙_, subst, subst₂, ap₂}
 use mathlib.Core.Logic.{_↔_}
 use mathlib.Core.List.{List, [], _∷_, _++_}
@@ -12,7 +12,7 @@ use native.Mathlib.Omega.{arith}
 use lib.ListN.{length, getD, length-append}
 use Rattle.limits.specs.Limits.{libraryLimit}
 use Rattle.complexes.specs.Cell.{Cell}
-use Rattle.complexes.specs.Complex.{Sections, section, count, cell, Complex}
+use Rattle.complexes.specs.Complex.{Sections, section, count, cell, vertexBound, Complex}
 use Rattle.sheet_format.specs.Layout.{top, field, cellBytes, sectionBytes, sectionsBytes, start, headerBytes, layout}
 use Rattle.sheet_format.specs.Check.{fieldAt, offsetField}
 use Rattle.sheet_format.specs.Sheet.{Bytes}
@@ -177,42 +177,62 @@ pub record Reads (b : List ℕ) (K : Sections) : Type 0 where
   pub vertices : (p i j : ℕ) → i < count K p → j < suc p
       → fieldAt b (start (count K) p + 2 * (suc p * i) + 2 * j) ≡ getD (cell K p i) j 0
 
--- ---- the layout of a complex
+-- ---- the layout
 
-module _ {limit : ℕ} {K : Sections} (complex : Complex top limit K) where
-  sections-starts : Starts (length K) (start (count K)) (λ p. sectionBytes (section K p))
+-- of cells that have as many vertices as their dimension says
+module _ (K : Sections) (sized : (p i : ℕ) → i < count K p → length (cell K p i) ≡ suc p) where
+  sections-start : Starts (length K) (start (count K)) (λ p. sectionBytes (section K p))
   unfolding start
-  sections-starts = record {
-    next = λ p l. ap (λ (s : ℕ). start (count K) p + s) (sym (length-sectionBytes (suc p) (section K p) (λ i k. complex .sized p i k)));
+  sections-start = record {
+    next = λ p l. ap (λ (s : ℕ). start (count K) p + s) (sym (length-sectionBytes (suc p) (section K p) (sized p)));
   }
 
-  pub length-layout : length (layout K) ≡ start (count K) (suc top)
+  pub length-sized : length K ≡ suc top → length (layout K) ≡ start (count K) (suc top)
   unfolding layout start
-  length-layout =
+  length-sized dimensions =
       length-append (headerBytes (count K) 0 (suc top)) (sectionsBytes K)
       ∙ ap₂ _+_ (length-headerBytes (count K) (suc top)) (ap length (sectionsBytes-pieces K))
-      ∙ length-pieces (length K) (start (count K)) (λ p. sectionBytes (section K p)) sections-starts
-      ∙ ap (start (count K)) (complex .dimensions)
+      ∙ length-pieces (length K) (start (count K)) (λ p. sectionBytes (section K p)) sections-start
+      ∙ ap (start (count K)) dimensions
+
+-- of a complex
+pub length-layout : {limit : ℕ} {K : Sections} → Complex top limit K → length (layout K) ≡ start (count K) (suc top)
+length-layout {K = K} complex = length-sized K (complex .sized) (complex .dimensions)
+
+-- the cells of dimensions 0 to `top`, at most `limit` in each, of as many vertex numbers as their dimension says
+pub record Shaped (limit : ℕ) (K : Sections) : Type 0 where
+  pub dimensions : length K ≡ suc top
+  pub within : (p : ℕ) → count K p ≤ limit
+  pub sized : (p i : ℕ) → i < count K p → length (cell K p i) ≡ suc p
+  pub numbered : (p i j : ℕ) → i < count K p → j < suc p → getD (cell K p i) j 0 < vertexBound
+
+pub complex-shaped : {limit : ℕ} {K : Sections} → Complex top limit K → Shaped limit K
+complex-shaped complex =
+    record { dimensions = complex .dimensions; within = complex .within; sized = complex .sized; numbered = complex .numbered }
+
+module _ {limit : ℕ} {K : Sections} (shape : Shaped limit K) where
+  sections-starts : Starts (length K) (start (count K)) (λ p. sectionBytes (section K p))
+  sections-starts = sections-start K (shape .sized)
 
   start-small : limit ≤ libraryLimit → (p : ℕ) → p ≤ suc top → start (count K) p < 65536
   start-small small p h =
-      omega (arith, start-mono (count K) p (suc top) h, start-le (count K) limit (suc top) (λ q l. complex .within q))
+      omega (arith, start-mono (count K) p (suc top) h, start-le (count K) limit (suc top) (λ q l. shape .within q))
 
   carries-vertices : (b : List ℕ) → Bytes b → (at p : ℕ) → Carries b at (sectionBytes (section K p))
       ↔ ((i j : ℕ) → i < count K p → j < suc p → fieldAt b (at + 2 * (suc p * i) + 2 * j) ≡ getD (cell K p i) j 0)
   carries-vertices b h at p = (
-    λ k i j l m. one i l .0 (each .0 k i l) j (rw (complex .sized p i l) m),
-    λ e. each .1 (λ i l. one i l .1 (λ j m. e i j l (rw (complex .sized p i l) at m))),
+    λ k i j l m. one i l .0 (each .0 k i l) j (rw (shape .sized p i l) m),
+    λ e. each .1 (λ i l. one i l .1 (λ j m. e i j l (rw (shape .sized p i l) at m))),
   )
     where
       each : Carries b at (sectionBytes (section K p))
           ↔ ((i : ℕ) → i < count K p → Carries b (at + 2 * (suc p * i)) (cellBytes (cell K p i)))
-      each = carries-section b at (suc p) (section K p) (λ i l. complex .sized p i l)
+      each = carries-section b at (suc p) (section K p) (λ i l. shape .sized p i l)
 
       one : (i : ℕ) → i < count K p → Carries b (at + 2 * (suc p * i)) (cellBytes (cell K p i))
           ↔ ((j : ℕ) → j < length (cell K p i) → fieldAt b (at + 2 * (suc p * i) + 2 * j) ≡ getD (cell K p i) j 0)
       one i l =
-          carries-cell b h (at + 2 * (suc p * i)) (cell K p i) (λ j m. complex .numbered p i j l (rw (complex .sized p i l) at m))
+          carries-cell b h (at + 2 * (suc p * i)) (cell K p i) (λ j m. shape .numbered p i j l (rw (shape .sized p i l) at m))
 
   pub carries-layout : limit ≤ libraryLimit → (b : List ℕ) → Bytes b → Carries b 0 (layout K) ↔ Reads b K
   unfolding layout start offsetField
@@ -238,7 +258,7 @@ module _ {limit : ℕ} {K : Sections} (complex : Complex top limit K) where
       header : Carries b 0 (headerBytes (count K) 0 (suc top))
           ↔ ((p : ℕ) → p < suc top → (fieldAt b (4 * p) ≡ count K p) × (fieldAt b (4 * p + 2) ≡ start (count K) p))
       header =
-          carries-header b h (count K) (suc top) (λ p l. omega (arith, complex .within p)) (λ p l. start-small small p (omega arith))
+          carries-header b h (count K) (suc top) (λ p l. omega (arith, shape .within p)) (λ p l. start-small small p (omega arith))
 
       sections : Carries b (start (count K) 0) (sectionsBytes K)
           ↔ ((p : ℕ) → p < length K → Carries b (start (count K) p) (sectionBytes (section K p)))

@@ -96,8 +96,8 @@ module _ (limit : ℕ) (b : List ℕ) where
   unfolding refusal complexRefusal
   refusal-18 = (
     λ e.
-    let parts = first-append-absent (complexChecks limit b) ((18, looseNode (sectionsOf b)) ∷ []) refl 18 refl e in
-    (parts .0, last-18 (looseNode (sectionsOf b)) (parts .1)),
+        let parts = first-append-absent (complexChecks limit b) ((18, looseNode (sectionsOf b)) ∷ []) refl 18 refl e in
+        (parts .0, last-18 (looseNode (sectionsOf b)) (parts .1)),
     λ h. first-append-passed (complexChecks limit b) ((18, looseNode (sectionsOf b)) ∷ []) refl (h .0) ∙ rw (h .1) refl,
   )
 

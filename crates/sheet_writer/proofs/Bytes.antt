@@ -1,6 +1,7 @@
 -- Bytes written one behind the other, and the parts of a sheet as such.
 --     splice-behind                                                         bytes put over just behind others
 --     cellBytes-next, sectionBytes-next, sectionsBytes-next, header-next    one vertex, one cell, one section, one entry of the header more
+--     sectionBytes-append, sectionBytes-one, sectionsBytes-le               some cells and more of them, one cell, some of the sections
 --     start-small, counts-are, counts-small                                 the counts of the cells held, and where their sections start
 --     length-sections, length-held, header-fits, section-fits               the length of their sheet
 use mathlib.Core.Path.{_≡_, refl, sym, ap, ap₂, _∙_, fun-ext}
@@ -9,7 +10,7 @@ use Prim.Native.Nat.{ℕ, zero, suc, _+_, _*_, _≤_, _<_}
 use native.Mathlib.Nat.{add-zero, zero-add}
 use native.Mathlib.Decide.{decLt}
 use native.Mathlib.Omega.{arith}
-use lib.ListN.{length, getD, take, length-append, List·getD-eq-default}
+use lib.ListN.{length, getD, take, drop, length-append, take-append-drop, List·getD-eq-default}
 use lib.Seq.{take-suc, take-all}
 use Rattle.limits.specs.Limits.{libraryLimit}
 use Rattle.lists.specs.Splice.{splice}
@@ -31,16 +32,22 @@ splice-behind at place xs ys l l′ l″ h e p q =
 
 module _ {A : Type 0} (d : A) (bytes : List A → List ℕ) (one : A → List ℕ) (none : bytes [] ≡ [])
     (next : (x : A) (l : List A) → bytes (x ∷ l) ≡ one x ++ bytes l) where
-  bytes-snoc : (l : List A) (x : A) → bytes (l ++ (x ∷ [])) ≡ bytes l ++ one x
-  bytes-snoc [] x = next x [] ∙ ap (λ (t : List ℕ). one x ++ t) none ∙ append-nil (one x) ∙ ap (λ (t : List ℕ). t ++ one x) (sym none)
-  bytes-snoc (y ∷ l) x =
-      next y (l ++ (x ∷ []))
-      ∙ ap (λ (t : List ℕ). one y ++ t) (bytes-snoc l x)
-      ∙ sym (append-assoc (one y) (bytes l) (one x))
-      ∙ ap (λ (t : List ℕ). t ++ one x) (sym (next y l))
+  bytes-append : (l m : List A) → bytes (l ++ m) ≡ bytes l ++ bytes m
+  bytes-append [] m = ap (λ (t : List ℕ). t ++ bytes m) (sym none)
+  bytes-append (x ∷ l) m =
+      next x (l ++ m)
+      ∙ ap (λ (t : List ℕ). one x ++ t) (bytes-append l m)
+      ∙ sym (append-assoc (one x) (bytes l) (bytes m))
+      ∙ ap (λ (t : List ℕ). t ++ bytes m) (sym (next x l))
+
+  bytes-one : (x : A) → bytes (x ∷ []) ≡ one x
+  bytes-one x = next x [] ∙ ap (λ (t : List ℕ). one x ++ t) none ∙ append-nil (one x)
 
   bytes-next : (l : List A) (i : ℕ) → i < length l → bytes (take (suc i) l) ≡ bytes (take i l) ++ one (getD l i d)
-  bytes-next l i h = ap bytes (take-suc l i d h) ∙ bytes-snoc (take i l) (getD l i d)
+  bytes-next l i h =
+      ap bytes (take-suc l i d h)
+      ∙ bytes-append (take i l) (getD l i d ∷ [])
+      ∙ ap (λ (t : List ℕ). bytes (take i l) ++ t) (bytes-one (getD l i d))
 
 pub cellBytes-next : (c : Cell) (j : ℕ) → j < length c → cellBytes (take (suc j) c) ≡ cellBytes (take j c) ++ field (getD c j 0)
 unfolding cellBytes
@@ -54,6 +61,25 @@ pub sectionsBytes-next : (K : Sections) (p : ℕ) → p < length K
     → sectionsBytes (take (suc p) K) ≡ sectionsBytes (take p K) ++ sectionBytes (section K p)
 unfolding sectionsBytes
 sectionsBytes-next = bytes-next [] sectionsBytes sectionBytes refl (λ l K. refl)
+
+pub sectionBytes-append : (l m : List Cell) → sectionBytes (l ++ m) ≡ sectionBytes l ++ sectionBytes m
+unfolding sectionBytes
+sectionBytes-append = bytes-append [] sectionBytes cellBytes refl (λ c l. refl)
+
+pub sectionBytes-one : (c : Cell) → sectionBytes (c ∷ []) ≡ cellBytes c
+unfolding sectionBytes
+sectionBytes-one = bytes-one [] sectionBytes cellBytes refl (λ c l. refl)
+
+-- the first sections take no more than all
+pub sectionsBytes-le : (K : Sections) (p : ℕ) → length (sectionsBytes (take p K)) ≤ length (sectionsBytes K)
+unfolding sectionsBytes
+sectionsBytes-le K p =
+    omega (
+      arith,
+      ap (λ (t : Sections). length (sectionsBytes t)) (take-append-drop p K),
+      ap length (bytes-append [] sectionsBytes sectionBytes refl (λ l L. refl) (take p K) (drop p K)),
+      length-append (sectionsBytes (take p K)) (sectionsBytes (drop p K)),
+    )
 
 -- ---- the header
 

@@ -1,2 +1,2 @@
--- What the proofs of the crate share.
-mod Bytes
+-- What the proofs of the crate and of those above it share.
+pub mod Bytes

@@ -12,7 +12,7 @@ use cell_sets::vertices::vertex;
 use fields::field::HEADER_LENGTH;
 
 // Writes a field at byte `at`: two bytes, the low one first.
-fn write_field(v: usize, sheet: &mut [u8], at: usize)
+pub fn write_field(v: usize, sheet: &mut [u8], at: usize)
     requires { ⌜ at + 2 ≤ length (now sheet) ⌝ }
     ensures { λ r. ⌜ now (sheet .exit) ≡ splice at (spec.field v) (now (sheet .entry)) ⌝ }
 {
@@ -47,7 +47,7 @@ fn write_section(cells: &[u64], from: usize, many: usize, n: usize, sheet: &mut 
 }
 
 // The byte at which section p starts; for p = SECTIONS, the length of the sheet.
-fn section_start(counts: &[usize; SECTIONS], p: usize) -> usize
+pub fn section_start(counts: &[usize; SECTIONS], p: usize) -> usize
     requires { ⌜ (p ≤ suc spec.top) × Small (now counts) ⌝ }
     ensures { λ r. ⌜ r ≡ spec.start (countOf (now (counts .entry))) p ⌝ }
 {
@@ -69,7 +69,7 @@ pub fn sheet_length(counts: &[usize; SECTIONS]) -> usize
 }
 
 // Writes the header: a count and an offset for each dimension.
-fn write_header(counts: &[usize; SECTIONS], sheet: &mut [u8])
+pub fn write_header(counts: &[usize; SECTIONS], sheet: &mut [u8])
     requires { ⌜ Small (now counts) × (spec.headerLength ≤ length (now sheet)) ⌝ }
     ensures { λ r. ⌜ now (sheet .exit) ≡ splice 0 (spec.headerBytes (countOf (now (counts .entry))) 0 (suc spec.top)) (now (sheet .entry)) ⌝ }
 {

@@ -25,7 +25,8 @@ use Rattle.sheet_format.proofs.LooseLaws.{loose-false}
 use Rattle.sheet_format.proofs.LayoutLaws.{length-layout}
 use Rattle.closures.specs.Keep.{kept, keep}
 use Rattle.closures.proofs.RisingLaws.{rising-unique, cells-order, listed-stands}
-use Rattle.closures.proofs.KeepLaws.{KeptAt, kept-all, section-keep, keep-listed, keep-below, keep-all, keep-complex}
+use Rattle.closures.proofs.KeepCount.{section-keep}
+use Rattle.closures.proofs.KeepLaws.{KeptAt, kept-whole, keep-listed, keep-below, keep-whole, keep-complex}
 use Rattle.sweeps.specs.Sweep.{stays, swept}
 use Rattle.sweeps.specs.Swept.{StaysIn, IsSwept}
 
@@ -36,7 +37,7 @@ module _ {limit : ℕ} {K : Sections} (complex : Complex top limit K) where
 
   -- the cells of the dimensions above 0 all stay
   above : (p : ℕ) → section (swept K) (suc p) ≡ section K (suc p)
-  above p = section-keep (stays K) K (suc p) ∙ kept-all (stays K (suc p)) (section K (suc p)) (λ i l. refl)
+  above p = section-keep (stays K) K (suc p) ∙ kept-whole (stays K (suc p)) (section K (suc p)) (λ i l. refl)
 
   -- an edge is one of K's and of the swept cells'
   edge-stays : {c : Cell} → InEdge K c → InEdge (swept K) c
@@ -93,7 +94,7 @@ module _ {limit : ℕ} {K : Sections} (complex : Complex top limit K) where
   }
 
   pub swept-same : NoLooseNodes K → swept K ≡ K
-  swept-same none = keep-all (stays K) K all
+  swept-same none = keep-whole (stays K) K all
     where
       all : (p i : ℕ) → i < count K p → stays K p i ≡ true
       all zero i l = stays-iff i l .1 (λ h. none .used h i l)

@@ -42,15 +42,18 @@ rows-before b p d = rows-section (sectionsOf b) p (pos-of-ne-zero d) ∙ count-s
 
 pub accepted-library : {limit : ℕ} {b : List ℕ} → limit ≤ libraryLimit → refusal limit b ≡ 0 → Accepted b
 accepted-library {limit} {b} h e = record {
-  none-applies = refusal-zero libraryLimit b .1 (complex-zero libraryLimit b .1 (record {
-    long = passes .long;
-    counts = countExceeds-false libraryLimit b .1 (λ p l. le-trans (countExceeds-false limit b .0 (passes .counts) p l) h);
-    offsets = passes .offsets;
-    ends = passes .ends;
-    vertices = passes .vertices;
-    cells = passes .cells;
-    faces = passes .faces;
-  }), refusal-zero limit b .0 e .1);
+  none-applies = refusal-zero libraryLimit b .1 (
+    complex-zero libraryLimit b .1 (record {
+      long = passes .long;
+      counts = countExceeds-false libraryLimit b .1 (λ p l. le-trans (countExceeds-false limit b .0 (passes .counts) p l) h);
+      offsets = passes .offsets;
+      ends = passes .ends;
+      vertices = passes .vertices;
+      cells = passes .cells;
+      faces = passes .faces;
+    }),
+    refusal-zero limit b .0 e .1,
+  );
 }
   where
     passes : Passes limit b
