@@ -1,4 +1,4 @@
--- The map of the nodes that a mesh lists: a bit for each node number, eight in a byte.
+-- A set of vertex numbers as a map: a bit for each vertex number, eight in a byte.
 use mathlib.Core.Path.{_≡_}
 use mathlib.Core.Logic.{_≢_}
 use mathlib.Core.Bool.{Bool, true}
