@@ -1,3 +1,3 @@
--- Bits of a byte, and the empty set.
+-- Bits of a byte, and the empty map.
 mod Bits
-pub mod Empty
+pub mod EmptyMap
