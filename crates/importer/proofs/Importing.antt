@@ -22,7 +22,7 @@ use Rattle.mesh_format.proofs.Accept.{mesh-iff}
 use Rattle.imports.specs.Import.{nodesOfKind, faulty, noneFaulty, elementsRight, nodeLists, complexOf, tooLong, answerWith, importCall}
 use Rattle.imports.proofs.ElementLaws.{mesh-numbered}
 use Rattle.imports.proofs.ImportLaws.{import-is, import-not}
-use Rattle.mesh_elements.specs.Map.{inMap}
+use Rattle.node_maps.specs.Map.{inMap}
 use Rattle.mesh_elements.specs.Listed.{Maps}
 use Rattle.refusal.specs.declared.Refusal.the-variants.{MeshMalformed, ElementFaulty, SheetTooLong}
 use Rattle.sheet_format.specs.Layout.{layout}

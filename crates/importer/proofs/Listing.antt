@@ -18,7 +18,7 @@ use Rattle.mesh_format.proofs.ReadLaws.{malformed-fails, parsed-inj, then-case,
 use Rattle.mesh_format.proofs.WalkLaws.{Walk, walk-start, walk-more, walk-end}
 use Rattle.mesh_words.specs.declared.answer.Cursor.{Cursor}
 use Rattle.mesh_words.specs.declared.answer.Skipped.the-variants.{Malformed, To}
-use Rattle.mesh_elements.specs.Map.{inMap, Lists}
+use Rattle.node_maps.specs.Map.{inMap, Lists}
 use Rattle.mesh_elements.specs.Listed.{Maps}
 use Rattle.importer.specs.Nodes.{tellEnd, ListsNodes}
 

@@ -10,7 +10,7 @@ use Rattle.limits.specs.Limits.{libraryLimit}
 use Rattle.closures.specs.Closure.{elementTop, member}
 use Rattle.cell_sets.specs.Set.{Holds}
 use Rattle.cell_sets.proofs.Own.{holds-none}
-use Rattle.mesh_elements.specs.Map.{mapLength, bitOf}
+use Rattle.node_maps.specs.Map.{mapLength, bitOf}
 use Rattle.mesh_elements.specs.Listed.{Maps}
 use Rattle.importer.specs.Gather.{ownCells}
 

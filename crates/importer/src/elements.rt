@@ -4,7 +4,7 @@ ghost use mathlib.Core.List.{[]};
 ghost use lib.ListN.{length};
 ghost use Rattle.cell_sets.specs.Set.{Holds};
 ghost use Rattle.mesh_format.specs.Parse.{elementLines, elementsOf};
-ghost use Rattle.mesh_elements.specs.Map.{mapLength, inMap};
+ghost use Rattle.node_maps.specs.Map.{mapLength, inMap};
 ghost use Rattle.importer.specs.Gather.{ownCells};
 ghost use Rattle.importer.specs.Elements.{TellsElements};
 use crate::gather::Outcome;

@@ -1,7 +1,7 @@
 // The cells of the elements, gathered by dimension.
 ghost use mathlib.Core.Path.{_≡_};
 ghost use lib.ListN.{length};
-ghost use Rattle.mesh_elements.specs.Map.{mapLength, inMap};
+ghost use Rattle.node_maps.specs.Map.{mapLength, inMap};
 ghost use Rattle.importer.specs.Gather.{Ready, AddsElement};
 use cell_sets::set::SECTIONS;
 use cell_sets::set::add_cell;

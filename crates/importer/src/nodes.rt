@@ -2,9 +2,8 @@
 ghost use mathlib.Core.Path.{_≡_};
 ghost use lib.ListN.{length};
 ghost use Rattle.mesh_format.specs.Parse.{nodeLines, nodesOf};
-ghost use Rattle.mesh_elements.specs.Map.{mapLength};
+ghost use Rattle.node_maps.specs.Map.{mapLength};
 ghost use Rattle.importer.specs.Nodes.{ListsNodes};
-use mesh_elements::map::list;
 use mesh_reader::keywords::END_NODES;
 use mesh_reader::read::read_count;
 use mesh_reader::read::read_node;
@@ -12,6 +11,7 @@ use mesh_reader::title::the_title;
 use mesh_words::answer::Cursor;
 use mesh_words::answer::Number;
 use mesh_words::answer::Skipped;
+use node_maps::map::list;
 
 // Reads n lines of nodes, and lists each node.
 fn list_nodes(text: &[u8], c: Cursor, n: usize, map: &mut [u8]) -> Skipped

@@ -20,7 +20,7 @@ use Rattle.refusal.specs.declared.Refusal.{Refusal}
 use Rattle.refusal.specs.declared.Refusal.the-variants.{ElementFaulty}
 use Rattle.mesh_lines.specs.declared.answer.Element.{Element}
 use Rattle.mesh_lines.specs.Tells.{TellsElement}
-use Rattle.mesh_elements.specs.Map.{inMap}
+use Rattle.node_maps.specs.Map.{inMap}
 use Rattle.mesh_elements.specs.Kind.{IsSimplex, IsKind}
 use Rattle.mesh_elements.specs.Listed.{AllListed}
 use Rattle.mesh_elements.specs.Element.{Checks}

@@ -1,4 +1,3 @@
--- Bits of a byte, and the faults of an element.
-mod Bits
+-- The faults of an element, and what the tests tell of it.
 mod Faults
 mod Checking

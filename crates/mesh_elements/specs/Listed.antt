@@ -8,7 +8,7 @@ use Rattle.lists.specs.Same.{every}
 use Rattle.complexes.specs.Complex.{vertexBound}
 use Rattle.complexes.specs.Packed.{packed, Numbered}
 use Rattle.closures.specs.Closure.{member}
-use Rattle.mesh_elements.specs.Map.{mapLength, inMap}
+use Rattle.node_maps.specs.Map.{mapLength, inMap}
 
 -- r tells whether all nodes of a list of n are listed, from the word w of the list
 abbrev pub AllListed : List ℕ → ℕ → ℕ → Bool → Type 0

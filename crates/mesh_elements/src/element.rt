@@ -1,7 +1,7 @@
 // Whether an element is right: document 02, refusal 15.
 ghost use mathlib.Core.Path.{_≡_};
 ghost use lib.ListN.{length};
-ghost use Rattle.mesh_elements.specs.Map.{mapLength, inMap};
+ghost use Rattle.node_maps.specs.Map.{mapLength, inMap};
 ghost use Rattle.mesh_elements.specs.Element.{Checks};
 use crate::kind::Kind;
 use crate::kind::kind_of;

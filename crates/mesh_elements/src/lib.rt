@@ -2,4 +2,3 @@
 pub mod element;
 pub mod kind;
 pub mod listed;
-pub mod map;

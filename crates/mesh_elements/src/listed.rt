@@ -3,10 +3,10 @@ ghost use mathlib.Core.Path.{_≡_};
 ghost use Prim.Native.Nat.{_≤_};
 ghost use lib.ListN.{length};
 ghost use Rattle.complexes.specs.Packed.{wordVertices};
-ghost use Rattle.mesh_elements.specs.Map.{mapLength};
+ghost use Rattle.node_maps.specs.Map.{mapLength};
 ghost use Rattle.mesh_elements.specs.Listed.{AllListed};
-use crate::map::is_listed;
-use mesh_words::number::NODE_BOUND;
+use node_maps::map::NODE_BOUND;
+use node_maps::map::is_listed;
 
 // Whether all n nodes of the word are listed.
 pub fn all_listed(map: &[u8], word: u64, n: usize) -> bool

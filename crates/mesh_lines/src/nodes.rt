@@ -8,10 +8,10 @@ use crate::line::end_at;
 use mesh_words::answer::Cursor;
 use mesh_words::answer::Number;
 use mesh_words::answer::Skipped;
-use mesh_words::number::NODE_BOUND;
 use mesh_words::number::node_number_after;
 use mesh_words::run::Class;
 use mesh_words::run::stands;
+use node_maps::map::NODE_BOUND;
 
 // This many nodes are packed, each a digit to the base BASE.
 const PACKED_NODES: usize = 4;

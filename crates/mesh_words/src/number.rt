@@ -9,12 +9,10 @@ use crate::answer::Skipped;
 use crate::run::Class;
 use crate::run::stands;
 use crate::word::some_of;
+use node_maps::map::NODE_BOUND;
 
 // A number has at most this many digits.
 const MOST_DIGITS: usize = 9;
-
-// Node numbers are below this.
-pub const NODE_BOUND: usize = 65536;
 
 // A number. Reading stops at the tenth digit.
 pub fn number_at(text: &[u8], c: Cursor) -> Number

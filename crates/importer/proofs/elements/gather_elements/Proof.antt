@@ -11,7 +11,7 @@ use Rattle.mesh_format.proofs.WalkLaws.{walk-start, walk-stop, walk-more, walk-
 use Rattle.imports.specs.Import.{noneFaulty}
 use Rattle.imports.proofs.ElementLaws.{element-numbered}
 use Rattle.mesh_lines.proofs.Told.{element-malformed, element-read}
-use Rattle.mesh_elements.specs.Map.{inMap}
+use Rattle.node_maps.specs.Map.{inMap}
 use Rattle.importer.proofs.Gathering.{ready, Gathering}
 use Rattle.importer.proofs.elements.gather_elements.Statement.{statement}
 use Rattle.importer.proofs.elements.gather_elements.Tie as tie

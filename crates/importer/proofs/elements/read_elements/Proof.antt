@@ -8,7 +8,7 @@ use Rattle.mesh_format.specs.Mesh.{Element}
 use Rattle.mesh_format.specs.Words.{elementsName, opening, ending}
 use Rattle.mesh_format.specs.Parse.{malformed, parsed, then, titleLine, countLine, elementLines, elementsOf}
 use Rattle.mesh_words.proofs.Told.{skipped-malformed, skipped-to, number-malformed, number-read}
-use Rattle.mesh_elements.specs.Map.{inMap}
+use Rattle.node_maps.specs.Map.{inMap}
 use Rattle.importer.specs.Elements.{TellsElements}
 use Rattle.importer.specs.declared.elements.Elements.{Elements}
 use Rattle.importer.specs.declared.elements.Elements.the-variants.{Malformed, Read}

@@ -5,7 +5,7 @@ use mathlib.Core.Bool.{Bool}
 use mathlib.Core.List.{List}
 use Prim.Native.Nat.{ℕ}
 use denote.Ref.{now}
-use Rattle.mesh_elements.specs.Map.{inMap}
+use Rattle.node_maps.specs.Map.{inMap}
 use Rattle.mesh_elements.specs.Element.{Checks}
 use Rattle.mesh_elements.specs.declared.element.Checked.the-variants.{Cell}
 use Rattle.importer.specs.Gather.{Ready, AddsElement}

@@ -10,7 +10,7 @@ use Rattle.imports.specs.Import.{nodeLists}
 use Rattle.mesh_format.specs.Mesh.{Mesh}
 use Rattle.mesh_format.specs.Parse.{parsed, headOf, nodesOf, elementsOf, meshOf}
 use Rattle.mesh_words.proofs.Told.{skipped-malformed, skipped-to}
-use Rattle.mesh_elements.specs.Map.{inMap}
+use Rattle.node_maps.specs.Map.{inMap}
 use Rattle.mesh_elements.specs.Listed.{Maps}
 use Rattle.importer.specs.Gather.{Gathers}
 use Rattle.importer.specs.Elements.{GathersRead, TellsElements}

@@ -3,7 +3,7 @@ use borrow.Author.Needs.{needs}
 use mathlib.Core.Path.{_≡_, subst}
 use borrow.Author.Tests.{not-true, not-false}
 use denote.Ref.{now}
-use Rattle.mesh_elements.specs.Map.{inMap}
+use Rattle.node_maps.specs.Map.{inMap}
 use Rattle.mesh_elements.specs.Kind.{IsSimplex, IsKind}
 use Rattle.mesh_elements.specs.Listed.{AllListed}
 use Rattle.mesh_elements.proofs.Checking.{refused-kind, refused-number, vertices-few, refused-unlisted, refused-twice, right}

@@ -14,7 +14,7 @@ use Rattle.lists.specs.Same.{every}
 use Rattle.complexes.specs.Complex.{vertexBound}
 use Rattle.complexes.specs.Packed.{packed, Numbered}
 use Rattle.complexes.proofs.PackedLaws.{packed-append}
-use Rattle.mesh_elements.specs.Map.{inMap}
+use Rattle.node_maps.specs.Map.{inMap}
 use Rattle.mesh_elements.proofs.listed.all_listed.Statement.{statement}
 use Rattle.mesh_elements.proofs.listed.all_listed.Tie as tie
 

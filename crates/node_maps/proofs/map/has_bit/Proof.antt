@@ -3,9 +3,9 @@ use borrow.Author.Needs.{needs}
 use mathlib.Core.Path.{refl}
 use native.Mathlib.Nat.{one-le-pow}
 use native.Mathlib.Omega.{arith}
-use Rattle.mesh_elements.specs.Map.{bitOf}
-use Rattle.mesh_elements.proofs.map.has_bit.Statement.{statement}
-use Rattle.mesh_elements.proofs.map.has_bit.Tie as tie
+use Rattle.node_maps.specs.Map.{bitOf}
+use Rattle.node_maps.proofs.map.has_bit.Statement.{statement}
+use Rattle.node_maps.proofs.map.has_bit.Tie as tie
 
 div-result : tie.Need-div-result
 div-result c = omega (arith, c .bit .ensures, one-le-pow (c .before .args .k) 2 (omega arith))

@@ -9,9 +9,9 @@ use native.Mathlib.Omega.{arith}
 use lib.ListN.{length, getD, set, length-set}
 use lib.Seq.{getD-set-same, getD-set-other}
 use denote.Ref.{now}
-use Rattle.mesh_elements.specs.Map.{bitOf, inMap, SetsBit, Lists}
-use Rattle.mesh_elements.proofs.map.list.Statement.{statement}
-use Rattle.mesh_elements.proofs.map.list.Tie as tie
+use Rattle.node_maps.specs.Map.{bitOf, inMap, SetsBit, Lists}
+use Rattle.node_maps.proofs.map.list.Statement.{statement}
+use Rattle.node_maps.proofs.map.list.Tie as tie
 
 lists : (map : List ℕ) (v y : ℕ) → v / 8 < length map → SetsBit (v % 8) (getD map (v / 8) 0) y → Lists v map (set map (v / 8) y)
 lists map v y l h = record {

@@ -3,8 +3,8 @@ use borrow.Author.Needs.{needs}
 use Prim.Native.Nat.{_^_}
 use native.Mathlib.Nat.{one-mul, mod-eq-of-lt, pow-le-pow-right}
 use native.Mathlib.Omega.{arith}
-use Rattle.mesh_elements.proofs.map.bit.Statement.{statement}
-use Rattle.mesh_elements.proofs.map.bit.Tie as tie
+use Rattle.node_maps.proofs.map.bit.Statement.{statement}
+use Rattle.node_maps.proofs.map.bit.Tie as tie
 
 returns : tie.Need-returns
 returns c =

@@ -3,10 +3,10 @@ use borrow.Author.Needs.{needs}
 use mathlib.Core.Path.{_≡_, refl, sym, _∙_}
 use mathlib.Core.Bool.{false}
 use native.Mathlib.Omega.{arith}
-use Rattle.mesh_elements.specs.Map.{bitOf}
-use Rattle.mesh_elements.proofs.Bits.{add-fits, add-sets}
-use Rattle.mesh_elements.proofs.map.with_bit.Statement.{statement}
-use Rattle.mesh_elements.proofs.map.with_bit.Tie as tie
+use Rattle.node_maps.specs.Map.{bitOf}
+use Rattle.node_maps.proofs.Bits.{add-fits, add-sets}
+use Rattle.node_maps.proofs.map.with_bit.Statement.{statement}
+use Rattle.node_maps.proofs.map.with_bit.Tie as tie
 
 -- the bit is clear
 clear : (c : tie.After-bit) → bitOf (c .before .before .before .args .byte) (c .before .before .before .args .k) ≡ false

@@ -7,7 +7,7 @@ use lib.Dec.{eqb, ltb}
 use borrow.Author.Tests.{ltb-true, ne-eqb, not-true, not-false}
 use Rattle.sheet_format.specs.Check.{some}
 use Rattle.sheet_format.specs.CheckLaws.{some-false}
-use Rattle.mesh_elements.specs.Map.{bitOf, SetsBit}
+use Rattle.node_maps.specs.Map.{bitOf, SetsBit}
 
 abbrev same : Bool → Bool → Bool
 same true b = b

@@ -1,10 +1,12 @@
-// The nodes that a mesh lists: a bit for each node number, eight in a byte.
+// A set of vertex numbers, those listed: a bit for each vertex number, eight in a byte.
 ghost use mathlib.Core.Path.{_≡_};
 ghost use Prim.Native.Nat.{_^_, _<_};
 ghost use lib.ListN.{length};
 ghost use Rattle.complexes.specs.Complex.{vertexBound};
-ghost use Rattle.mesh_elements.specs.Map.{mapLength, bitOf, inMap, SetsBit, Lists};
-use mesh_words::number::NODE_BOUND;
+ghost use Rattle.node_maps.specs.Map.{mapLength, bitOf, inMap, SetsBit, Lists};
+
+// Node numbers are below this.
+pub const NODE_BOUND: usize = 65536;
 
 // The bytes of the map.
 pub const MAP_LENGTH: usize = NODE_BOUND / 8;

@@ -1,7 +1,7 @@
--- The map of the nodes that a mesh lists: a bit for each node number, eight in a byte.
+-- A set of vertex numbers as a map: a bit for each vertex number, eight in a byte.
 use mathlib.Core.Path.{_≡_}
 use mathlib.Core.Logic.{_≢_}
-use mathlib.Core.Bool.{Bool, true}
+use mathlib.Core.Bool.{Bool, true, false}
 use mathlib.Core.List.{List}
 use Prim.Native.Nat.{ℕ, _/_, _%_, _^_, _<_}
 use lib.Dec.{eqb}
@@ -29,3 +29,8 @@ pub record Lists (v : ℕ) (before after : List ℕ) : Type 0 where
   pub sized : length after ≡ length before
   pub here : inMap after v ≡ true
   pub elsewhere : (u : ℕ) → u ≢ v → inMap after u ≡ inMap before u
+
+-- the map lists no node
+pub record Empty (map : List ℕ) : Type 0 where
+  pub sized : length map ≡ mapLength
+  pub none : (v : ℕ) → inMap map v ≡ false

@@ -1,0 +1,3 @@
+-- Bits of a byte, and the empty map.
+mod Bits
+pub mod EmptyMap

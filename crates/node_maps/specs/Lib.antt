@@ -1,0 +1,2 @@
+-- Sets of vertex numbers.
+pub mod Map
