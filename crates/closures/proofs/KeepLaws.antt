@@ -2,7 +2,7 @@
 --     KeptAt, kept-listed     a cell stands among those kept exactly when its place is kept
 --     kept-rising             they rise if the list does
 --     kept-whole              where every place is kept, they are all of them
---     keep-listed, keep-below, keep-whole, keep-ext     the same for the sections of a complex, and for two choices that agree
+--     keep-listed, keep-whole, keep-ext     the same for the sections of a complex, and for two choices that agree
 --     keep-complex            where the faces of each cell kept are kept, they are a complex
 use mathlib.Core.Path.{_≡_, refl, sym, ap, ap₂, _∙_}
 use mathlib.Core.Logic.{_↔_, _⊎_, inl, inr}
@@ -18,7 +18,7 @@ use Rattle.complexes.specs.Cell.{Cell, without, precedes, Listed}
 use Rattle.complexes.specs.Complex.{Sections, section, count, cell, Complex}
 use Rattle.closures.specs.Rising.{Rising}
 use Rattle.closures.specs.Keep.{kept, keep}
-use Rattle.closures.proofs.KeepCount.{kept-few, length-keep, section-keep}
+use Rattle.closures.proofs.KeepCount.{length-keep, section-keep, count-keep}
 use Rattle.closures.proofs.RisingLaws.{Stands, listed-stands, stands-append, stands-at, stands-cases, stands-nil, rising-before, cells-order}
 
 -- c stands at a place below n of the list that the choice keeps
@@ -112,9 +112,6 @@ module _ (keeps : ℕ → ℕ → Bool) (K : Sections) where
   pub keep-listed : (p : ℕ) (c : Cell) → Listed c (section (keep keeps K) p) ↔ KeptAt (keeps p) (section K p) (count K p) c
   keep-listed p c = rw (section-keep keeps K p) (kept-listed (keeps p) (section K p) (count K p) c)
 
-  pub keep-below : (p : ℕ) → count (keep keeps K) p ≤ count K p
-  keep-below p = rw (section-keep keeps K p) (kept-few (keeps p) (section K p) (count K p))
-
   pub keep-whole : ((p i : ℕ) → i < count K p → keeps p i ≡ true) → keep keeps K ≡ K
   keep-whole e =
       ext-getD [] (keep keeps K) K (length-keep keeps K) (λ p _. section-keep keeps K p ∙ kept-whole (keeps p) (section K p) (λ i h. e p i h))
@@ -128,7 +125,7 @@ module _ (keeps : ℕ → ℕ → Bool) (K : Sections) where
       → Complex top limit (keep keeps K)
   keep-complex {top} {limit} complex faces = record {
     dimensions = length-keep keeps K ∙ complex .dimensions;
-    within = λ p. omega (arith, keep-below p, complex .within p);
+    within = λ p. omega (arith, count-keep keeps K p, complex .within p);
     sized = λ p i h. let k = cell-kept p i h in rw (sym (k .is)) (complex .sized p (k .place) (k .below));
     numbered = λ p i j h m. let k = cell-kept p i h in rw (sym (k .is)) (complex .numbered p (k .place) j (k .below) m);
     rising = λ p i h. let k = cell-kept p i h in rw (sym (k .is)) (complex .rising p (k .place) (k .below));

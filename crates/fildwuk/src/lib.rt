@@ -8,7 +8,7 @@ ghost use Rattle.host_calls.specs.Host.{hostCall, coordinatesIn, listsIn, surfa
 ghost use Rattle.host_calls.specs.Host.{reportRoom, workRoom};
 ghost use Rattle.limits.specs.Limits.{hostLimit};
 ghost use Rattle.imports.specs.Import.{importCall};
-ghost use Rattle.importer.specs.ImportAnswers.{ImportTold};
+ghost use Rattle.refusal.specs.Written.{WriteTold};
 ghost use Rattle.fildwuk.specs.HostAnswers.{HostAnswers};
 
 mod coordinate_lists;
@@ -144,7 +144,7 @@ pub extern "C" fn fildwuk_surface(
 pub extern "C" fn fildwuk_import(text: &[u8], sheet: &mut [u8]) -> u32
     ensures { λ r.
         let left = now (sheet .exit) in ⌜
-        ImportTold (importCall hostLimit (now (text .entry)) (now (sheet .entry))) r left
+        WriteTold (importCall hostLimit (now (text .entry)) (now (sheet .entry))) r left
         ⌝ }
 {
     let imported = import_at(Sheet::host(), text, sheet);

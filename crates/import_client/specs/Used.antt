@@ -3,9 +3,10 @@ use mathlib.Core.Path.{_≡_}
 use mathlib.Core.List.{List, [], _∷_}
 use Prim.Native.Nat.{ℕ}
 use Rattle.trials.specs.Trial.{done, numberTold}
-use Rattle.imports.specs.Examples.{hollow, twice, faultyThenMalformed, lent}
-use Rattle.importer.specs.ImportAnswers.{answered}
-use Rattle.importer.specs.declared.answer.Imported.{Imported}
+use Rattle.sweeps.specs.Cases.{lent}
+use Rattle.imports.specs.Examples.{hollow, twice, faultyThenMalformed}
+use Rattle.refusal.specs.Written.{answered}
+use Rattle.refusal.specs.declared.written.Written.{Written}
 
 -- the sheet of the hollow triangle, 34 bytes, and 6 of the 40 bytes lent
 abbrev pub hollowLeft : List ℕ
@@ -27,6 +28,6 @@ pub record Used (text before : List ℕ) (number : ℕ) (after : List ℕ) : Typ
   pub short : text ≡ hollow → before ≡ lent 33 → Told number 16 after before
 
 -- the library's import, with the length that it answers
-pub record LibraryUsed (text before : List ℕ) (r : Imported) (after : List ℕ) : Type 0 where
+pub record LibraryUsed (text before : List ℕ) (r : Written) (after : List ℕ) : Type 0 where
   pub length-told : text ≡ hollow → before ≡ lent 40 → answered r ≡ done 34
   pub used : Used text before (numberTold (answered r)) after

@@ -19,21 +19,23 @@ use Rattle.closures.specs.Rising as rising
 use Rattle.mesh_format.specs.Mesh.{Element, Mesh}
 use Rattle.mesh_format.specs.Parse.{malformed, parsed, then, headOf, nodesOf, elementsOf, meshOf}
 use Rattle.mesh_format.proofs.Accept.{mesh-iff}
-use Rattle.imports.specs.Import.{nodesOfKind, faulty, noneFaulty, elementsRight, nodeLists, complexOf, tooLong, answerWith, importCall}
+use Rattle.imports.specs.Import.{nodesOfKind, faulty, noneFaulty, elementsRight, nodeLists, complexOf, tooLong, importCall}
 use Rattle.imports.proofs.ElementLaws.{mesh-numbered}
 use Rattle.imports.proofs.ImportLaws.{import-is, import-not}
 use Rattle.node_maps.specs.Map.{inMap}
 use Rattle.mesh_elements.specs.Listed.{Maps}
 use Rattle.refusal.specs.declared.Refusal.the-variants.{MeshMalformed, ElementFaulty, SheetTooLong}
-use Rattle.sheet_format.specs.Layout.{layout}
+use Rattle.trials.specs.Write.{answerWith}
+use Rattle.sweeps.specs.Sweep.{sweptSheet}
 use Rattle.closures.proofs.ClosureLaws.{ownSections-count}
 use Rattle.cell_sets.specs.Set.{Holds}
 use Rattle.cell_sets.specs.Close.{Exceeds}
 use Rattle.importer.specs.Gather.{ownCells}
-use Rattle.importer.specs.ImportAnswers.{ImportAnswers, WritesClosure}
-use Rattle.importer.specs.declared.answer.Imported.{Imported}
+use Rattle.refusal.specs.Written.{WriteAnswers}
+use Rattle.refusal.specs.declared.written.Written.{Written}
+use Rattle.importer.specs.Closure.{WritesClosure}
 use Rattle.importer.proofs.Writing.{too-many-faces}
-use Rattle.importer.specs.declared.answer.Imported.the-variants.{Refused}
+use Rattle.refusal.specs.declared.written.Written.the-variants.{Refused}
 
 -- ---- the parts of the text
 
@@ -63,7 +65,7 @@ module _ (s : List ℕ) where
 
 -- ---- the answers
 
-pub not-of-the-form : (limit : ℕ) (text sheet : List ℕ) → meshOf text ≡ malformed → ImportAnswers (importCall limit text sheet) (Refused MeshMalformed) sheet
+pub not-of-the-form : (limit : ℕ) (text sheet : List ℕ) → meshOf text ≡ malformed → WriteAnswers (importCall limit text sheet) (Refused MeshMalformed) sheet
 not-of-the-form limit text sheet e = rw (import-not limit text sheet e) (record { answer = refl; output-is = refl })
 
 -- ---- listed, or in the map
@@ -97,17 +99,17 @@ right-map bits m text e maps =
 -- ---- a text that tells a mesh
 
 module _ (limit : ℕ) (text sheet bits : List ℕ) (m : Mesh) (e : meshOf text ≡ parsed m (length text)) (maps : Maps bits (m .nodes)) where
-  pub told-faulty : noneFaulty (inMap bits) (m .elements) ≡ false → ImportAnswers (importCall limit text sheet) (Refused ElementFaulty) sheet
+  pub told-faulty : noneFaulty (inMap bits) (m .elements) ≡ false → WriteAnswers (importCall limit text sheet) (Refused ElementFaulty) sheet
   unfolding answerWith
   told-faulty f =
       rw (import-is limit text sheet m (length text) e, sym (right-map bits m text e maps) ∙ f) (record { answer = refl; output-is = refl })
 
   module _ (r : noneFaulty (inMap bits) (m .elements) ≡ true) where
     right-is : importCall limit text sheet
-        ≡ answerWith (cond (tooLong limit (length sheet) (complexOf (m .elements))) 16 0) (layout (complexOf (m .elements))) sheet
+        ≡ answerWith (cond (tooLong limit (length sheet) (complexOf (m .elements))) 16 0) (sweptSheet (complexOf (m .elements))) sheet
     right-is = rw (import-is limit text sheet m (length text) e, sym (right-map bits m text e maps) ∙ r) refl
 
-    pub told-many : Exceeds limit (ownCells (m .elements)) → ImportAnswers (importCall limit text sheet) (Refused SheetTooLong) sheet
+    pub told-many : Exceeds limit (ownCells (m .elements)) → WriteAnswers (importCall limit text sheet) (Refused SheetTooLong) sheet
     told-many x =
         rw right-is
         (too-many-faces limit (complexOf (m .elements)) sheet (record {
@@ -116,6 +118,6 @@ module _ (limit : ℕ) (text sheet bits : List ℕ) (m : Mesh) (e : meshOf text 
           over = omega (arith, x .over, ownSections-count elementTop (map cellWith (nodeLists (m .elements))) (x .dimension));
         }))
 
-    pub told-written : {answer : Imported} {after cells counts : List ℕ} → Holds limit cells counts (ownCells (m .elements))
-        → WritesClosure limit cells counts sheet answer after → ImportAnswers (importCall limit text sheet) answer after
+    pub told-written : {answer : Written} {after cells counts : List ℕ} → Holds limit cells counts (ownCells (m .elements))
+        → WritesClosure limit cells counts sheet answer after → WriteAnswers (importCall limit text sheet) answer after
     told-written h w = rw right-is (w (map cellWith (nodeLists (m .elements))) h)

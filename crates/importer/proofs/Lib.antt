@@ -5,4 +5,3 @@ mod Gathering
 mod Writing
 mod Importing
 mod Starting
-pub mod Told

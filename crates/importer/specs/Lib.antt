@@ -2,4 +2,4 @@
 pub mod Nodes
 pub mod Gather
 pub mod Elements
-pub mod ImportAnswers
+pub mod Closure

@@ -7,7 +7,7 @@ ghost use Rattle.requests.specs.Call.{call};
 ghost use Rattle.limits.specs.Limits.{libraryLimit};
 ghost use Rattle.calls.specs.CallAnswers.{answered};
 ghost use Rattle.imports.specs.Import.{importCall};
-ghost use Rattle.importer.specs.ImportAnswers.{ImportTold};
+ghost use Rattle.refusal.specs.Written.{WriteTold};
 ghost use Rattle.library_host.specs.LibraryAnswers.{LibraryAnswers, HeadroomAnswers};
 use calls::answer::Answer;
 
@@ -141,7 +141,7 @@ pub extern "C" fn fildwuk_library_surface(
 pub extern "C" fn fildwuk_library_import(text: &[u8], sheet: &mut [u8]) -> u32
     ensures { λ r.
         let left = now (sheet .exit) in ⌜
-        ImportTold (importCall libraryLimit (now (text .entry)) (now (sheet .entry))) r left
+        WriteTold (importCall libraryLimit (now (text .entry)) (now (sheet .entry))) r left
         ⌝ }
 {
     let imported = importer::import::import(text, sheet);

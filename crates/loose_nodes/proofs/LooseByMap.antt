@@ -21,7 +21,6 @@ use Rattle.loose_nodes.proofs.Vertex.{vertex-is}
 module _ (b : List ℕ) where
   pub loose-map : {map : List ℕ} → MapsEdges (sectionsOf b) map → 0 < countField b 1 → (i : ℕ) → i < countField b 0
       → not (inMap map (fieldAt b (startAt b 0 + 2 * i))) ≡ loose (sectionsOf b) i
-  unfolding loose
   loose-map m h i l =
       ap not (m .lists (fieldAt b (startAt b 0 + 2 * i)))
       ∙ ap (λ (v : ℕ). not (some (count (sectionsOf b) 1) (onEdge (sectionsOf b) v))) node
@@ -34,13 +33,10 @@ module _ (b : List ℕ) where
       edged = lt-ltb 0 (count (sectionsOf b) 1) (omega (arith, count-sectionsOf b 1))
 
   pub loose-none : countField b 1 ≡ 0 → (i : ℕ) → loose (sectionsOf b) i ≡ false
-  unfolding loose
   loose-none e i = rw (count-sectionsOf b 1 ∙ e) refl
 
   pub looseNode-none : countField b 1 ≡ 0 → looseNode (sectionsOf b) ≡ false
-  unfolding looseNode
   looseNode-none e = some-false (count (sectionsOf b) 0) (loose (sectionsOf b)) .1 (λ i l. loose-none e i)
 
   pub looseNode-is : some (countField b 0) (loose (sectionsOf b)) ≡ looseNode (sectionsOf b)
-  unfolding looseNode
   looseNode-is = ap (λ (n : ℕ). some n (loose (sectionsOf b))) (sym (count-sectionsOf b 0))

@@ -1,12 +1,12 @@
 -- A sheet is accepted exactly when it holds a simplicial complex laid out as in document 01: demand 2, first half.
 --     accepted-iff        no refusal applies exactly when the bytes are the layout of a complex within the limit that has no loose node
---     sections-layout, layout-sections, layout-injective     that complex is the one read from the bytes, and the only one
+--     sections-layout, sections-front, layout-sections, layout-injective     that complex is the one read from the bytes, and the only one
 --     laid-iff, laid-complex, layout-laid      none of the checks 1 to 7 applies exactly when they are the layout of a complex within the limit
 --     accepted-complex    what is read from an accepted sheet is a complex, accepted-used: without loose nodes
 --     accepted-chains     the cells that the calls work with make a chain complex
 use mathlib.Core.Path.{_≡_, sym, ap, _∙_, subst}
 use mathlib.Core.Logic.{_↔_}
-use mathlib.Core.List.{List, []}
+use mathlib.Core.List.{List, [], _++_}
 use Prim.Native.Nat.{ℕ, suc, _+_, _*_, _≤_, _<_}
 use native.Mathlib.Decide.{decLe}
 use native.Mathlib.Omega.{arith}
@@ -34,7 +34,7 @@ use Rattle.sheet_format.specs.CheckLaws.{
 }
 use Rattle.sheet_format.specs.SheetLaws.{countField-in, countField-out, countField-below, count-beyond, count-below, length-sectionsOf, count-sectionsOf, cell-sectionsOf, length-cellOf, getD-cellOf, start-ext, start-mono, fieldAt-lt}
 use Rattle.sheet_format.proofs.LooseLaws.{looseNode-false}
-use Rattle.sheet_format.proofs.Pieces.{carries-self, carries-all}
+use Rattle.sheet_format.proofs.Pieces.{carries-self, carries-all, carries-append, bytes-append}
 use Rattle.sheet_format.proofs.LayoutLaws.{Reads, Shaped, complex-shaped, length-layout, bytes-layout, carries-layout}
 
 -- ---- what is read from a sheet to which none of the checks 1 to 7 applies
@@ -107,6 +107,12 @@ module _ {limit : ℕ} {K : Sections} (shape : Shaped limit K) where
       where
         same : (p : ℕ) → count (sectionsOf b) p ≡ count K p
         same p = count-sectionsOf b p ∙ reads-count p
+
+  -- .. also where other bytes stand behind them
+  pub sections-front : limit ≤ libraryLimit → (rest : List ℕ) → Bytes rest → sectionsOf (layout K ++ rest) ≡ K
+  sections-front small rest bytes =
+      reads-sections (carries-layout shape small (layout K ++ rest) (bytes-append (layout K) rest (bytes-layout K) bytes) .0
+      (carries-append (layout K ++ rest) 0 (layout K) rest .0 (carries-self (layout K ++ rest)) .0))
 
 module _ {limit : ℕ} {K : Sections} (complex : Complex top limit K) where
   pub reads-layout : limit ≤ libraryLimit → Reads (layout K) K

@@ -18,16 +18,16 @@ use Rattle.complexes.specs.Complex.{Sections, section, count, cell, Complex}
 use Rattle.complexes.specs.Loose.{InEdge, NoLooseNodes}
 use Rattle.complexes.proofs.Faces.{without-Sublist}
 use Rattle.complexes.proofs.Subsets.{sublist-subset}
-use Rattle.sheet_format.specs.Layout.{top, start, layout}
+use Rattle.sheet_format.specs.Layout.{top, layout}
 use Rattle.sheet_format.specs.Check.{loose}
 use Rattle.sheet_format.specs.SheetLaws.{start-fewer}
 use Rattle.sheet_format.proofs.LooseLaws.{loose-false}
-use Rattle.sheet_format.proofs.LayoutLaws.{length-layout}
+use Rattle.sheet_format.proofs.LayoutLaws.{length-sized}
 use Rattle.closures.specs.Keep.{kept, keep}
 use Rattle.closures.proofs.RisingLaws.{rising-unique, cells-order, listed-stands}
-use Rattle.closures.proofs.KeepCount.{section-keep}
-use Rattle.closures.proofs.KeepLaws.{KeptAt, kept-whole, keep-listed, keep-below, keep-whole, keep-complex}
-use Rattle.sweeps.specs.Sweep.{stays, swept}
+use Rattle.closures.proofs.KeepCount.{length-keep, section-keep, count-keep, sized-keep}
+use Rattle.closures.proofs.KeepLaws.{KeptAt, kept-whole, keep-listed, keep-whole, keep-complex}
+use Rattle.sweeps.specs.Sweep.{stays, swept, sweptSheet}
 use Rattle.sweeps.specs.Swept.{StaysIn, IsSwept}
 
 module _ {limit : ℕ} {K : Sections} (complex : Complex top limit K) where
@@ -108,8 +108,10 @@ module _ {limit : ℕ} {K : Sections} (complex : Complex top limit K) where
         λ s. listed-stands .0 (is .exactly p c .1 (swept-is .exactly p c .0 (listed-stands .1 s))),
       )))
 
-  pub swept-fits : length (layout (swept K)) ≤ length (layout K)
-  swept-fits = rw (length-layout swept-complex, length-layout complex) (starts (suc top))
-    where
-      starts : (p : ℕ) → start (count (swept K)) p ≤ start (count K) p
-      starts p = start-fewer (count (swept K)) (count K) p (keep-below (stays K) K)
+-- fewer cells have a shorter sheet
+pub swept-fits : (K : Sections) → length K ≡ suc top → ((p i : ℕ) → i < count K p → length (cell K p i) ≡ suc p) → length (sweptSheet K) ≤ length (layout K)
+swept-fits K dimensions sized =
+    rw (
+      length-sized (swept K) (λ p. sized-keep (stays K) K p (suc p) (sized p)) (length-keep (stays K) K ∙ dimensions),
+      length-sized K sized dimensions,
+    ) (start-fewer (count (swept K)) (count K) (suc top) (count-keep (stays K) K))

@@ -1,6 +1,6 @@
 -- `fildwuk::fildwuk_import` meets its contract: the import at the limit of the host calls, told by its number.
 use borrow.Author.Needs.{needs}
-use Rattle.importer.proofs.Told.{answers-told}
+use Rattle.refusal.proofs.Told.{answers-told}
 use Rattle.fildwuk.proofs.fildwuk_import.Statement.{statement}
 use Rattle.fildwuk.proofs.fildwuk_import.Tie as tie
 

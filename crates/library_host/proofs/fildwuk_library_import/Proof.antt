@@ -1,6 +1,6 @@
 -- `library_host::fildwuk_library_import` meets its contract: the import, told by its number.
 use borrow.Author.Needs.{needs}
-use Rattle.importer.proofs.Told.{answers-told}
+use Rattle.refusal.proofs.Told.{answers-told}
 use Rattle.library_host.proofs.fildwuk_library_import.Statement.{statement}
 use Rattle.library_host.proofs.fildwuk_library_import.Tie as tie
 

@@ -1,0 +1,1 @@
+-- The contracts of src/ cite definitions of other crates alone.
