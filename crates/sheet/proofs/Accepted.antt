@@ -1,21 +1,22 @@
 -- From the number that reading answers to all that its contract says: reads-sheet.
---     begun, passed          the checks in the order of trial: before the first, and after one that tells no fault
---     refuses, accepts       at a check that tells a fault, and after the last
+--     refused-before                    one of the checks 1 to 7 tells a fault
+--     refused-loose, accepted-last      none of them does, and check 18 tells one, or none
 use mathlib.Core.Path.{_≡_, refl, sym, _∙_, ap}
-use mathlib.Core.Logic.{_↔_}
+use mathlib.Core.Logic.{_↔_, _≢_}
 use mathlib.Core.Bool.{Bool, true, false}
 use mathlib.Core.List.{List, [], _∷_}
 use Prim.Native.Nat.{ℕ, _≤_}
 use native.Mathlib.Omega.{arith}
 use Rattle.limits.specs.Limits.{libraryLimit}
 use Rattle.trials.specs.Trial.{firstRefusal}
-use Rattle.sheet_format.specs.Check.{sheetChecks, refusal}
+use Rattle.trials.proofs.FirstLaws.{first-append-told, first-append-passed}
+use Rattle.sheet_format.specs.Check.{sectionsOf, looseNode, complexChecks, complexRefusal, refusal}
 use Rattle.sheet_format.specs.Sheet.{Bytes, IsSheet}
 use Rattle.sheet_format.proofs.Accept.{accepted-iff}
-use Rattle.refusal.specs.Number.{numberOf}
 use Rattle.refusal.specs.declared.Refusal.{Refusal}
+use Rattle.refusal.specs.declared.Refusal.the-variants.{LooseNode}
 use Rattle.refusal.specs.NumberLaws.{number-positive}
-use Rattle.sheet.specs.Number.{readingNumber, ReadsSheet}
+use Rattle.sheet.specs.Number.{readingNumber, ReadsComplex, ReadsSheet}
 use Rattle.sheet.specs.declared.reader.Reading.{Reading}
 use Rattle.sheet.specs.declared.reader.Reading.the-variants.{Accepted, Refused}
 
@@ -32,22 +33,25 @@ reads-sheet {limit} {b} {r} bytes e = record { number = e; accepted = accepted; 
       λ h. reading-zero r (e ∙ accepted-iff limit small b bytes .1 h),
     )
 
--- b is a slice of bytes, and no check before the list `left` tells a fault
-pub record Untold (limit : ℕ) (b : List ℕ) (left : List (ℕ × Bool)) : Type 0 where
-  pub bytes : Bytes b
-  pub is : refusal limit b ≡ firstRefusal left
-
-pub begun : {limit : ℕ} {b : List ℕ} → Bytes b → Untold limit b (sheetChecks limit b)
-unfolding refusal
-begun bytes = record { bytes = bytes; is = refl }
+-- the check after the first seven
+abbrev last : List ℕ → List (ℕ × Bool)
+last b = (18, looseNode (sectionsOf b)) ∷ []
 
 module _ {limit : ℕ} {b : List ℕ} where
-  pub passed : {k : ℕ} {fault : Bool} {left : List (ℕ × Bool)} → Untold limit b ((k, fault) ∷ left) → fault ≡ false → Untold limit b left
-  passed u e = record { bytes = u .bytes; is = rw e at (u .is) }
+  pub refused-before : {r : Reading} {x : Refusal} → ReadsComplex limit b r → r ≡ Refused x → ReadsSheet limit b r
+  unfolding refusal complexRefusal
+  refused-before {r} {x} h e = reads-sheet (h .bytes) (h .number ∙ sym (first-append-told (complexChecks limit b) (last b) refl told))
+    where
+      told : firstRefusal (complexChecks limit b) ≢ 0
+      told z = omega (arith, number-positive x, sym (ap readingNumber e) ∙ h .number ∙ z)
 
-  pub refuses : {fault : Bool} {left : List (ℕ × Bool)} (x : Refusal) → Untold limit b ((numberOf x, fault) ∷ left) → fault ≡ true
-      → ReadsSheet limit b (Refused x)
-  refuses x u e = reads-sheet (u .bytes) (sym (rw e at (u .is)))
+  module _ {r : Reading} (h : ReadsComplex limit b r) (e : r ≡ Accepted) where
+    all-passed : refusal limit b ≡ firstRefusal (last b)
+    unfolding refusal complexRefusal
+    all-passed = first-append-passed (complexChecks limit b) (last b) refl (sym (h .number) ∙ ap readingNumber e)
 
-  pub accepts : Untold limit b [] → ReadsSheet limit b Accepted
-  accepts u = reads-sheet (u .bytes) (sym (u .is))
+    pub refused-loose : looseNode (sectionsOf b) ≡ true → ReadsSheet limit b (Refused LooseNode)
+    refused-loose t = reads-sheet (h .bytes) (sym (all-passed ∙ ap (λ (fault : Bool). firstRefusal ((18, fault) ∷ [])) t))
+
+    pub accepted-last : looseNode (sectionsOf b) ≡ false → ReadsSheet limit b Accepted
+    accepted-last f = reads-sheet (h .bytes) (sym (all-passed ∙ ap (λ (fault : Bool). firstRefusal ((18, fault) ∷ [])) f))

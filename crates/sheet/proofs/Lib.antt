@@ -1,2 +1,3 @@
--- A lemma for the proof of this crate: what an accepted sheet is.
+-- Lemmas for the proofs of this crate: the order of trial, and what an accepted sheet is.
+mod Trying
 mod Accepted

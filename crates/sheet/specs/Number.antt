@@ -4,7 +4,7 @@ use mathlib.Core.Logic.{_↔_}
 use mathlib.Core.List.{List}
 use Prim.Native.Nat.{ℕ, _≤_}
 use Rattle.limits.specs.Limits.{libraryLimit}
-use Rattle.sheet_format.specs.Check.{refusal}
+use Rattle.sheet_format.specs.Check.{complexRefusal, refusal}
 use Rattle.sheet_format.specs.Sheet.{Bytes, IsSheet}
 use Rattle.refusal.specs.Number.{numberOf}
 use Rattle.sheet.specs.declared.reader.Reading.{Reading}
@@ -15,7 +15,13 @@ abbrev pub readingNumber : Reading → ℕ
 readingNumber Accepted = 0
 readingNumber (Refused r) = numberOf r
 
--- the first refusal that applies to the sheet b is told; b is accepted exactly when it is the layout of a complex; a slice of bytes meets `Bytes`
+-- the first of the refusals 1 to 7 that applies to the sheet b is told; a slice of bytes meets `Bytes`
+pub record ReadsComplex (limit : ℕ) (b : List ℕ) (r : Reading) : Type 0 where
+  pub number : readingNumber r ≡ complexRefusal limit b
+  pub bytes : Bytes b
+
+-- the first refusal that applies to the sheet b is told; b is accepted exactly when it is the layout of a complex without loose nodes; a slice of bytes meets
+-- `Bytes`
 pub record ReadsSheet (limit : ℕ) (b : List ℕ) (r : Reading) : Type 0 where
   pub number : readingNumber r ≡ refusal limit b
   pub accepted : limit ≤ libraryLimit → (r ≡ Accepted) ↔ IsSheet limit b

@@ -1,7 +1,7 @@
-// The checks 1 to 7 in document 01's order.
+// The checks 1 to 7 in document 01's order, and 18 after them.
 ghost use mathlib.Core.Path.{_≡_};
 ghost use Rattle.limits.specs.Limits.{libraryLimit, hostLimit};
-ghost use Rattle.sheet.specs.Number.{ReadsSheet};
+ghost use Rattle.sheet.specs.Number.{ReadsComplex, ReadsSheet};
 use checks::check::cells_do_not_rise;
 use checks::check::count_exceeds;
 use checks::check::face_missing;
@@ -10,6 +10,7 @@ use checks::check::vertices_do_not_rise;
 use fields::field::HEADER_LENGTH;
 use fields::field::TOP;
 use fields::field::start;
+use loose_nodes::loose::loose_node;
 use refusal::Refusal;
 
 // A sheet is read at a limit for its counts.
@@ -53,9 +54,9 @@ impl Sheet {
         }
     }
 
-    // Accepted, exactly where the bytes are the layout of a complex within the limit, or the first refusal that applies.
-    pub fn read(self, s: &[u8]) -> Reading
-        ensures { λ r. ⌜ ReadsSheet (self .limit) (now (s .entry)) r ⌝ }
+    // Accepted, or the first of the refusals 1 to 7 that applies: whether the bytes are the layout of a complex within the limit.
+    pub fn read_complex(self, s: &[u8]) -> Reading
+        ensures { λ r. ⌜ ReadsComplex (self .limit) (now (s .entry)) r ⌝ }
     {
         if s.len() < HEADER_LENGTH {
             return Reading::Refused(Refusal::SheetTooShort);
@@ -77,6 +78,19 @@ impl Sheet {
         }
         if face_missing(s) {
             return Reading::Refused(Refusal::FaceMissing);
+        }
+        Reading::Accepted
+    }
+    // Accepted, exactly where the bytes are the layout of a complex within the limit without loose nodes, or the first refusal that applies.
+    pub fn read(self, s: &[u8]) -> Reading
+        ensures { λ r. ⌜ ReadsSheet (self .limit) (now (s .entry)) r ⌝ }
+    {
+        let reading = self.read_complex(s);
+        let Reading::Accepted = reading else {
+            return reading;
+        };
+        if loose_node(s) {
+            return Reading::Refused(Refusal::LooseNode);
         }
         Reading::Accepted
     }
