@@ -42,14 +42,7 @@ fn keep_cell(s: &[u8], at: usize, n: usize, mark: u8, sheet: &mut [u8], to: usiz
 }
 
 // Copies the cells of dimension p that stay, and tells where the next one goes. Their marks stand from place `from` on.
-fn keep_section(
-    s: &[u8],
-    marks: &[u8],
-    p: usize,
-    from: usize,
-    sheet: &mut [u8],
-    to: usize,
-) -> usize
+fn keep_section(s: &[u8], marks: &[u8], p: usize, from: usize, sheet: &mut [u8], to: usize) -> usize
     requires { ⌜ (p ≤ top) × (from ≡ cellsBelow (countField (now s)) p) × (from + countField (now s) p ≤ length (now marks)) ⌝ }
     requires { ⌜ to + length (sectionBytes (section (unmarkedCells (now s) (now marks)) p)) ≤ length (now sheet) ⌝ }
     ensures { λ r. ⌜
@@ -61,7 +54,14 @@ fn keep_section(
     let mut next = to;
     let mut i: usize = 0;
     while i < many {
-        next = keep_cell(s, at + 2 * ((p + 1) * i), p + 1, marks[from + i], sheet, next);
+        next = keep_cell(
+            s,
+            at + 2 * ((p + 1) * i),
+            p + 1,
+            marks[from + i],
+            sheet,
+            next,
+        );
         i = i + 1;
     }
     next
