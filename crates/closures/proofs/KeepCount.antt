@@ -3,12 +3,13 @@
 --     length-stays, length-goes, kept-few                  their number; of n cells at most n stay
 --     kept-all                                             what all of the first n cells have, those that stay have
 --     length-keep, section-keep, count-keep, sized-keep    the sections of the cells that stay
---     cellsBelow-next, cellsBelow-mono                     the cells of lower dimensions
+--     cellsBelow-next, cellsBelow-within                   the cells of lower dimensions
+--     rising-steps                                         what falls at no step does not fall
 use mathlib.Core.Path.{_≡_, refl, sym, ap, _∙_, subst}
 use mathlib.Core.Bool.{Bool, true, false, cond}
 use mathlib.Core.List.{List, [], _∷_, _++_, append-nil}
 use Prim.Native.Nat.{ℕ, zero, suc, _+_, _-_, _≤_, _<_}
-use native.Mathlib.Nat.{add-zero, add-suc, add-sub-of-le, le-refl}
+use native.Mathlib.Nat.{add-zero, add-suc, add-sub-of-le, le-refl, le-trans}
 use native.Mathlib.Decide.{decLt}
 use native.Mathlib.Omega.{arith}
 use lib.ListN.{length, getD, length-append, List·getD-append, List·getD-eq-default}
@@ -95,13 +96,21 @@ module _ (keeps : ℕ → ℕ → Bool) (K : Sections) where
 
 -- ---- the cells of lower dimensions
 
+-- what falls at no step does not fall
+pub rising-steps : (f : ℕ → ℕ) → ((n : ℕ) → f n ≤ f (suc n)) → (n m : ℕ) → n ≤ m → f n ≤ f m
+rising-steps f step n m h = subst (λ (k : ℕ). f n ≤ f k) (add-sub-of-le h) (go (m - n))
+  where
+    go : (k : ℕ) → f n ≤ f (n + k)
+    go zero = rw (add-zero n) (le-refl (f n))
+    go (suc k) = rw (add-suc n k) (le-trans (go k) (step (n + k)))
+
 pub cellsBelow-next : (n : ℕ → ℕ) (p : ℕ) → cellsBelow n (suc p) ≡ cellsBelow n p + n p
 unfolding cellsBelow
 cellsBelow-next n p = refl
 
-cellsBelow-add : (n : ℕ → ℕ) (p k : ℕ) → cellsBelow n p ≤ cellsBelow n (p + k)
-cellsBelow-add n p zero = rw (add-zero p) (le-refl (cellsBelow n p))
-cellsBelow-add n p (suc k) = rw (add-suc p k) (omega (arith, cellsBelow-add n p k, cellsBelow-next n (p + k)))
+cellsBelow-mono : (n : ℕ → ℕ) (p q : ℕ) → p ≤ q → cellsBelow n p ≤ cellsBelow n q
+cellsBelow-mono n = rising-steps (cellsBelow n) (λ p. omega (arith, cellsBelow-next n p))
 
-pub cellsBelow-mono : (n : ℕ → ℕ) (p q : ℕ) → p ≤ q → cellsBelow n p ≤ cellsBelow n q
-cellsBelow-mono n p q h = subst (λ (r : ℕ). cellsBelow n p ≤ cellsBelow n r) (add-sub-of-le h) (cellsBelow-add n p (q - p))
+-- the cells of dimension p stand before those of a higher one
+pub cellsBelow-within : (n : ℕ → ℕ) (p q : ℕ) → p < q → cellsBelow n p + n p ≤ cellsBelow n q
+cellsBelow-within n p q h = omega (arith, cellsBelow-next n p, cellsBelow-mono n (suc p) q h)

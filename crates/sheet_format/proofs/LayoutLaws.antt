@@ -1,5 +1,6 @@
 -- The layout of a complex, field by field.
---     length-sized, length-layout     its length is where the section past the last would start
+--     length-parts      its length is that of the header and the sections
+--     length-sized, length-layout     .. and where the section past the last would start
 --     bytes-layout      it consists of bytes
 --     Shaped, complex-shaped, carries-layout      b carries it exactly when each field of b is the one required
 use mathlib.Core.Path.{_≡_, refl, sym, ap, _∙_, subst, subst₂, ap₂}
@@ -13,7 +14,7 @@ use lib.ListN.{length, getD, length-append}
 use Rattle.limits.specs.Limits.{libraryLimit}
 use Rattle.complexes.specs.Cell.{Cell}
 use Rattle.complexes.specs.Complex.{Sections, section, count, cell, vertexBound, Complex}
-use Rattle.sheet_format.specs.Layout.{top, field, cellBytes, sectionBytes, sectionsBytes, start, headerBytes, layout}
+use Rattle.sheet_format.specs.Layout.{top, headerLength, field, cellBytes, sectionBytes, sectionsBytes, start, headerBytes, layout}
 use Rattle.sheet_format.specs.Check.{fieldAt, offsetField}
 use Rattle.sheet_format.specs.Sheet.{Bytes}
 use Rattle.sheet_format.specs.SheetLaws.{count-below, start-mono, start-le}
@@ -179,6 +180,12 @@ pub record Reads (b : List ℕ) (K : Sections) : Type 0 where
 
 -- ---- the layout
 
+pub length-parts : (K : Sections) → length (layout K) ≡ headerLength + length (sectionsBytes K)
+unfolding layout
+length-parts K =
+    length-append (headerBytes (count K) 0 (suc top)) (sectionsBytes K)
+    ∙ ap (λ (n : ℕ). n + length (sectionsBytes K)) (length-headerBytes (count K) (suc top))
+
 -- of cells that have as many vertices as their dimension says
 module _ (K : Sections) (sized : (p i : ℕ) → i < count K p → length (cell K p i) ≡ suc p) where
   sections-start : Starts (length K) (start (count K)) (λ p. sectionBytes (section K p))
@@ -188,10 +195,10 @@ module _ (K : Sections) (sized : (p i : ℕ) → i < count K p → length (cell 
   }
 
   pub length-sized : length K ≡ suc top → length (layout K) ≡ start (count K) (suc top)
-  unfolding layout start
+  unfolding start
   length-sized dimensions =
-      length-append (headerBytes (count K) 0 (suc top)) (sectionsBytes K)
-      ∙ ap₂ _+_ (length-headerBytes (count K) (suc top)) (ap length (sectionsBytes-pieces K))
+      length-parts K
+      ∙ ap (λ (t : List ℕ). headerLength + length t) (sectionsBytes-pieces K)
       ∙ length-pieces (length K) (start (count K)) (λ p. sectionBytes (section K p)) sections-start
       ∙ ap (start (count K)) dimensions
 

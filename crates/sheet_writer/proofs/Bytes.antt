@@ -2,6 +2,7 @@
 --     splice-behind                                                         bytes put over just behind others
 --     cellBytes-next, sectionBytes-next, sectionsBytes-next, header-next    one vertex, one cell, one section, one entry of the header more
 --     sectionBytes-append, sectionBytes-one, sectionsBytes-le               some cells and more of them, one cell, some of the sections
+--     layout-put                                                            the sections behind the header
 --     start-small, counts-are, counts-small                                 the counts of the cells held, and where their sections start
 --     length-sections, length-held, header-fits, section-fits               the length of their sheet
 use mathlib.Core.Path.{_≡_, refl, sym, ap, ap₂, _∙_, fun-ext}
@@ -14,11 +15,11 @@ use lib.ListN.{length, getD, take, drop, length-append, take-append-drop, List·
 use lib.Seq.{take-suc, take-all}
 use Rattle.limits.specs.Limits.{libraryLimit}
 use Rattle.lists.specs.Splice.{splice}
-use Rattle.lists.specs.SpliceLaws.{splice-splice}
+use Rattle.lists.specs.SpliceLaws.{splice-zero, splice-splice}
 use Rattle.complexes.specs.Cell.{Cell}
 use Rattle.complexes.specs.Complex.{Sections, section, count}
 use Rattle.sheet_format.specs.Layout.{top, headerLength, field, cellBytes, sectionBytes, sectionsBytes, start, headerBytes, layout, longest}
-use Rattle.sheet_format.proofs.LayoutLaws.{length-headerBytes, length-sectionBytes}
+use Rattle.sheet_format.proofs.LayoutLaws.{length-headerBytes, length-sectionBytes, length-parts}
 use Rattle.sheet_format.specs.SheetLaws.{count-beyond, start-mono, start-le}
 use Rattle.cell_sets.specs.Set.{Holds}
 use Rattle.sheet_writer.specs.Write.{countOf, Small}
@@ -96,6 +97,16 @@ entries n q (suc more) =
 pub header-next : (n : ℕ → ℕ) (p : ℕ) → headerBytes n 0 (suc p) ≡ headerBytes n 0 p ++ (field (n p) ++ field (start n p))
 header-next n p = rw (zero-add p) at (entries n 0 p)
 
+-- the sections put over behind the header
+pub layout-put : (K : Sections) {n : ℕ → ℕ} → n ≡ count K → (s s′ s″ : List ℕ) → s′ ≡ splice 0 (headerBytes n 0 (suc top)) s
+    → s″ ≡ splice headerLength (sectionsBytes K) s′ → s″ ≡ layout K ++ drop (length (layout K)) s
+unfolding layout
+layout-put K e s s′ s″ first second =
+    splice-behind 0 headerLength (headerBytes (count K) 0 (suc top)) (sectionsBytes K) s s′ s″ (omega arith)
+    (omega (arith, length-headerBytes (count K) (suc top)))
+    (first ∙ ap (λ (n : ℕ → ℕ). splice 0 (headerBytes n 0 (suc top)) s) e) second
+    ∙ splice-zero (layout K) s
+
 -- ---- the cells held
 
 pub start-next : (n : ℕ → ℕ) (p : ℕ) → start n (suc p) ≡ start n p + 2 * (suc p * n p)
@@ -131,11 +142,9 @@ module _ {limit : ℕ} {cells counts : List ℕ} {K : Sections} (holds : Holds l
       )
 
   pub length-held : length (layout K) ≡ start (countOf counts) (suc top)
-  unfolding layout
   length-held =
-      length-append (headerBytes (count K) 0 (suc top)) (sectionsBytes K)
-      ∙ ap₂ _+_ (length-headerBytes (count K) (suc top))
-      (ap (λ (t : Sections). length (sectionsBytes t)) (sym (take-all (suc top) K (omega (arith, holds .dimensions)))))
+      length-parts K
+      ∙ ap (λ (t : Sections). headerLength + length (sectionsBytes t)) (sym (take-all (suc top) K (omega (arith, holds .dimensions))))
       ∙ length-sections (suc top) (omega arith)
       ∙ ap (λ (n : ℕ → ℕ). start n (suc top)) (sym counts-are)
 
