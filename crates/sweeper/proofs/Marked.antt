@@ -14,7 +14,7 @@ use Rattle.sheet_format.specs.Layout.{top}
 use Rattle.sheet_format.specs.Check.{countField, sectionsOf, loose}
 use Rattle.sheet_format.specs.SheetLaws.{count-sectionsOf, countField-below}
 use Rattle.closures.specs.Keep.{keep, cellsBelow, unmarked}
-use Rattle.closures.proofs.KeepCount.{cellsBelow-next, cellsBelow-mono}
+use Rattle.closures.proofs.KeepCount.{cellsBelow-within}
 use Rattle.closures.proofs.KeepLaws.{keep-ext}
 use Rattle.loose_nodes.specs.Loose.{NoneMarked, MarksLoose}
 use Rattle.sweeps.specs.Sweep.{stays, swept}
@@ -23,7 +23,7 @@ use Rattle.sweeps.specs.Sweep.{stays, swept}
 abbrev pub room : ℕ
 room = suc top * libraryLimit
 
-zero-mark : (i : ℕ) → i < room → getD (replicate room 0) i 0 ≡ 0
+zero-mark : (i : ℕ) → i < room → _≡_ {A = ℕ} (getD (replicate room 0) i 0) 0
 zero-mark i l = getD-replicate room i 0 0 l
 
 module _ (b : List ℕ) (small : (p : ℕ) → countField b p ≤ libraryLimit) where
@@ -50,16 +50,10 @@ module _ (b : List ℕ) (small : (p : ℕ) → countField b p ≤ libraryLimit) 
         at = cellsBelow (countField b) (suc p) + i
 
         first : countField b 0 ≤ cellsBelow (countField b) (suc p)
-        first = omega (arith, cellsBelow-next (countField b) 0, cellsBelow-mono (countField b) 1 (suc p) (omega arith))
+        first = omega (arith, cellsBelow-within (countField b) 0 (suc p) (omega arith))
 
         below : at < room
-        below =
-            omega (
-              arith,
-              cellsBelow-next (countField b) (suc p),
-              cellsBelow-mono (countField b) (suc (suc p)) (suc top) (omega (arith, countField-below b (suc p) i l)),
-              cells-room,
-            )
+        below = omega (arith, cellsBelow-within (countField b) (suc p) (suc top) (omega (arith, countField-below b (suc p) i l)), cells-room)
 
     same : (p i : ℕ) → i < count (sectionsOf b) p → unmarked marks (countField b) p i ≡ stays (sectionsOf b) p i
     unfolding cellsBelow

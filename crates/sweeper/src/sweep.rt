@@ -17,7 +17,7 @@ const CELLS: usize = SECTIONS * Sheet::LIBRARY_LIMIT;
 
 // Writes the sheet without its loose nodes, if it fits.
 pub fn write_swept(s: &[u8], out: &mut [u8]) -> Written
-    requires { ⌜ (p : ℕ) → countField (now s) p ≤ libraryLimit ⌝ }
+    requires { ⌜ ((p : ℕ) → countField (now s) p ≤ libraryLimit) ⌝ }
     ensures { λ r. ⌜ WriteAnswers (writeOver (sweptSheet (sectionsOf (now (s .entry)))) (now (out .entry))) r (now (out .exit)) ⌝ }
 {
     let mut marks = [0u8; CELLS];
