@@ -1,7 +1,7 @@
 -- The first j vertex numbers from byte `at` on are listed: what the loop over the vertices of the edges keeps.
 --     MapsFields, fields-none, fields-more, fields-edges     no number, one more, all numbers of the edges
 use mathlib.Core.Path.{_≡_, refl, sym, ap, ap₂, _∙_}
-use mathlib.Core.Bool.{Bool, true, false, _||_, or-true, or-false, or-assoc}
+use mathlib.Core.Bool.{Bool, _||_, or-true, or-false, or-assoc}
 use mathlib.Core.List.{List}
 use Prim.Native.Nat.{ℕ, zero, suc, _+_, _*_, _≤_, _<_}
 use native.Mathlib.Decide.{ℕ-discrete}
@@ -10,8 +10,7 @@ use native.Mathlib.Omega.{arith}
 use lib.Dec.{eqb}
 use lib.ListN.{length, getD}
 use borrow.Author.Tests.{eq-eqb, ne-eqb}
-use Rattle.complexes.specs.Cell.{Cell}
-use Rattle.complexes.specs.Complex.{count, cell}
+use Rattle.complexes.specs.Complex.{cell}
 use Rattle.sheet_format.specs.Check.{fieldAt, countField, startAt, sectionsOf, some, onEdge}
 use Rattle.sheet_format.specs.SheetLaws.{count-sectionsOf}
 use Rattle.node_maps.specs.Map.{mapLength, inMap, Empty, Lists}

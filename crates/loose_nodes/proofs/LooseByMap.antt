@@ -10,7 +10,7 @@ use native.Mathlib.Omega.{arith}
 use lib.Dec.{ltb}
 use lib.ListN.{getD}
 use borrow.Author.Tests.{lt-ltb}
-use Rattle.complexes.specs.Complex.{Sections, count, cell}
+use Rattle.complexes.specs.Complex.{count, cell}
 use Rattle.sheet_format.specs.Check.{fieldAt, countField, startAt, sectionsOf, some, onEdge, loose, looseNode}
 use Rattle.sheet_format.specs.CheckLaws.{some-false}
 use Rattle.sheet_format.specs.SheetLaws.{count-sectionsOf}

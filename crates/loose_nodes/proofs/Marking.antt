@@ -1,16 +1,16 @@
--- The loose ones of the first i vertices are marked: what the loop that marks them keeps.
+-- Of the first i vertices exactly the loose ones are marked, and the later marks are left: what the loop that marks them keeps.
 --     Marking, marking-start, marking-loose, marking-used, marking-end     no vertex, one more that is loose or is not, all of them
 --     marks-none                                                           where there is no edge, nothing is marked
 use mathlib.Core.Path.{_≡_, refl, sym, ap, _∙_}
-use mathlib.Core.Bool.{Bool, true, false}
+use mathlib.Core.Bool.{true, false}
 use mathlib.Core.List.{List}
-use Prim.Native.Nat.{ℕ, suc, _+_, _≤_, _<_}
+use Prim.Native.Nat.{ℕ, _+_, _≤_, _<_}
 use native.Mathlib.Decide.{ℕ-discrete}
 use native.Mathlib.Omega.{arith}
 use lib.Dec.{eqb}
 use lib.ListN.{length, getD, set, length-set}
 use lib.Seq.{getD-set-same, getD-set-other}
-use Rattle.complexes.specs.Complex.{Sections, count}
+use Rattle.complexes.specs.Complex.{Sections}
 use Rattle.sheet_format.specs.Check.{countField, sectionsOf, loose}
 use Rattle.sheet_format.specs.SheetLaws.{count-sectionsOf}
 use Rattle.loose_nodes.specs.Loose.{NoneMarked, MarksLoose}

@@ -18,7 +18,7 @@ pub record NoneMarked (n : ℕ) (marks : List ℕ) : Type 0 where
   pub room : n ≤ length marks
   pub clear : (i : ℕ) → i < n → getD marks i 0 ≡ 0
 
--- of the vertices of K, of which none was marked, the loose ones are marked with 1; the marks past the vertices are left
+-- of the vertices of K exactly the loose ones are marked with 1; the marks past the vertices are left
 pub record MarksLoose (K : Sections) (before after : List ℕ) : Type 0 where
   pub sized : length after ≡ length before
   pub here : (i : ℕ) → i < count K 0 → eqb (getD after i 0) 1 ≡ loose K i

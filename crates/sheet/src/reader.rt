@@ -54,7 +54,7 @@ impl Sheet {
         }
     }
 
-    // Accepted, or the first of the refusals 1 to 7 that applies: whether the bytes are the layout of a complex within the limit.
+    // Accepted, where the bytes are the layout of a complex within the limit, loose nodes or not, or the first of the refusals 1 to 7 that applies.
     pub fn read_complex(self, s: &[u8]) -> Reading
         ensures { λ r. ⌜ ReadsComplex (self .limit) (now (s .entry)) r ⌝ }
     {
@@ -81,6 +81,7 @@ impl Sheet {
         }
         Reading::Accepted
     }
+
     // Accepted, exactly where the bytes are the layout of a complex within the limit without loose nodes, or the first refusal that applies.
     pub fn read(self, s: &[u8]) -> Reading
         ensures { λ r. ⌜ ReadsSheet (self .limit) (now (s .entry)) r ⌝ }

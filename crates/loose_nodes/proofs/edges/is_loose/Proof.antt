@@ -12,7 +12,7 @@ use Rattle.loose_nodes.proofs.LooseByMap.{loose-map}
 use Rattle.loose_nodes.proofs.edges.is_loose.Statement.{statement}
 use Rattle.loose_nodes.proofs.edges.is_loose.Tie as tie
 
--- the vertex number is one of fewer than 65536
+-- there are fewer than 65536 vertices
 few : (c : tie.After-start) → countField (now (c .before .before .before .args .s)) 0 < 65536
 few c = countField-lt (now (c .before .before .before .args .s)) (record { small = λ i. c .before .before .shared-slice-known .given i .fits }) 0
 
@@ -29,7 +29,8 @@ returns : tie.Need-returns
 returns c =
     let start = c .before .before .before .before .before in
     let b = now (start .args .s) in
-    ap not (c .is-listed .ensures ∙ ap (inMap (now (start .args .map))) (c .before .field .ensures .is ∙ ap (λ (at : ℕ). fieldAt b (at + 2 * start .args .i)) (c .before .before .start .ensures .is)))
+    let field = c .before .field .ensures .is ∙ ap (λ (at : ℕ). fieldAt b (at + 2 * start .args .i)) (c .before .before .start .ensures .is) in
+    ap not (c .is-listed .ensures ∙ ap (inMap (now (start .args .map))) field)
     ∙ loose-map b (start .pre .2) (start .pre .0) (start .args .i) (start .pre .1)
 
 pub is-loose-spec : {M : Type 1} → statement M

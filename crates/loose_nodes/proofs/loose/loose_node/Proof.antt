@@ -1,6 +1,6 @@
 -- `loose_node` meets its contract: the loop scans the vertices, and the invariant is that no vertex before number i is loose.
 use borrow.Author.Needs.{needs}
-use mathlib.Core.Path.{_≡_, refl, sym, _∙_}
+use mathlib.Core.Path.{sym, _∙_}
 use mathlib.Core.List.{List}
 use Prim.Native.Nat.{ℕ, _-_}
 use native.Mathlib.Omega.{arith}

@@ -2,12 +2,12 @@
 -- the number of vertices left.
 use borrow.Author.Needs.{needs}
 use mathlib.Core.Logic.{⊎-elim}
-use mathlib.Core.Path.{_≡_, refl, sym, _∙_}
+use mathlib.Core.Path.{sym, _∙_}
 use mathlib.Core.List.{List}
 use Prim.Native.Nat.{ℕ, _-_, _≤_}
 use native.Mathlib.Omega.{arith}
 use denote.Ref.{now}
-use Rattle.sheet_format.specs.Check.{countField, sectionsOf, loose}
+use Rattle.sheet_format.specs.Check.{sectionsOf}
 use Rattle.node_maps.proofs.EmptyMap.{empty-map}
 use Rattle.loose_nodes.proofs.Marking.{Marking, marking-start, marking-loose, marking-used, marking-end, marks-none}
 use Rattle.loose_nodes.proofs.marks.mark_loose.Statement.{statement}
