@@ -1,4 +1,4 @@
--- A map of zeros lists no node: empty-map.
+-- A map of zeros lists no node: empty-map. An array of zeros reads 0 everywhere: byte-zero.
 use mathlib.Core.Path.{_≡_, refl, ap, _∙_}
 use mathlib.Core.Bool.{false}
 use Prim.Native.Nat.{ℕ, _/_, _%_, _^_, _<_}
@@ -12,7 +12,7 @@ bit-zero : (k : ℕ) → bitOf 0 k ≡ false
 unfolding bitOf
 bit-zero k = rw (zero-div (2 ^ k)) refl
 
-byte-zero : (n i : ℕ) → _≡_ {A = ℕ} (getD (replicate n 0) i 0) 0
+pub byte-zero : (n i : ℕ) → _≡_ {A = ℕ} (getD (replicate n 0) i 0) 0
 byte-zero n i = at (decLt i n)
   where
     at : Dec (i < n) → _≡_ {A = ℕ} (getD (replicate n 0) i 0) 0

@@ -1,18 +1,21 @@
--- `write_closure` meets its contract: the faces fit or not, and so does the sheet.
+-- `write_closure` meets its contract: the faces fit or not, and so does the sheet, which is written to an array and swept from there.
 use borrow.Author.Needs.{needs}
-use mathlib.Core.Path.{subst}
+use mathlib.Core.Path.{_≡_, subst}
 use mathlib.Core.Bool.{Bool}
-use mathlib.Core.List.{List}
-use Prim.Native.Nat.{ℕ}
+use mathlib.Core.List.{List, _++_}
+use Prim.Native.Nat.{ℕ, _≤_}
 use native.Mathlib.Omega.{arith}
+use lib.ListN.{length, drop, replicate}
 use borrow.Author.Tests.{not-true, not-false}
 use denote.Ref.{now}
+use Rattle.limits.specs.Limits.{libraryLimit}
 use Rattle.complexes.specs.Cell.{Cell}
+use Rattle.sheet_format.specs.Layout.{layout, longest}
 use Rattle.closures.specs.Closure.{elementTop, ownSections, closure}
 use Rattle.cell_sets.specs.Set.{Holds}
 use Rattle.cell_sets.specs.Close.{ClosesOwn}
 use Rattle.sheet_writer.specs.Write.{Small}
-use Rattle.importer.proofs.Writing.{too-many-faces, slice-too-short, sheet-written}
+use Rattle.importer.proofs.Writing.{too-many-faces, slice-too-short, within-longest, unswept-counts, sheet-written}
 use Rattle.importer.proofs.import.write_closure.Statement.{statement}
 use Rattle.importer.proofs.import.write_closure.Tie as tie
 
@@ -65,30 +68,50 @@ returns-2 c cs h =
     slice-too-short (a .limit) (closure elementTop cs) (now (a .out))
     (omega (arith, c .if2 .taken, measured .sheet-length .ensures (a .limit) (cells f) (closure elementTop cs) (holds f cs h)))
 
+-- the sheet fits
+module _ (c : tie.After-unswept) where
+  abbrev fits : tie.Else2
+  fits = c .before .before .before
+
+  abbrev faces : tie.Else1
+  faces = fits .before .before .before
+
+  size : (cs : List Cell) → Holds (start faces .args .limit) (now (start faces .args .cells)) (now (start faces .args .counts)) (ownSections elementTop cs)
+      → length (layout (closure elementTop cs)) ≤ length (now (start faces .args .out))
+  size cs h = omega (arith, fits .if2 .left, fits .before .sheet-length .ensures (start faces .args .limit) (cells faces) (closure elementTop cs) (holds faces cs h))
+
+-- .. and is written to an array of zeros
+module _ (c : tie.After-write-sheet) where
+  abbrev unswept : tie.After-unswept
+  unswept = c .before
+
+  written : (cs : List Cell) → Holds (start (faces unswept) .args .limit) (now (start (faces unswept) .args .cells)) (now (start (faces unswept) .args .counts)) (ownSections elementTop cs)
+      → c .write-sheet .last .1 .1 .1 .0 ≡ layout (closure elementTop cs) ++ drop (length (layout (closure elementTop cs))) (replicate (longest libraryLimit) 0)
+  written cs h = c .write-sheet .ensures (closure elementTop cs) (holds (faces unswept) cs h)
+
 write-sheet-requires : tie.Need-write-sheet-requires
 write-sheet-requires c κs =
-    let fits = c .before .before .before in let measured = fits .before in let f = measured .before .before in
+    let f = faces c in
     record {
       complex = closure elementTop (start f .pre .elements);
       holds = held f;
-      fits =
-          omega (
-            arith,
-            fits .if2 .left,
-            measured .sheet-length .ensures (start f .args .limit) (cells f) (closure elementTop (start f .pre .elements)) (held f),
-          );
+      fits = within-longest (start f .args .limit) (closure elementTop (start f .pre .elements)) (now (start f .args .out)) (held f);
     }
+
+write-swept-requires : tie.Need-write-swept-requires
+write-swept-requires c κs =
+    let wrote = c .before .before .before in let f = faces (unswept wrote) in
+    unswept-counts (start f .args .limit) (closure elementTop (start f .pre .elements)) (now (start f .args .out)) (held f)
+    (written wrote (start f .pre .elements) (start f .pre .holds))
 
 returns-3 : tie.Need-returns-3
 returns-3 c cs h =
-    let fits = c .before .before .before .before .before .before in let measured = fits .before in let f = measured .before .before in
-    let a = start f .args in
-    let size = measured .sheet-length .ensures (a .limit) (cells f) (closure elementTop cs) (holds f cs h) in
-    sheet-written (a .limit) (closure elementTop cs) (now (a .out)) (holds f cs h) (omega (arith, fits .if2 .left, size)) size
-    (c .before .before .write-sheet .ensures (closure elementTop cs) (holds f cs h))
+    let swept = c .before .before in let wrote = swept .before .before .before .before in let f = faces (unswept wrote) in
+    sheet-written (start f .args .limit) (closure elementTop cs) (now (start f .args .out)) (holds f cs h) (size (unswept wrote) cs h) (written wrote cs h)
+    (swept .write-swept .ensures)
 
 pub write-closure-spec : {M : Type 1} → statement M
 write-closure-spec =
     tie.close
-    (tie.spec close-cells-requires (λ c. search needs) returns sheet-length-requires (λ c. search needs) returns-2 write-sheet-requires (λ c. search needs)
-    (λ c. search needs) returns-3)
+    (tie.spec close-cells-requires (λ c. search needs) returns sheet-length-requires (λ c. search needs) returns-2 (λ c. search needs) write-sheet-requires
+    (λ c. search needs) write-swept-requires (λ c. search needs) (λ c. search needs) returns-3)
