@@ -54,14 +54,8 @@ fn keep_section(s: &[u8], marks: &[u8], p: usize, from: usize, sheet: &mut [u8],
     let mut next = to;
     let mut i: usize = 0;
     while i < many {
-        next = keep_cell(
-            s,
-            at + 2 * ((p + 1) * i),
-            p + 1,
-            marks[from + i],
-            sheet,
-            next,
-        );
+        let mark = marks[from + i];
+        next = keep_cell(s, at + 2 * ((p + 1) * i), p + 1, mark, sheet, next);
         i = i + 1;
     }
     next

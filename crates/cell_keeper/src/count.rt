@@ -34,7 +34,8 @@ pub fn count_cells(s: &[u8], marks: &[u8]) -> [usize; SECTIONS]
     let mut p: usize = 0;
     while p < SECTIONS {
         let many = count(s, p);
-        counts[p] = count_section(marks, from, many);
+        let stay = count_section(marks, from, many);
+        counts[p] = stay;
         from = from + many;
         p = p + 1;
     }

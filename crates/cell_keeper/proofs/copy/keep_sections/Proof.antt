@@ -1,11 +1,10 @@
 -- `keep_sections` meets its contract. The loop's invariant: the cells that stay of the first p dimensions are copied, and their marks passed.
 use borrow.Author.Needs.{needs}
-use mathlib.Core.Path.{_≡_, refl, sym, ap, _∙_}
+use mathlib.Core.Path.{_≡_, refl, ap, _∙_}
 use mathlib.Core.List.{List, _++_}
 use Prim.Native.Nat.{ℕ, suc, _+_, _-_, _≤_, _<_}
 use native.Mathlib.Numerals.{add-one}
 use native.Mathlib.Omega.{arith}
-use denote.Ref.{now}
 use lib.ListN.{length, take, length-append}
 use lib.Seq.{take-all}
 use Rattle.lists.specs.Splice.{splice}
