@@ -8,7 +8,7 @@ ghost use Rattle.sheet_format.specs.Layout.{top, headerLength, cellBytes, secti
 ghost use Rattle.sheet_format.specs.Check.{countField, cellOf};
 ghost use Rattle.closures.specs.Keep.{cellsBelow};
 ghost use Rattle.cell_keeper.specs.Unmarked.{ifStays, unmarkedCells, Puts};
-use cell_sets::set::SECTIONS;
+use crate::count::SECTIONS;
 use fields::field::HEADER_LENGTH;
 use fields::field::count;
 use fields::field::field;
