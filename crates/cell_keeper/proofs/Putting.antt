@@ -1,6 +1,6 @@
 -- Bytes put over one behind the other.
---     puts-none, puts-behind     no bytes, and bytes behind others
---     kept-bytes, kept-bytes-le    the bytes of the kept cells, one cell more; fewer cells take no more
+--     puts-none, puts-behind       no bytes, and bytes behind others
+--     kept-bytes, kept-bytes-le    the bytes of the cells that stay: one cell more; fewer cells take no more
 use mathlib.Core.Path.{_≡_, sym, ap, _∙_}
 use mathlib.Core.Bool.{Bool, cond}
 use mathlib.Core.List.{List, [], _∷_, _++_}

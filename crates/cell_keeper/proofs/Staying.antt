@@ -3,7 +3,7 @@
 --     count-unmarked, sized-unmarked         no more cells than the sheet has, and as many vertices
 --     counts-are, layout-ends                the counts that were made are theirs, and their sheet ends where a further section would start
 use mathlib.Core.Path.{_≡_, sym, ap, ap₂, _∙_, fun-ext}
-use mathlib.Core.List.{List, []}
+use mathlib.Core.List.{List}
 use Prim.Native.Nat.{ℕ, suc, _+_, _*_, _≤_, _<_}
 use native.Mathlib.Decide.{decLe}
 use native.Mathlib.Omega.{arith}

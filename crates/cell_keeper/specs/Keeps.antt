@@ -10,9 +10,9 @@ use Rattle.refusal.specs.Written.{WriteAnswers}
 use Rattle.refusal.specs.declared.written.Written.{Written}
 use Rattle.cell_keeper.specs.Unmarked.{unmarkedCells}
 
--- the sheet L is written over the slice from its start on; where it is too short, refused with 16
+-- a sheet of these bytes is written over the slice from its start on; where the slice is too short, refused with 16
 abbrev pub writeOver : List ℕ → List ℕ → WriteCalled
-writeOver L slice = answerWith (cond (ltb (length slice) (length L)) 16 0) L slice
+writeOver bytes slice = answerWith (cond (ltb (length slice) (length bytes)) 16 0) bytes slice
 
 -- the sheet of the cells of the sheet b whose marks are not 1 is written, if it fits
 abbrev pub Keeps : List ℕ → List ℕ → List ℕ → Written → List ℕ → Type 0

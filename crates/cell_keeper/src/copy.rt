@@ -8,7 +8,7 @@ ghost use Rattle.sheet_format.specs.Layout.{top, headerLength, cellBytes, secti
 ghost use Rattle.sheet_format.specs.Check.{countField, cellOf};
 ghost use Rattle.closures.specs.Keep.{cellsBelow};
 ghost use Rattle.cell_keeper.specs.Unmarked.{ifStays, unmarkedCells, Puts};
-use cell_sets::set::SECTIONS;
+use crate::count::SECTIONS;
 use fields::field::HEADER_LENGTH;
 use fields::field::count;
 use fields::field::field;
@@ -54,14 +54,8 @@ fn keep_section(s: &[u8], marks: &[u8], p: usize, from: usize, sheet: &mut [u8],
     let mut next = to;
     let mut i: usize = 0;
     while i < many {
-        next = keep_cell(
-            s,
-            at + 2 * ((p + 1) * i),
-            p + 1,
-            marks[from + i],
-            sheet,
-            next,
-        );
+        let mark = marks[from + i];
+        next = keep_cell(s, at + 2 * ((p + 1) * i), p + 1, mark, sheet, next);
         i = i + 1;
     }
     next

@@ -5,8 +5,11 @@ ghost use Rattle.sheet_format.specs.Layout.{top};
 ghost use Rattle.sheet_format.specs.Check.{countField};
 ghost use Rattle.closures.specs.Keep.{cellsBelow};
 ghost use Rattle.cell_keeper.specs.Unmarked.{CountsSection, unmarkedCells, Counts};
-use cell_sets::set::SECTIONS;
+use fields::field::TOP;
 use fields::field::count;
+
+// The sections of a sheet.
+pub const SECTIONS: usize = TOP + 1;
 
 // How many of the `many` cells whose marks stand from place `from` on stay.
 fn count_section(marks: &[u8], from: usize, many: usize) -> usize
@@ -34,7 +37,8 @@ pub fn count_cells(s: &[u8], marks: &[u8]) -> [usize; SECTIONS]
     let mut p: usize = 0;
     while p < SECTIONS {
         let many = count(s, p);
-        counts[p] = count_section(marks, from, many);
+        let stay = count_section(marks, from, many);
+        counts[p] = stay;
         from = from + many;
         p = p + 1;
     }

@@ -1,10 +1,10 @@
 -- How many cells a choice keeps, and which properties they still have.
+--     rising-steps                                         what falls at no step does not fall
 --     kept-none, kept-next, kept-stays, kept-goes          none of the cells; one cell more, in general, that stays, that goes
 --     length-stays, length-goes, kept-few                  their number; of n cells at most n stay
 --     kept-all                                             what all of the first n cells have, those that stay have
 --     length-keep, section-keep, count-keep, sized-keep    the sections of the cells that stay
 --     cellsBelow-next, cellsBelow-within                   the cells of lower dimensions
---     rising-steps                                         what falls at no step does not fall
 use mathlib.Core.Path.{_≡_, refl, sym, ap, _∙_, subst}
 use mathlib.Core.Bool.{Bool, true, false, cond}
 use mathlib.Core.List.{List, [], _∷_, _++_, append-nil}
@@ -19,6 +19,16 @@ use Rattle.complexes.specs.Cell.{Cell}
 use Rattle.complexes.specs.Complex.{Sections, section, count, cell}
 use Rattle.closures.specs.Rising.{All}
 use Rattle.closures.specs.Keep.{kept, keep, cellsBelow}
+
+-- ---- numbers
+
+-- what falls at no step does not fall
+pub rising-steps : (f : ℕ → ℕ) → ((n : ℕ) → f n ≤ f (suc n)) → (n m : ℕ) → n ≤ m → f n ≤ f m
+rising-steps f step n m h = subst (λ (k : ℕ). f n ≤ f k) (add-sub-of-le h) (go (m - n))
+  where
+    go : (k : ℕ) → f n ≤ f (n + k)
+    go zero = rw (add-zero n) (le-refl (f n))
+    go (suc k) = rw (add-suc n k) (le-trans (go k) (step (n + k)))
 
 -- ---- one section
 
@@ -95,14 +105,6 @@ module _ (keeps : ℕ → ℕ → Bool) (K : Sections) where
   sized-keep p n h = rw (section-keep p) (kept-all (keeps p) (section K p) (λ c. length c ≡ n) (count K p) h)
 
 -- ---- the cells of lower dimensions
-
--- what falls at no step does not fall
-pub rising-steps : (f : ℕ → ℕ) → ((n : ℕ) → f n ≤ f (suc n)) → (n m : ℕ) → n ≤ m → f n ≤ f m
-rising-steps f step n m h = subst (λ (k : ℕ). f n ≤ f k) (add-sub-of-le h) (go (m - n))
-  where
-    go : (k : ℕ) → f n ≤ f (n + k)
-    go zero = rw (add-zero n) (le-refl (f n))
-    go (suc k) = rw (add-suc n k) (le-trans (go k) (step (n + k)))
 
 pub cellsBelow-next : (n : ℕ → ℕ) (p : ℕ) → cellsBelow n (suc p) ≡ cellsBelow n p + n p
 unfolding cellsBelow

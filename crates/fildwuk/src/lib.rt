@@ -7,6 +7,7 @@ ghost use Rattle.requests.specs.Call as requests;
 ghost use Rattle.host_calls.specs.Host.{hostCall, coordinatesIn, listsIn, surfaceIn};
 ghost use Rattle.host_calls.specs.Host.{reportRoom, workRoom};
 ghost use Rattle.limits.specs.Limits.{hostLimit};
+ghost use Rattle.sweeps.specs.Sweep.{sweepCall};
 ghost use Rattle.imports.specs.Import.{importCall};
 ghost use Rattle.refusal.specs.Written.{WriteTold};
 ghost use Rattle.fildwuk.specs.HostAnswers.{HostAnswers};
@@ -28,6 +29,7 @@ use importer::import::import_at;
 use little_endian::smaller;
 use little_endian::write_numbers;
 use sheet::reader::Sheet;
+use sweeper::sweep::sweep_at;
 
 // The report of a dimension, by way of the numbers.
 fn report_through(
@@ -137,6 +139,18 @@ pub extern "C" fn fildwuk_surface(
         &mut work,
         surface,
     )
+}
+
+// The sweep of a sheet.
+#[no_mangle]
+pub extern "C" fn fildwuk_sweep(sheet: &[u8], swept: &mut [u8]) -> u32
+    ensures { λ r.
+        let left = now (swept .exit) in ⌜
+        WriteTold (sweepCall hostLimit (now (sheet .entry)) (now (swept .entry))) r left
+        ⌝ }
+{
+    let written = sweep_at(Sheet::host(), sheet, swept);
+    written.number()
 }
 
 // The import of a mesh text.

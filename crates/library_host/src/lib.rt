@@ -6,6 +6,7 @@ ghost use Rattle.requests.specs.Call as requests;
 ghost use Rattle.requests.specs.Call.{call};
 ghost use Rattle.limits.specs.Limits.{libraryLimit};
 ghost use Rattle.calls.specs.CallAnswers.{answered};
+ghost use Rattle.sweeps.specs.Sweep.{sweepCall};
 ghost use Rattle.imports.specs.Import.{importCall};
 ghost use Rattle.refusal.specs.Written.{WriteTold};
 ghost use Rattle.library_host.specs.LibraryAnswers.{LibraryAnswers, HeadroomAnswers};
@@ -134,6 +135,18 @@ pub extern "C" fn fildwuk_library_surface(
         ⌝ }
 {
     number_told(calls::surface::surface(sheet, dimension, chain, surface, work))
+}
+
+// The sweep of a sheet.
+#[no_mangle]
+pub extern "C" fn fildwuk_library_sweep(sheet: &[u8], swept: &mut [u8]) -> u32
+    ensures { λ r.
+        let left = now (swept .exit) in ⌜
+        WriteTold (sweepCall libraryLimit (now (sheet .entry)) (now (swept .entry))) r left
+        ⌝ }
+{
+    let written = sweeper::sweep::sweep(sheet, swept);
+    written.number()
 }
 
 // The import of a mesh text.

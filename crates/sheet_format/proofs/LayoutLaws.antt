@@ -178,7 +178,7 @@ pub record Reads (b : List ℕ) (K : Sections) : Type 0 where
   pub vertices : (p i j : ℕ) → i < count K p → j < suc p
       → fieldAt b (start (count K) p + 2 * (suc p * i) + 2 * j) ≡ getD (cell K p i) j 0
 
--- ---- the layout
+-- ---- the whole sheet
 
 pub length-parts : (K : Sections) → length (layout K) ≡ headerLength + length (sectionsBytes K)
 unfolding layout
@@ -186,7 +186,7 @@ length-parts K =
     length-append (headerBytes (count K) 0 (suc top)) (sectionsBytes K)
     ∙ ap (λ (n : ℕ). n + length (sectionsBytes K)) (length-headerBytes (count K) (suc top))
 
--- of cells that have as many vertices as their dimension says
+-- the layout of cells that have as many vertices as their dimension says
 module _ (K : Sections) (sized : (p i : ℕ) → i < count K p → length (cell K p i) ≡ suc p) where
   sections-start : Starts (length K) (start (count K)) (λ p. sectionBytes (section K p))
   unfolding start

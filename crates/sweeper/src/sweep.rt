@@ -6,14 +6,14 @@ ghost use Rattle.sweeps.specs.Sweep.{sweptSheet, sweepCall};
 ghost use Rattle.refusal.specs.Written.{WriteAnswers};
 ghost use Rattle.cell_keeper.specs.Keeps.{writeOver};
 use cell_keeper::keep::keep_cells;
-use cell_sets::set::SECTIONS;
+use fields::field::TOP;
 use loose_nodes::marks::mark_loose;
 use refusal::written::Written;
 use sheet::reader::Reading;
 use sheet::reader::Sheet;
 
 // The cells that marks have room for.
-const CELLS: usize = SECTIONS * Sheet::LIBRARY_LIMIT;
+const CELLS: usize = (TOP + 1) * Sheet::LIBRARY_LIMIT;
 
 // Writes the sheet without its loose nodes, if it fits.
 pub fn write_swept(s: &[u8], out: &mut [u8]) -> Written

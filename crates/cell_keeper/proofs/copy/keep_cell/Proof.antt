@@ -9,7 +9,6 @@ use borrow.Author.Tests.{eq-eqb, ne-eqb}
 use denote.Ref.{now}
 use lib.ListN.{length}
 use Rattle.lists.specs.Splice.{splice}
-use Rattle.complexes.specs.Cell.{Cell}
 use Rattle.sheet_format.specs.Layout.{cellBytes, sectionBytes}
 use Rattle.sheet_format.specs.Check.{cellOf}
 use Rattle.sheet_format.specs.SheetLaws.{length-cellOf}

@@ -116,20 +116,20 @@ module _ (c : tie.In-loop Inv-loop μ-loop) where
       ≡ sectionBytes (cond (staysAt (marks r) (from r) i) (getD (cellsOf (s r) (suc (p r)) (many r) (at r)) i [] ∷ []) [])
   bytes-are = cell-is (s r) (marks r) (p r) (from r) (many r) (at r) i (c .loop-test .taken)
 
+add-mark : tie.Need-add-mark Inv-loop μ-loop
+add-mark c = omega (arith, marked c)
+
+shared-slice-read-mark : tie.Need-shared-slice-read-mark Inv-loop μ-loop
+shared-slice-read-mark c = marked (c .before)
+
 mul-keep-cell : tie.Need-mul-keep-cell Inv-loop μ-loop
-mul-keep-cell c = omega (arith, vertices c)
+mul-keep-cell c = omega (arith, vertices (c .before))
 
 mul-keep-cell-2 : tie.Need-mul-keep-cell-2 Inv-loop μ-loop
-mul-keep-cell-2 c = omega (arith, vertices c)
+mul-keep-cell-2 c = omega (arith, vertices (c .before))
 
 add-keep-cell-2 : tie.Need-add-keep-cell-2 Inv-loop μ-loop
-add-keep-cell-2 c = omega (arith, vertices c, c .before .before .start .ensures .below)
-
-add-keep-cell-4 : tie.Need-add-keep-cell-4 Inv-loop μ-loop
-add-keep-cell-4 c = omega (arith, marked c)
-
-shared-slice-read-keep-cell : tie.Need-shared-slice-read-keep-cell Inv-loop μ-loop
-shared-slice-read-keep-cell c = marked (c .before)
+add-keep-cell-2 c = omega (arith, vertices (c .before), c .before .before .before .start .ensures .below)
 
 keep-cell-requires : tie.Need-keep-cell-requires Inv-loop μ-loop
 keep-cell-requires c κs =
@@ -156,6 +156,6 @@ returns c =
 pub keep-section-spec : {M : Type 1} → statement M
 keep-section-spec =
     tie.close
-    (tie.spec Inv-loop μ-loop (λ c κs. search needs) (λ c κs. search needs) loop-holds (λ c. search needs) mul-keep-cell mul-keep-cell-2
-    add-keep-cell-2 (λ c. search needs) add-keep-cell-4 shared-slice-read-keep-cell keep-cell-requires (λ c. search needs) (λ c. search needs)
-    loop-again (λ c. c .before .loop .inv .1 .long) returns)
+    (tie.spec Inv-loop μ-loop (λ c κs. search needs) (λ c κs. search needs) loop-holds add-mark shared-slice-read-mark (λ c. search needs)
+    mul-keep-cell mul-keep-cell-2 add-keep-cell-2 (λ c. search needs) keep-cell-requires (λ c. search needs) (λ c. search needs) loop-again
+    (λ c. c .before .loop .inv .1 .long) returns)

@@ -1,15 +1,14 @@
 -- `keep_sections` meets its contract. The loop's invariant: the cells that stay of the first p dimensions are copied, and their marks passed.
 use borrow.Author.Needs.{needs}
-use mathlib.Core.Path.{_≡_, refl, sym, ap, _∙_}
+use mathlib.Core.Path.{_≡_, refl, ap, _∙_}
 use mathlib.Core.List.{List, _++_}
 use Prim.Native.Nat.{ℕ, suc, _+_, _-_, _≤_, _<_}
 use native.Mathlib.Numerals.{add-one}
 use native.Mathlib.Omega.{arith}
-use denote.Ref.{now}
 use lib.ListN.{length, take, length-append}
 use lib.Seq.{take-all}
 use Rattle.lists.specs.Splice.{splice}
-use Rattle.complexes.specs.Complex.{Sections, section}
+use Rattle.complexes.specs.Complex.{section}
 use Rattle.sheet_format.specs.Layout.{top, headerLength, sectionBytes, sectionsBytes}
 use Rattle.sheet_format.specs.Check.{countField}
 use Rattle.closures.specs.Keep.{cellsBelow}
@@ -32,12 +31,9 @@ unfolding cellsBelow sectionsBytes
 none b marks sheet = record { within = omega arith; long = refl; passed = refl; puts = puts-none headerLength sheet }
 
 module _ {b marks sheet₀ sheet : List ℕ} {to from p : ℕ} (inv : Invariant b marks sheet₀ sheet to from p) (l : p < suc top) where
-  abbrev L : Sections
-  L = unmarkedCells b marks
-
   next : sectionsBytes (take (suc p) (unmarkedCells b marks))
       ≡ sectionsBytes (take p (unmarkedCells b marks)) ++ sectionBytes (section (unmarkedCells b marks) p)
-  next = sectionsBytes-next L p (omega (arith, length-unmarked b marks))
+  next = sectionsBytes-next (unmarkedCells b marks) p (omega (arith, length-unmarked b marks))
 
   -- the marks of dimension p, and room for its cells that stay
   marked : cellsBelow (countField b) (suc top) ≤ length marks → from + countField b p ≤ length marks
@@ -51,8 +47,8 @@ module _ {b marks sheet₀ sheet : List ℕ} {to from p : ℕ} (inv : Invariant 
         inv .puts .ends,
         inv .long,
         ap length next,
-        length-append (sectionsBytes (take p L)) (sectionBytes (section L p)),
-        sectionsBytes-le L (suc p),
+        length-append (sectionsBytes (take p (unmarkedCells b marks))) (sectionBytes (section (unmarkedCells b marks) p)),
+        sectionsBytes-le (unmarkedCells b marks) (suc p),
       )
 
   one-more : headerLength ≤ length sheet₀ → {many to′ : ℕ} {sheet′ : List ℕ} → many ≡ countField b p → length sheet′ ≡ length sheet

@@ -2,24 +2,22 @@
 use borrow.Author.Needs.{needs}
 use mathlib.Core.Path.{_≡_, refl, ap, _∙_, sym}
 use mathlib.Core.List.{List, _++_}
-use Prim.Native.Nat.{ℕ, suc, _+_, _≤_, _<_}
+use Prim.Native.Nat.{ℕ, _+_, _≤_, _<_}
 use native.Mathlib.Omega.{arith}
 use borrow.Author.Tests.{lt-ltb, le-ltb}
 use denote.Ref.{now}
 use lib.ListN.{length, drop}
-use Rattle.limits.specs.Limits.{libraryLimit}
 use Rattle.trials.specs.Trial.{done}
 use Rattle.trials.specs.Write.{answerWith}
 use Rattle.complexes.specs.Complex.{Sections}
 use Rattle.sheet_format.specs.Layout.{headerLength, sectionsBytes, layout}
-use Rattle.sheet_format.specs.Check.{countField}
 use Rattle.sheet_format.proofs.LayoutLaws.{length-parts}
 use Rattle.refusal.specs.declared.Refusal.the-variants.{SheetTooLong}
 use Rattle.refusal.specs.declared.written.Written.the-variants.{Done, Refused}
 use Rattle.refusal.specs.Written.{WriteAnswers}
 use Rattle.sheet_writer.specs.Write.{Small}
 use Rattle.sheet_writer.proofs.Bytes.{layout-put}
-use Rattle.cell_keeper.specs.Unmarked.{unmarkedCells, Counts}
+use Rattle.cell_keeper.specs.Unmarked.{unmarkedCells}
 use Rattle.cell_keeper.specs.Keeps.{writeOver}
 use Rattle.cell_keeper.proofs.Staying.{count-unmarked, counts-are, layout-ends}
 use Rattle.cell_keeper.proofs.keep.keep_cells.Statement.{statement}
