@@ -1,6 +1,6 @@
 -- Uses of the claims on the import: the mesh text of the hollow triangle, its sheet in a slice of 40 bytes, texts and slices that are refused, and a triangle
 -- beside a point, whose node is loose.
-use mathlib.Core.Path.{_≡_, refl, sym, _∙_, subst}
+use mathlib.Core.Path.{_≡_, refl, sym, ap, _∙_, subst}
 use mathlib.Core.Bool.{true, false≢true}
 use mathlib.Core.List.{List, [], _∷_, _++_}
 use Prim.Native.Nat.{ℕ, _≤_}
@@ -197,7 +197,7 @@ module _ (after : List ℕ) (limit : ℕ) (n : ℕ) (sheet : ImportedSheet limit
   past = sheet .sheet .past
 
 library-sheet : ImportSheet → ImportedSheet libraryLimit hollow (lent 40) (importCall libraryLimit hollow (lent 40) .output) 34
-library-sheet importSheet = importSheet libraryLimit (omega arith) hollow (lent 40) 34 hollow-done
+library-sheet importSheet = importSheet libraryLimit (omega arith) hollow (lent 40) 34 (ap (λ c. c .answer) hollow-done)
 
 host-sheet : HostImportSheet → ImportedSheet hostLimit hollow (lent 40) (importCall hostLimit hollow (lent 40) .output) (headerGives (importCall hostLimit hollow (lent 40) .output))
-host-sheet hostImportSheet = hostImportSheet hostLimit (omega arith) hollow (lent 40) hollow-host-done
+host-sheet hostImportSheet = hostImportSheet hostLimit (omega arith) hollow (lent 40) (ap (λ c. numberTold (c .answer)) hollow-host-done)

@@ -1,5 +1,5 @@
 -- Uses of the claims on the sweep: the edge 02 with the loose node 1, its sweep in a slice of 30 bytes, and sheets and slices that are refused.
-use mathlib.Core.Path.{_≡_, refl, sym, _∙_}
+use mathlib.Core.Path.{_≡_, refl, sym, ap, _∙_}
 use mathlib.Core.Logic.{_≢_}
 use mathlib.Core.List.{List, [], _∷_, _++_}
 use Prim.Native.Nat.{ℕ, _≤_}
@@ -96,10 +96,10 @@ module _ (after : List ℕ) (limit : ℕ) (n : ℕ) (sheet : SweptSheet limit ed
   past = sheet .sheet .past
 
 library-sheet : SweepSheet → SweptSheet libraryLimit edgeAndNode (lent 30) (sweepCall libraryLimit edgeAndNode (lent 30) .output) 24
-library-sheet sweepSheet = sweepSheet libraryLimit edgeAndNode (lent 30) (omega arith) loose-bytes 24 loose-done
+library-sheet sweepSheet = sweepSheet libraryLimit edgeAndNode (lent 30) (omega arith) loose-bytes 24 (ap (λ c. c .answer) loose-done)
 
 host-sheet : HostSweepSheet → SweptSheet hostLimit edgeAndNode (lent 30) (sweepCall hostLimit edgeAndNode (lent 30) .output) (headerGives (sweepCall hostLimit edgeAndNode (lent 30) .output))
-host-sheet hostSweepSheet = hostSweepSheet hostLimit edgeAndNode (lent 30) (omega arith) loose-bytes loose-host-done
+host-sheet hostSweepSheet = hostSweepSheet hostLimit edgeAndNode (lent 30) (omega arith) loose-bytes (ap (λ c. numberTold (c .answer)) loose-host-done)
 
 -- ---- written unchanged
 
@@ -109,4 +109,4 @@ unchanged sweepUnchanged = sweepUnchanged 48 (omega arith) edgeAlone (lent 30) a
 
 twice : SweepTwice → sweepCall libraryLimit (take 24 (sweepCall libraryLimit edgeAndNode (lent 30) .output)) (lent 26)
     ≡ record { answer = done 24; output = take 24 (sweepCall libraryLimit edgeAndNode (lent 30) .output) ++ lent 2 }
-twice sweepTwice = sweepTwice libraryLimit (omega arith) edgeAndNode (lent 30) (lent 26) loose-bytes 24 loose-done (omega arith)
+twice sweepTwice = sweepTwice libraryLimit (omega arith) edgeAndNode (lent 30) (lent 26) loose-bytes 24 (ap (λ c. c .answer) loose-done) (omega arith)

@@ -1,3 +1,2 @@
 -- From what the imports promise to texts and slices written out.
-mod Whole
 mod Cases

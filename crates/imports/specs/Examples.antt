@@ -1,12 +1,13 @@
 -- Imports that compute: texts with the answer and the sheet that document 02, Note 3, gives them. One joint theorem over a table.
 --     import-examples                          every line of the table is right
---     hollow-text, hollow-right, hollow-done, hollow-host-done   a text, its mesh and imports that are done
+--     hollow-text, hollow-right     a text and its mesh
+--     hollow-done, hollow-host-done, point-done, point-host-done     imports that are done, the latter with a loose node
 use mathlib.Core.Path.{_≡_, refl}
 use mathlib.Core.Bool.{true, cond}
 use mathlib.Core.List.{List, [], _∷_, _++_, map}
 use Prim.Native.Nat.{ℕ, _+_, _/_, _%_}
 use lib.Dec.{T, ltb}
-use lib.ListN.{length}
+use lib.ListN.{length, drop}
 use Rattle.lists.specs.Tabulate.{tabulate}
 use Rattle.lists.specs.Same.{every, sameList}
 use Rattle.complexes.specs.Cell.{without, precedes}
@@ -23,7 +24,7 @@ use Rattle.mesh_format.specs.Form.{joined, MeshText}
 use Rattle.mesh_format.specs.Examples.{openFormat, format, endFormat, openNodes, endNodes, openElements, endElements}
 use Rattle.mesh_format.specs.Parse.{then, run, someBytes, word, gap, lineEnd, digitsAt, number, node, theWord, words, wordLine, titleLine, formatLine, countLine, nodeLine, nodesWithin, nodeNumbers, elementLine, nodeLines, elementLines, closingWithin, closingLine, sectionsWithin, sections, headOf, nodesOf, elementsOf, meshOf}
 use Rattle.mesh_format.proofs.Accept.{mesh-iff}
-use Rattle.trials.specs.Trial.{done, numberTold}
+use Rattle.trials.specs.Trial.{done}
 use Rattle.trials.specs.Write.{answerWith}
 use Rattle.sweeps.specs.Cases.{lent, Case, written, told, sameAnswer, good}
 use Rattle.imports.specs.Import.{nodesOfKind, faulty, noneFaulty, elementsRight, meshIn, isMalformed, tooLong, meshChecks, importCall}
@@ -159,7 +160,7 @@ pub hollow-right : elementsRight hollowMesh ≡ true
 unfolding every member repeats nodesOfKind faulty noneFaulty
 hollow-right = refl
 
-pub hollow-done : importCall 256 hollow (lent 40) .answer ≡ done 34
+pub hollow-done : importCall 256 hollow (lent 40) ≡ record { answer = done 34; output = hollowTriangle ++ drop 34 (lent 40) }
 unfolding joined shown line textOf every sameList some tabulate without precedes
     then run someBytes word gap lineEnd digitsAt number node theWord words wordLine titleLine formatLine countLine nodeLine nodesWithin nodeNumbers elementLine
     nodeLines elementLines closingWithin closingLine sectionsWithin sections headOf nodesOf elementsOf meshOf valueFrom
@@ -168,7 +169,7 @@ unfolding joined shown line textOf every sameList some tabulate without precedes
     kept keep layout headerBytes start sectionsBytes sectionBytes cellBytes
 hollow-done = refl
 
-pub hollow-host-done : numberTold (importCall 48 hollow (lent 40) .answer) ≡ 0
+pub hollow-host-done : importCall 48 hollow (lent 40) ≡ record { answer = done 34; output = hollowTriangle ++ drop 34 (lent 40) }
 unfolding joined shown line textOf every sameList some tabulate without precedes
     then run someBytes word gap lineEnd digitsAt number node theWord words wordLine titleLine formatLine countLine nodeLine nodesWithin nodeNumbers elementLine
     nodeLines elementLines closingWithin closingLine sectionsWithin sections headOf nodesOf elementsOf meshOf valueFrom
@@ -176,3 +177,21 @@ unfolding joined shown line textOf every sameList some tabulate without precedes
     nodesOfKind faulty noneFaulty meshIn isMalformed tooLong meshChecks answerWith importCall
     kept keep layout headerBytes start sectionsBytes sectionBytes cellBytes
 hollow-host-done = refl
+
+pub point-done : importCall 256 filledAndPoint (lent 42) ≡ record { answer = done 40; output = filledTriangle ++ drop 40 (lent 42) }
+unfolding joined shown line textOf every sameList some tabulate without precedes
+    then run someBytes word gap lineEnd digitsAt number node theWord words wordLine titleLine formatLine countLine nodeLine nodesWithin nodeNumbers elementLine
+    nodeLines elementLines closingWithin closingLine sectionsWithin sections headOf nodesOf elementsOf meshOf valueFrom
+    insert insertAll member repeats ofDimension facesOf closedSection closure
+    nodesOfKind faulty noneFaulty meshIn isMalformed tooLong meshChecks answerWith importCall
+    kept keep layout headerBytes start sectionsBytes sectionBytes cellBytes
+point-done = refl
+
+pub point-host-done : importCall 48 filledAndPoint (lent 42) ≡ record { answer = done 40; output = filledTriangle ++ drop 40 (lent 42) }
+unfolding joined shown line textOf every sameList some tabulate without precedes
+    then run someBytes word gap lineEnd digitsAt number node theWord words wordLine titleLine formatLine countLine nodeLine nodesWithin nodeNumbers elementLine
+    nodeLines elementLines closingWithin closingLine sectionsWithin sections headOf nodesOf elementsOf meshOf valueFrom
+    insert insertAll member repeats ofDimension facesOf closedSection closure
+    nodesOfKind faulty noneFaulty meshIn isMalformed tooLong meshChecks answerWith importCall
+    kept keep layout headerBytes start sectionsBytes sectionBytes cellBytes
+point-host-done = refl

@@ -1,17 +1,19 @@
 -- Sweeps that compute: sheets with the answer and the sheet that document 02, Note 7, gives them. One joint theorem over a table.
 --     sweep-examples    every line of the table is right
---     loose-done, loose-host-done    a sheet with a loose node, swept
+--     loose-done, loose-host-done      a sheet with a loose node, swept
+--     loose-short, loose-host-short    .. with a slice that is too short
+--     face-told, face-host-told        a sheet where a face is missing
 use mathlib.Core.Path.{_≡_, refl}
-use mathlib.Core.List.{List, [], _∷_}
+use mathlib.Core.List.{List, [], _∷_, _++_}
 use Prim.Native.Nat.{ℕ}
 use lib.Dec.{T}
 use Rattle.lists.specs.Tabulate.{tabulate}
 use Rattle.lists.specs.Same.{every, sameList}
-use Rattle.trials.specs.Trial.{done, numberTold}
+use Rattle.trials.specs.Trial.{done, refused}
 use Rattle.trials.specs.Write.{answerWith}
 use Rattle.complexes.specs.Cell.{without, same, rises, precedes, listed}
 use Rattle.sheet_format.specs.Layout.{cellBytes, sectionBytes, sectionsBytes, start, headerBytes, layout}
-use Rattle.sheet_format.specs.Check.{countField, offsetField, cellOf, cellsOf, sectionsOf, some, verticesDoNotRise, cellsDoNotRise, faceMissing}
+use Rattle.sheet_format.specs.Check.{countField, offsetField, cellOf, cellsOf, sectionsOf, some, verticesDoNotRise, cellsDoNotRise, faceMissing, complexRefusal}
 use Rattle.sheet_format.specs.OrderCases.{shortWithCount, countAndOffset, offsetAndLength, lengthAndVertices, verticesAndCells, cellsAndFace, faceAndLooseNode, twoVertices, edgeAndNode, edgeAlone}
 use Rattle.sheet_format.specs.Starred.{noCells, hollowTriangle, filledTriangle}
 use Rattle.closures.specs.Keep.{kept, keep}
@@ -69,14 +71,36 @@ sweep-examples = tt
 
 -- ---- the hypotheses of the claims are met
 
-pub loose-done : sweepCall 256 edgeAndNode (lent 30) .answer ≡ done 24
+pub loose-done : sweepCall 256 edgeAndNode (lent 30) ≡ record { answer = done 24; output = edgeAlone ++ lent 6 }
 unfolding sweepCall answerWith
     countField offsetField tabulate cellOf cellsOf sectionsOf some verticesDoNotRise cellsDoNotRise faceMissing without same rises precedes listed
     kept keep layout headerBytes start sectionsBytes sectionBytes cellBytes
 loose-done = refl
 
-pub loose-host-done : numberTold (sweepCall 48 edgeAndNode (lent 30) .answer) ≡ 0
+pub loose-host-done : sweepCall 48 edgeAndNode (lent 30) ≡ record { answer = done 24; output = edgeAlone ++ lent 6 }
 unfolding sweepCall answerWith
     countField offsetField tabulate cellOf cellsOf sectionsOf some verticesDoNotRise cellsDoNotRise faceMissing without same rises precedes listed
     kept keep layout headerBytes start sectionsBytes sectionBytes cellBytes
 loose-host-done = refl
+
+pub loose-short : sweepCall 256 edgeAndNode (lent 23) ≡ record { answer = refused 16; output = lent 23 }
+unfolding sweepCall answerWith
+    countField offsetField tabulate cellOf cellsOf sectionsOf some verticesDoNotRise cellsDoNotRise faceMissing without same rises precedes listed
+    kept keep layout headerBytes start sectionsBytes sectionBytes cellBytes
+loose-short = refl
+
+pub loose-host-short : sweepCall 48 edgeAndNode (lent 23) ≡ record { answer = refused 16; output = lent 23 }
+unfolding sweepCall answerWith
+    countField offsetField tabulate cellOf cellsOf sectionsOf some verticesDoNotRise cellsDoNotRise faceMissing without same rises precedes listed
+    kept keep layout headerBytes start sectionsBytes sectionBytes cellBytes
+loose-host-short = refl
+
+pub face-told : complexRefusal 256 faceAndLooseNode ≡ 7
+unfolding complexRefusal
+    countField offsetField tabulate cellOf cellsOf sectionsOf some verticesDoNotRise cellsDoNotRise faceMissing without same rises precedes listed start
+face-told = refl
+
+pub face-host-told : complexRefusal 48 faceAndLooseNode ≡ 7
+unfolding complexRefusal
+    countField offsetField tabulate cellOf cellsOf sectionsOf some verticesDoNotRise cellsDoNotRise faceMissing without same rises precedes listed start
+face-host-told = refl

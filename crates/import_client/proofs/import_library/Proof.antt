@@ -2,23 +2,23 @@
 use mathlib.Core.Path.{ap, ap₂, _∙_}
 use mathlib.Core.List.{List}
 use Prim.Native.Nat.{ℕ}
-use native.Mathlib.Omega.{arith}
 use borrow.Author.Needs.{needs}
 use Rattle.limits.specs.Limits.{libraryLimit}
 use Rattle.trials.specs.Trial.{numberTold}
 use Rattle.imports.specs.Import.{importCall}
-use Rattle.imports.specs.Examples.{hollow-done}
-use Rattle.importer.specs.ImportAnswers.{ImportAnswers}
-use Rattle.importer.specs.declared.answer.Imported.{Imported}
+use Rattle.imports.specs.Examples.{hollow-done, point-done}
+use Rattle.refusal.specs.Written.{WriteAnswers}
+use Rattle.refusal.specs.declared.written.Written.{Written}
 use Rattle.import_client.specs.Used.{LibraryUsed}
 use Rattle.import_client.proofs.Cases.{used}
 use Rattle.import_client.proofs.import_library.Statement.{statement}
 use Rattle.import_client.proofs.import_library.Tie as tie
 
-library-used : {text before after : List ℕ} {r : Imported} → ImportAnswers (importCall libraryLimit text before) r after → LibraryUsed text before r after
+library-used : {text before after : List ℕ} {r : Written} → WriteAnswers (importCall libraryLimit text before) r after → LibraryUsed text before r after
 library-used a = record {
-  length-told = λ t b. a .answer ∙ ap₂ (λ (x y : List ℕ). importCall libraryLimit x y .answer) t b ∙ hollow-done;
-  used = used libraryLimit (omega arith) (ap numberTold hollow-done) (ap numberTold (a .answer)) (a .output-is);
+  length-told = λ t b. a .answer ∙ ap₂ (λ (x y : List ℕ). importCall libraryLimit x y .answer) t b ∙ ap (λ c. c .answer) hollow-done;
+  swept-length = λ t b. a .answer ∙ ap₂ (λ (x y : List ℕ). importCall libraryLimit x y .answer) t b ∙ ap (λ c. c .answer) point-done;
+  used = used libraryLimit hollow-done point-done (ap numberTold (a .answer)) (a .output-is);
 }
 
 returns : tie.Need-returns

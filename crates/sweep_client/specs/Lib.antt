@@ -1,0 +1,2 @@
+-- What the sweeps answer and leave on sheets and slices written out.
+pub mod Used
