@@ -21,6 +21,7 @@ REFUSALS = {
     3: "an offset differs from the one required", 4: "the length differs from the one required",
     5: "in some cell the vertices do not rise strictly",
     6: "in some section the cells do not rise strictly", 7: "a face is missing",
+    18: "it has an edge, and a vertex in no edge",
 }
 
 

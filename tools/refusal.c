@@ -40,7 +40,7 @@ static void write_help(const struct refusal *refusal, FILE *file) {
     else if (number <= FILDWUK_LENGTH_DIFFERS || number == FILDWUK_MESH_MALFORMED)
         hint_format(refusal->source->text, file);
     if (number == FILDWUK_VERTEX_LOOSE)
-        fputs("`fildwuk sweep OLD.sheet -o NEW.sheet` writes it without them", file);
+        fputs("`fildwuk sweep OLD.sheet -o NEW.sheet` writes it without loose nodes", file);
     if (number == FILDWUK_TOO_WIDE)
         fprintf(file, "Parts that do not touch, asked for apart%s, or another numbering of the nodes may stay within it",
                 refusal->source->is_mesh ? " (--region TAG)" : "");
