@@ -27,8 +27,8 @@ const char SWEEP_HELP[] =
     "  --limit host     at most 48 cells in a dimension, not 256\n"
     "\n"
     "Exit status: 0 the sheet is written, 1 it is refused, 2 a file cannot be read or\n"
-    "written, or a word is wrong. After 1 and 2 nothing is written, and standard error\n"
-    "has the reason.\n";
+    "written, or a word is wrong. After 1 and 2 no sheet is written, and standard\n"
+    "error has the reason.\n";
 
 /* Asks the proved call, and puts its length with the sheet that it writes, which has room for the longest. */
 static uint32_t sweep(const struct text *sheet, enum limit limit, struct text *swept) {
