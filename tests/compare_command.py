@@ -28,6 +28,11 @@ QUICK = 100
 # A sheet with an order beyond the entry limit: dimension 1 is refused with 13.
 TOO_WIDE = from_facets(meshes.tower(20))
 
+# A triangle and its side, points in no edge, one of them twice, and a point of the triangle.
+POINTS = b"".join([b"$MeshFormat\n2.2 0 8\n$EndMeshFormat\n$Nodes\n6\n", *(b"%d 0 0 0\n" % node for node in (1, 2, 3, 4, 7, 9)), b"$EndNodes\n$Elements\n6\n"
+                   b"1 2 2 1 1 1 2 3\n2 15 2 5 1 9\n3 15 2 5 1 7\n4 15 2 5 2 9\n5 15 2 6 1 1\n6 1 2 8 1 1 2\n$EndElements\n"])
+POINTS_DROPPED = {(): [7, 9], (1,): [], (5,): [], (5, 8): [7, 9], (6, 8): [], (1, 5, 6): [7, 9]}
+
 
 def sheet_of(data, limit, region):
     """The answer of the import to a mesh text, 0 for a sheet, and the sheet."""
@@ -195,6 +200,7 @@ def cases(rng, inputs):
         tags = tags_of(data) if is_mesh(data) else []
         if tags:
             yield Case(name, data, "library", region=rng.sample(tags, rng.randint(1, min(3, len(tags)))))
+    yield from (Case("points", POINTS, limit, region=region) for region in POINTS_DROPPED for limit in LIMITS)
     yield Case("tower 20", TOO_WIDE, "library", 1)
 
 
@@ -230,8 +236,7 @@ def main():
             print(f"{case.name}, limit {case.limit}, dimensions {list(case.dimensions)}, region {case.region}: {fault}")
     wrong += count_beside_program(tried, options.driver, options.program)
     lost = {0, 1, 2, 3, 4, 5, 6, 7, 13, 14, 15, 16, 18} - told
-    lost |= {"dropped nodes"} - {"dropped nodes" for case in made if not case.told()[0] and case.dropped()}
-    lost |= {"dropped nodes of a region"} - {"dropped nodes of a region" for case in made if case.region and not case.told()[0] and case.dropped()}
+    lost |= {region for region, nodes in POINTS_DROPPED.items() if dropped_of(POINTS, region) != nodes}
     regions = sum(bool(case.region) for case in made)
     print(f"{len(made)} cases, {regions} with a region, {len(tried)} sheets beside the program, {wrong} differ" + (f", never due: {lost}" if lost else ""))
     raise SystemExit(1 if wrong or lost else 0)
