@@ -7,7 +7,7 @@ import random
 import subprocess
 from pathlib import Path
 
-from command.imported import dropped, said_of_dropped
+from command.dropped import dropped, said_of_dropped
 from command.runs import DONE, DRIVER, REFUSED, in_process, is_mesh
 from command.told import Dimension, from_json, from_words, head, object_of
 from command.where import Fault, fault_of, first_tag, in_region, read_text

@@ -15,7 +15,7 @@ from collections import Counter
 from itertools import combinations
 from pathlib import Path
 
-from command.imported import dropped, said_of_dropped
+from command.dropped import dropped, said_of_dropped
 from model.judge_cases import random_case
 from model.judgement import judge
 from model.sheet import closure

@@ -11,7 +11,7 @@ from collections import Counter
 from pathlib import Path
 
 from check_command import OLD, Command, broken_pipe, failed, in_pieces, limited_file, misused, on_terminal
-from command.imported import said_of_dropped
+from command.dropped import said_of_dropped
 from command.runs import COMMAND, DONE, DRIVER, FAILED, REFUSED, Ran, in_process
 from command.told import object_of
 from command.where import of_sheet

@@ -1,11 +1,12 @@
 """What `fildwuk surface` is to say of the groups of a case: the object of --json but for the surfaces, which are held to their boundary, and the words."""
 
-from command.imported import dropped, imported, said_of_dropped
+from command.dropped import dropped, said_of_dropped
 from command.told import CELLS, KINDS, number_of
 from model import homology
 from model.judgement import chain_of, first_beyond, opened, said_of_cycle
 from model.matrices import apply, boundary
 from model.sheet import LIBRARY_COUNT_LIMIT, parse
+from model.sweep import swept_from_facets
 
 COEFFICIENT_LIMIT = 15
 ELEMENTS = [("point", "points"), ("line", "lines"), ("triangle", "triangles"), ("tetrahedron", "tetrahedra")]
@@ -29,7 +30,7 @@ def said_of(data, sheet, p, orders, group):
 
 def due_object(case):
     """The object that is due for a case, without surfaces, with the names in their order."""
-    data, p = imported(case.region), case.dimension
+    data, p = swept_from_facets(case.region), case.dimension
     sheet, report = parse(data, LIBRARY_COUNT_LIMIT), homology.report(data, p)
     groups = [said_of(data, sheet, p, report.orders, group) for group in case.groups]
     for group in groups:
@@ -40,7 +41,7 @@ def due_object(case):
 
 def surface_fault(case, group, surface):
     """What is wrong with a surface as pairs of a coefficient and a cell, None where its boundary is the chain of the group exactly."""
-    sheet, p = parse(imported(case.region), LIBRARY_COUNT_LIMIT), case.dimension
+    sheet, p = parse(swept_from_facets(case.region), LIBRARY_COUNT_LIMIT), case.dimension
     place = {cell: i for i, cell in enumerate(sheet.cells(p + 1))}
     cells = [tuple(cell) for _, cell in surface]
     if cells != sorted(set(cells)) or not all(cell in place for cell in cells) or not all(coefficient for coefficient, _ in surface):

@@ -1,12 +1,6 @@
-"""The sheet that an import writes of elements, by the model, and what the command says of the nodes that it drops."""
+"""The nodes that an import drops, by the model, and what the command says of them."""
 
-from model.sheet import closure, layout, loose_vertices
-from model.sweep import swept
-
-
-def imported(facets):
-    """The sheet of the facets without loose nodes."""
-    return layout(swept(closure(facets)))
+from model.sheet import closure, loose_vertices
 
 
 def dropped(facets):
