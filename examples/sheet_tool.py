@@ -46,6 +46,8 @@ def write(options):
         raise ValueError(f"counts {counts} exceed {sheet.LIBRARY_COUNT_LIMIT}")
     options.sheet.write_bytes(sheet.layout(sections))
     print("counts", ", ".join(map(str, counts)))
+    if sheet.loose_vertices(sections):
+        print("it is refused with 18: it has an edge, and a vertex in no edge, which `fildwuk sweep` drops")
     if max(counts) > sheet.PROGRAM_COUNT_LIMIT:
         print(f"the program and the host calls take {sheet.PROGRAM_COUNT_LIMIT} in a dimension, "
               f"the library {sheet.LIBRARY_COUNT_LIMIT}")
