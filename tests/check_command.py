@@ -21,6 +21,7 @@ from model.sheet import LIBRARY_COUNT_LIMIT, PROGRAM_COUNT_LIMIT, longest
 RING = Path("examples/copper_ring.msh").resolve()
 SHEET = Path("examples/air_ring.sheet").resolve()
 GROUPS = Path("tests/meshes/groups.msh").resolve()
+QUARTER = Path("examples/quarter_ring.msh").resolve()
 DISC = Path("examples/ring_and_disc.msh").resolve()
 FAULTY = Path("target/host/fildwuk_faulty")
 NAMES = (b"report", b"import", b"judge", b"surface", b"sweep")
@@ -197,6 +198,10 @@ def output_facts(command):
     yield "pipe that nobody reads", command.shell(f'"$0" {RING} | true; exit "${{PIPESTATUS[0]}}"').status in (0, 128 + signal.SIGPIPE)
     yield "pipe that nobody reads, ignored", broken_pipe(command, "import", RING)
     yield "output by a dash", done(command.run("import", RING, "-o", "-"), COARSE_RING)
+    said, sheet = b"%s: 1 node in no edge is dropped: 1.\n" % os.fsencode(QUARTER), import_mesh(QUARTER.read_bytes(), PROGRAM_COUNT_LIMIT, 976)[1]
+    for words in ([], ["-o", "-"]):
+        yield f"a node that is dropped beside the sheet, {words}", command.run("import", QUARTER, *words) == Ran(0, sheet, b"fildwuk: " + said)
+    yield "a node that is dropped, with a file", command.run("import", QUARTER, "-o", "a.sheet") == Ran(0, said, b"")
 
 
 def broken_pipe(command, *words):
