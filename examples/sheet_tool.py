@@ -21,6 +21,7 @@ REFUSALS = {
     3: "an offset differs from the one required", 4: "the length differs from the one required",
     5: "in some cell the vertices do not rise strictly",
     6: "in some section the cells do not rise strictly", 7: "a face is missing",
+    18: "it has an edge, and a vertex in no edge",
 }
 
 
@@ -45,6 +46,8 @@ def write(options):
         raise ValueError(f"counts {counts} exceed {sheet.LIBRARY_COUNT_LIMIT}")
     options.sheet.write_bytes(sheet.layout(sections))
     print("counts", ", ".join(map(str, counts)))
+    if sheet.loose_vertices(sections):
+        print("it is refused with 18: it has an edge, and a vertex in no edge, which `fildwuk sweep` drops")
     if max(counts) > sheet.PROGRAM_COUNT_LIMIT:
         print(f"the program and the host calls take {sheet.PROGRAM_COUNT_LIMIT} in a dimension, "
               f"the library {sheet.LIBRARY_COUNT_LIMIT}")

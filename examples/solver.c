@@ -1,17 +1,15 @@
-/* What a magnetic solver does with Fildwuk: it imports a mesh in MSH 2.2 ASCII or takes a sheet as it is, gives each free loop of dimension 1 an unknown
- * current and none to a twisted one, of which it asks what surface the loop bounds when run as often as its order says, and asks for the coordinates of
+/* What a magnetic solver does with Fildwuk: it imports a mesh in MSH 2.2 ASCII or sweeps a sheet from its store, gives each free loop of dimension 1 an
+ * unknown current and none to a twisted one, of which it asks what surface the loop bounds when run as often as its order says, and asks for the coordinates of
  * all its loops in one call. Usage: solver FILE.msh, or solver FILE.sheet */
 #include <inttypes.h>
 #include <stdio.h>
-#include <string.h>
 
 #include "fildwuk.h"
 
 /* The file. A text of 48 cells in a dimension is far shorter. */
 static uint8_t text[1 << 20];
 
-/* One byte more than the longest sheet, so that a longer one is told by its length. */
-static uint8_t sheet[FILDWUK_SHEET_BYTES + 1];
+static uint8_t sheet[FILDWUK_SHEET_BYTES];
 static uint8_t report[FILDWUK_REPORT_BYTES(FILDWUK_CELLS)];
 
 /* A report has at most as many loops as the dimension has cells. */
@@ -27,16 +25,9 @@ static int refused(const char *call, uint32_t answer) {
 /* Whether the file is a mesh: it starts with $, and no 0 follows, as it would in a sheet of 36 vertices. */
 static int is_mesh(size_t given) { return given > 0 && text[0] == '$' && (given == 1 || text[1] != 0); }
 
-/* Puts the sheet of the file into its place, and its length. */
-static uint32_t take_sheet(size_t given, size_t *length) {
-    if (!is_mesh(given)) {
-        *length = given < sizeof sheet ? given : sizeof sheet;
-        memcpy(sheet, text, *length);
-        return FILDWUK_DONE;
-    }
-    uint32_t answer = fildwuk_import(text, given, sheet, FILDWUK_SHEET_BYTES);
-    *length = answer == FILDWUK_DONE ? fildwuk_sheet_length(sheet) : 0;
-    return answer;
+/* Puts the sheet of the file into its place, without loose nodes: an import leaves them out, and a sheet that is given may have been stored with them. */
+static uint32_t take_sheet(size_t given) {
+    return is_mesh(given) ? fildwuk_import(text, given, sheet, sizeof sheet) : fildwuk_sweep(text, given, sheet, sizeof sheet);
 }
 
 /* The loops of a report with t orders, each with n coefficients, as chains one after another. */
@@ -115,13 +106,13 @@ static int solve(size_t length) {
 }
 
 int main(int argc, char **argv) {
-    size_t given, length;
+    size_t given;
     if (argc != 2) {
         fprintf(stderr, "usage: solver FILE.msh, or solver FILE.sheet\n");
         return 2;
     }
     if (!read_file(argv[1], &given))
         return 2;
-    uint32_t answer = take_sheet(given, &length);
-    return answer == FILDWUK_DONE ? solve(length) : refused("import", answer);
+    uint32_t answer = take_sheet(given);
+    return answer == FILDWUK_DONE ? solve(fildwuk_sheet_length(sheet)) : refused(is_mesh(given) ? "import" : "sweep", answer);
 }

@@ -5,9 +5,9 @@
  * library, libfildwuk.so. Both have the calls of both headers, and need nothing but memcpy and memset.
  *
  * Every pointer is lent for the time of the call and not kept. A call reads `text`, `sheet` and `chain` or `chains`, and writes nothing but its
- * output: the report, the coordinates, the surface, or the sheet of an import. The output must not overlap what the call reads, and nobody else may
- * write to any of them while the call runs. A pointer may be null where its length is 0. The calls keep no state: they may run at the same time on several
- * threads, each with its own output. They always return.
+ * output: the report, the coordinates, the surface, or the sheet of an import or a sweep. The output must not overlap what the call reads, and
+ * nobody else may write to any of them while the call runs. A pointer may be null where its length is 0. The calls keep no state: they may run at
+ * the same time on several threads, each with its own output. They always return.
  *
  * Each call has its own work arrays on the caller's stack. 256 KiB of stack are enough for any sheet or text: how deep the calls go is bounded by
  * proof, whatever they are given, and with the frames of the library as built they take about 60 KiB. docs/SOLVER.md, "Stack", has the figures.
@@ -34,14 +34,24 @@ extern "C" {
 
 /* The release. docs/RELEASES.md names its pivot rule. */
 #define FILDWUK_VERSION_MAJOR 1
-#define FILDWUK_VERSION_MINOR 7
-#define FILDWUK_VERSION "1.7"
+#define FILDWUK_VERSION_MINOR 8
+#define FILDWUK_VERSION "1.8"
 
 /* What a call answers; fildwuk_answer_text has it in words. A refusal leaves the output untouched.
  *
- * The order of trial: 1 to 10 in the order of their numbers, each over the whole sheet before the next; then 11 and 12 chain by chain, in each chain
- * 11 before 12; then 13, while the reduction runs; then 17, in the surface calls alone. In an import 14 over the whole text, then 15 over all
- * elements, then 16. The calls on a sheet tell 1 to 13 and 17, of which the reports have no 10 to 12; the imports tell 14 to 16 and no other.
+ * The order of trial is not that of the numbers:
+ *
+ *   report, headroom          1 to 7, 18, 8, 9, 13
+ *   coordinates, lists        1 to 7, 18, 8, 9, 10, 11, 12, 13
+ *   surface                   1 to 7, 18, 8, 9, 10, 11, 12, 13, 17
+ *   sweep                     1 to 7, 16
+ *   import                    14, 15, 16
+ *
+ * Each is tried over the whole sheet before the next, 14 over the whole text, 15 over all elements. 11 and 12 are tried chain by chain, in each chain
+ * 11 before 12; 13 while the reduction runs. A call tells no other number than those of its line.
+ *
+ * 18 says that the sheet has an edge and a vertex in no edge, a loose node, which would count as a component of its own. A sweep writes the sheet
+ * without its loose nodes. Before release 1.8 such a sheet was accepted. A sheet without edges is never refused with 18.
  *
  * 13 says that the reduction of this dimension went too wide, and nothing against the sheet. Told by a report or a coordinate call, it says that this
  * dimension of this sheet has no report under this release; the other dimensions may be done. Told by a surface call, it says that the call found no
@@ -53,7 +63,8 @@ extern "C" {
  *
  * 16 in fildwuk_import: a count would exceed FILDWUK_CELLS, or the slice is too short; where FILDWUK_SHEET_BYTES are lent it is the count, and
  * fildwuk_library_import takes larger meshes. 16 there: a count would exceed FILDWUK_LIBRARY_CELLS, or the slice is too short; where
- * FILDWUK_LIBRARY_SHEET_BYTES are lent it is the count, and the mesh has to be made more coarsely or saved in part. */
+ * FILDWUK_LIBRARY_SHEET_BYTES are lent it is the count, and the mesh has to be made more coarsely or saved in part. Both count and measure the sheet
+ * before its loose nodes are dropped. 16 in a sweep: the slice is too short for the sheet that it would write; never where `sheet_len` bytes are lent. */
 enum fildwuk_answer {
     FILDWUK_DONE = 0,
     FILDWUK_SHEET_TOO_SHORT = 1,       /* the sheet has fewer than 16 bytes */
@@ -72,7 +83,8 @@ enum fildwuk_answer {
     FILDWUK_MESH_MALFORMED = 14,       /* the text is no MSH 2.2 ASCII of the form that is read, or a node number exceeds 65535 */
     FILDWUK_ELEMENT_FAULTY = 15,       /* an element has another kind, another number of nodes than its kind, an unlisted node or a node twice */
     FILDWUK_SHEET_TOO_LONG = 16,       /* a count of the sheet would exceed its limit, or the slice for the sheet is too short */
-    FILDWUK_BOUNDS_NOTHING = 17        /* the cycle is the boundary of no chain with whole coefficients */
+    FILDWUK_BOUNDS_NOTHING = 17,       /* the cycle is the boundary of no chain with whole coefficients */
+    FILDWUK_VERTEX_LOOSE = 18          /* the sheet has an edge, and a vertex in no edge */
 };
 
 /* The most cells that a dimension may have. */
@@ -96,7 +108,7 @@ enum fildwuk_answer {
 #define FILDWUK_CHAINS_BYTES(number, n) ((size_t)(number) * FILDWUK_CHAIN_BYTES(n))
 #define FILDWUK_COORDINATE_LISTS_BYTES(number, n) ((size_t)(number) * FILDWUK_COORDINATE_BYTES(n))
 
-/* The bytes to lend for the sheet of an import: enough for every sheet that the calls accept. */
+/* The bytes to lend for the sheet of an import or a sweep: enough for every sheet that the calls accept. */
 #define FILDWUK_SHEET_BYTES (16 + 2 * (1 + 2 + 3 + 4) * (size_t)FILDWUK_CELLS)
 
 /* The report of a dimension: the free rank b, the number t of torsion orders, the t orders, then t + b generators of n coefficients each, first
@@ -117,7 +129,7 @@ uint32_t fildwuk_coordinates(const uint8_t *sheet, size_t sheet_len, uint32_t di
  * FILDWUK_COORDINATE_LISTS_BYTES(number, n), also where t + b is less than n. Bytes past the lists stay as they were.
  *
  * The first faulty chain decides between the refusals 11 and 12, and in one chain 11 comes first. Like every refusal they leave all lists as they
- * were. With no chains, 1 to 10 and 13 still apply. Where n is 0, any number of chains is right, with no bytes. */
+ * were. With no chains, 1 to 10, 13 and 18 still apply. Where n is 0, any number of chains is right, with no bytes. */
 uint32_t fildwuk_coordinate_lists(const uint8_t *sheet, size_t sheet_len, uint32_t dimension, uint32_t number, const uint8_t *chains,
                                   size_t chains_len, uint8_t *coordinates, size_t coordinates_len);
 
@@ -134,11 +146,17 @@ uint32_t fildwuk_coordinate_lists(const uint8_t *sheet, size_t sheet_len, uint32
 uint32_t fildwuk_surface(const uint8_t *sheet, size_t sheet_len, uint32_t dimension, const uint8_t *chain, size_t chain_len, uint8_t *surface,
                          size_t surface_len);
 
-/* Reads a mesh text, MSH 2.2 ASCII, and writes the sheet of all its cells and their faces: exactly the vertex sets of the elements (points, lines,
- * triangles, tetrahedra) and their nonempty subsets. The other calls accept that sheet. Vertex numbers are the node numbers of the text.
- * docs/FORMAT.md, "The mesh text", has the form. The text may have any length, and the time is in proportion to it. Bytes past the sheet stay as they
- * were; fildwuk_sheet_length tells its length. */
+/* Reads a mesh text, MSH 2.2 ASCII, and writes the sheet of all its cells and their faces without loose nodes: the vertex sets of the elements (points,
+ * lines, triangles, tetrahedra) and their nonempty subsets, and where one of these is an edge, no vertex that is in none. The other calls accept that
+ * sheet. Vertex numbers are the node numbers of the text. docs/FORMAT.md, "The mesh text", has the form. The text may have any length, and the time is in
+ * proportion to it. Bytes past the sheet stay as they were; fildwuk_sheet_length tells its length. */
 uint32_t fildwuk_import(const uint8_t *text, size_t text_len, uint8_t *sheet, size_t sheet_len);
+
+/* Writes the sheet without its loose nodes, for sheets that were stored before release 1.8: the vertices in no edge are dropped where there is an edge,
+ * and every other cell stays. The other calls accept what is written; a sheet that they accept, and one without edges, is written unchanged, byte for
+ * byte. What is written is no longer than `sheet`: `sheet_len` bytes are always enough, and so are FILDWUK_SHEET_BYTES. The slices must not overlap: a
+ * sheet is not swept in its place. Bytes past the sheet that is written stay as they were; fildwuk_sheet_length tells its length. */
+uint32_t fildwuk_sweep(const uint8_t *sheet, size_t sheet_len, uint8_t *swept, size_t swept_len);
 
 /* The answer in words, without a full stop. The text is not to be freed. */
 static inline const char *fildwuk_answer_text(uint32_t answer)
@@ -162,6 +180,7 @@ static inline const char *fildwuk_answer_text(uint32_t answer)
     case FILDWUK_ELEMENT_FAULTY: return "an element has another kind, another number of nodes than its kind, an unlisted node or a node twice";
     case FILDWUK_SHEET_TOO_LONG: return "a count of cells would exceed the limit, or the slice lent for the sheet is too short";
     case FILDWUK_BOUNDS_NOTHING: return "the cycle is the boundary of no chain with whole coefficients";
+    case FILDWUK_VERTEX_LOOSE: return "the sheet has an edge, and a vertex in no edge";
     default: return "no answer of this release";
     }
 }
@@ -200,8 +219,8 @@ static inline void fildwuk_put_coefficient(uint8_t *chain, size_t i, int32_t coe
         chain[4 * i + (size_t)k] = (uint8_t)((uint32_t)coefficient >> (8 * k) & 255);
 }
 
-/* The helpers from here on read a sheet without looking for faults: ask them of a sheet that a call has not refused with 1 to 7, or that an import
- * has written. Before that they may read outside it. */
+/* The helpers from here on read a sheet without looking for faults: ask them of a sheet that a call has not refused with 1 to 7, or that an import or a
+ * sweep has written. Before that they may read outside it. */
 
 /* The 16-bit field at a byte of the sheet. */
 static inline uint16_t fildwuk_sheet_field(const uint8_t *sheet, size_t at)

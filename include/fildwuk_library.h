@@ -10,9 +10,9 @@
  * no state: calls may run at the same time on several threads, each with its own output and work slice. They always return, use no heap, and take no
  * more stack than those of fildwuk.h.
  *
- * What is left in the slices:
+ * What is left in the slices (`output` is the report, the coordinates, the surface, or the sheet of an import or a sweep):
  *
- *   answer                 output (report, coordinates, surface, sheet)     work          peak and bits
+ *   answer                 output                                           work          peak and bits
  *   0, done                what is written, then what was there before      all zeros     written
  *   13, 17                 as it was                                        all zeros     as they were
  *   any other refusal      as it was                                        as it was     as they were
@@ -20,8 +20,8 @@
  * The work slice may hold anything before the call: what it holds does not change the answer. Slices may be longer than asked for: the work slice
  * then reads 0 over its whole length, and the output stays as it was past what is written.
  *
- * The refusals are those of fildwuk.h and are tried in the same order. 2 and 16 are told of a count beyond FILDWUK_LIBRARY_CELLS, 9 of an output or a
- * work slice that is too short. Where a sheet has at most FILDWUK_CELLS cells in each dimension, both sets of calls give the same numbers.
+ * The refusals are those of fildwuk.h and are tried in the same order. 2 and an import's 16 are told of a count beyond FILDWUK_LIBRARY_CELLS, 9 of an
+ * output or a work slice that is too short. Where a sheet has at most FILDWUK_CELLS cells in each dimension, both sets of calls give the same numbers.
  */
 #ifndef FILDWUK_LIBRARY_H
 #define FILDWUK_LIBRARY_H
@@ -57,7 +57,7 @@ extern "C" {
 #define FILDWUK_LIBRARY_SURFACE_WORK_SLOTS_MOST \
     FILDWUK_LIBRARY_SURFACE_WORK_SLOTS(FILDWUK_LIBRARY_CELLS, FILDWUK_LIBRARY_CELLS, FILDWUK_LIBRARY_CELLS)
 
-/* The bytes to lend for the sheet of an import: enough for every sheet that the calls accept. */
+/* The bytes to lend for the sheet of an import or a sweep: enough for every sheet that the calls accept. */
 #define FILDWUK_LIBRARY_SHEET_BYTES (16 + 2 * (1 + 2 + 3 + 4) * (size_t)FILDWUK_LIBRARY_CELLS)
 
 /* The report of a dimension: the free rank b, the number t of torsion orders, the t orders, then t + b generators of n coefficients each, first
@@ -92,6 +92,9 @@ uint32_t fildwuk_library_surface(const uint8_t *sheet, size_t sheet_len, uint32_
 
 /* Reads a mesh text and writes its sheet, as fildwuk_import does, with up to FILDWUK_LIBRARY_CELLS cells in a dimension. No work slice is lent. */
 uint32_t fildwuk_library_import(const uint8_t *text, size_t text_len, uint8_t *sheet, size_t sheet_len);
+
+/* Writes the sheet without its loose nodes, as fildwuk_sweep does, with up to FILDWUK_LIBRARY_CELLS cells in a dimension. No work slice is lent. */
+uint32_t fildwuk_library_sweep(const uint8_t *sheet, size_t sheet_len, uint8_t *swept, size_t swept_len);
 
 #ifdef __cplusplus
 }

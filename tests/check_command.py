@@ -21,9 +21,10 @@ from model.sheet import LIBRARY_COUNT_LIMIT, PROGRAM_COUNT_LIMIT, longest
 RING = Path("examples/copper_ring.msh").resolve()
 SHEET = Path("examples/air_ring.sheet").resolve()
 GROUPS = Path("tests/meshes/groups.msh").resolve()
+QUARTER = Path("examples/quarter_ring.msh").resolve()
 DISC = Path("examples/ring_and_disc.msh").resolve()
 FAULTY = Path("target/host/fildwuk_faulty")
-NAMES = (b"report", b"import", b"judge", b"surface")
+NAMES = (b"report", b"import", b"judge", b"surface", b"sweep")
 COARSE_RING = import_mesh(RING.read_bytes(), PROGRAM_COUNT_LIMIT, longest(PROGRAM_COUNT_LIMIT))[1]
 OLD = b"an old file"
 MEGABYTE = 1 << 20
@@ -107,9 +108,12 @@ def word_facts(command):
         ("import", "-o", "a", "-o", "b", RING): b"one file is wanted after -o", ("import", RING, "--", "-o"): b"one file is wanted, not also -o",
         (RING, "--region", *["1"] * 1001): b"there are more than 1000 tags", ("judge", RING, "one"): b"a physical tag is a number, not one",
         ("surface", DISC, "one"): b"a physical tag is a number, not one", ("surface", DISC, "--limit", "host"): b"there is no option --limit",
-        ("surface", DISC, "--plain"): b"surface has no --plain", ("surface", DISC, "--dimension", "3"): b"0, 1 or 2 is wanted after --dimension",
+        ("surface", DISC, "--plain"): b"there is no option --plain", ("surface", DISC, "--dimension", "3"): b"0, 1 or 2 is wanted after --dimension",
         ("surface", DISC, "--groups", "-"): b"standard output has the report: a file is wanted after --groups",
-        ("judge", RING, "--plain"): b"judge has no --plain", ("judge", RING, "--groups", "x"): b"there is no option --groups",
+        ("judge", RING, "--plain"): b"there is no option --plain", ("judge", RING, "--groups", "x"): b"there is no option --groups",
+        ("sweep", SHEET, "--plain"): b"there is no option --plain", ("sweep", SHEET, "--region", "1"): b"there is no option --region",
+        ("sweep", SHEET, "-o"): b"one file is wanted after -o", ("sweep", SHEET, SHEET): b"one file is wanted, not also ",
+        ("sweep", SHEET, "--limit", "none"): b"host or library is wanted after --limit",
         ("jugde",): b"neither a command nor a file jugde", ("\x1b[2J",): b"neither a command nor a file \\x1b[2J",
     }
     for words, said in cases.items():
@@ -192,15 +196,19 @@ def output_facts(command):
     yield "one file by two names", failed(command.run(RING, "--groups", "one", "--view", "two"), b"--groups and --view name the same file")
     yield "groups of a sheet", failed(command.run(SHEET, "--groups", "a"), b"--groups and --view are for a mesh")
     yield "pipe that nobody reads", command.shell(f'"$0" {RING} | true; exit "${{PIPESTATUS[0]}}"').status in (0, 128 + signal.SIGPIPE)
-    yield "pipe that nobody reads, ignored", broken_pipe(command)
+    yield "pipe that nobody reads, ignored", broken_pipe(command, "import", RING)
     yield "output by a dash", done(command.run("import", RING, "-o", "-"), COARSE_RING)
+    said, sheet = b"%s: 1 node in no edge is dropped: 1.\n" % os.fsencode(QUARTER), import_mesh(QUARTER.read_bytes(), PROGRAM_COUNT_LIMIT, 976)[1]
+    for words in ([], ["-o", "-"]):
+        yield f"a node that is dropped beside the sheet, {words}", command.run("import", QUARTER, *words) == Ran(0, sheet, b"fildwuk: " + said)
+    yield "a node that is dropped, with a file", command.run("import", QUARTER, "-o", "a.sheet") == Ran(0, said, b"")
 
 
-def broken_pipe(command):
-    """Whether a pipe without a reader is told, where its signal is ignored."""
+def broken_pipe(command, *words):
+    """Whether a pipe without a reader is told by a run with these words, where its signal is ignored."""
     reader, writer = os.pipe()
     os.close(reader)
-    ran = command.run("import", RING, stdout=writer, preexec_fn=lambda: signal.signal(signal.SIGPIPE, signal.SIG_IGN))
+    ran = command.run(*words, stdout=writer, preexec_fn=lambda: signal.signal(signal.SIGPIPE, signal.SIG_IGN))
     os.close(writer)
     return failed(ran, b"cannot write standard output: Broken pipe")
 

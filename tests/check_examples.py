@@ -6,8 +6,9 @@ from pathlib import Path
 
 from model import meshes
 from model.calls import program_output
-from model.mesh import import_mesh
-from model.sheet import PROGRAM_COUNT_LIMIT, from_facets
+from model.mesh import facets_of, import_mesh
+from model.sheet import PROGRAM_COUNT_LIMIT, from_facets, refusal
+from model.sweep import sweep
 
 ROOT = Path(__file__).resolve().parent.parent
 sys.dont_write_bytecode = True
@@ -34,6 +35,9 @@ def facts():
     yield "README.md, the air round a ring", "\nH 1 1 0\n" in air and "\nH 2 1 0\n" in air
     yield "README.md, the twisted sector", "\nH 1 1 1 2\n" in program_output((ROOT / "examples/twisted_sector.sheet").read_bytes())
     yield "docs/FORMAT.md, the hollow triangle", shown("docs/FORMAT.md", program_output(from_facets(meshes.hollow_triangle())))
+    text, old = (ROOT / "examples/quarter_ring.msh").read_bytes(), (ROOT / "examples/old_quarter_ring.sheet").read_bytes()
+    yield "examples/old_quarter_ring.sheet", old == from_facets(facets_of(text)) and refusal(old, PROGRAM_COUNT_LIMIT) == 18
+    yield "examples/quarter_ring.msh", import_mesh(text, PROGRAM_COUNT_LIMIT, 976) == (0, sweep(old, PROGRAM_COUNT_LIMIT, 976))
     plane = write_msh.text(meshes.projective_plane())
     yield "examples/projective_plane.msh", (ROOT / "examples/projective_plane.msh").read_text(encoding="ascii") == plane
     yield "docs/GMSH.md, the projective plane", shown("docs/GMSH.md", program_output(from_facets(meshes.projective_plane())))

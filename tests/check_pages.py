@@ -20,7 +20,7 @@ IN_FOLDERS = re.compile(rf"(?<![\w/])(?:{'|'.join(FOLDERS)})/[\w./-]*\w")
 
 # Names of files that the reader has or makes.
 OTHERS = {"solver.c", "FILE.msh", "FILE.sheet", "OUT.msh", "NEW.msh", "ring.msh", "ring.geo", "ring.sheet", "plane.geo", "plane_and_loops.msh", "loops.msh",
-          "same_tag.msh"}
+          "same_tag.msh", "OLD.sheet", "NEW.sheet", "old.sheet", "new.sheet", "again.sheet", "quarter.sheet", "quarter.msh"}
 
 
 # A mesh without loops, and what the first program of PYTHON.md prints of it.
@@ -72,7 +72,7 @@ def python_page(prefix):
     one also on a mesh without loops."""
     page = (prefix / "share/doc/fildwuk/PYTHON.md").read_text()
     shown = re.findall(r"```python\n(.*?)```\n\nprints\n\n```\n(.*?)```", page, re.S)
-    assert len(shown) == page.count("```python") == 2
+    assert len(shown) == page.count("```python") == 3
     world = {**os.environ, "LD_LIBRARY_PATH": str(prefix / "lib"), "PATH": f"{prefix / 'bin'}:{os.environ['PATH']}"}
     runs = [subprocess.run([sys.executable, "-c", program], cwd=prefix / "share/doc/fildwuk/examples", capture_output=True, text=True, check=False,
                            env=world) for program, _ in shown]

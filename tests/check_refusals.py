@@ -78,6 +78,7 @@ ODD = [b"\xc3\xbc", b"\xe4\xb8\xad", b"\xf0\x9f\x98\x80", b"\xf4\x8f\xbf\xbd", b
 FIRST_ORDER = "Elements are points, lines, triangles and tetrahedra of first order: mesh without Recombine and Mesh.ElementOrder"
 COARSER = "Mesh more coarsely (`gmsh -clscale 30`, or -clmin with a length), or take a part (--region TAG)"
 NOT_HOST = "Without --limit host the limit is 256"
+SWEEP = "`fildwuk sweep OLD.sheet -o NEW.sheet` writes it without loose nodes"
 
 
 def is_text(data):
@@ -93,8 +94,13 @@ def due_help(data, number, limit, parts):
         return NOT_HOST
     if number == 16:
         return COARSER
+    if number == 18:
+        return SWEEP
     if number in (1, 2, 3, 4, 14):
         plain = data.replace(b"\r\n", b"\n")
+        other = re.match(rb"\$MeshFormat\n *(2|2\.0|2\.1|3|3\.0|4|4\.0|4\.1) +[01](?: [^\n]*)?\n", plain)
+        if other:
+            return f"It is MSH {other[1].decode()}: {SAVE}"
         if plain.startswith(b"$MeshFormat\n2.2 0 ") and b"\n$ParametricNodes" in plain and b"\n$Nodes" not in plain:
             return f"It has parametric coordinates: {SAVE} without them"
         if plain.startswith(b"$MeshFormat\n2.2 0 ") and b"$EndElements\n$Periodic" in plain:
@@ -141,12 +147,22 @@ def refused_inputs(rng):
     kept = {line.name: stored(line.name) for line in due_answers()}
     texts.update(kept)
     texts.update(rng.sample(list(damaged(rng, kept)), 300))
-    texts.update({**fault_sheets(), **random_sheets(rng, 100), "no bytes": b"", "15 bytes": bytes(15), "zeros": bytes(70000)})
+    texts.update({**fault_sheets(), **random_sheets(rng, 100), **loose_sheets(), "no bytes": b"", "15 bytes": bytes(15), "zeros": bytes(70000)})
     for name, data in texts.items():
         for limit, most in LIMITS.items():
             number = import_mesh(data, most, longest(most))[0] if is_mesh(data) else refusal(data, most)
             if number:
                 yield name, data, limit, (), number
+
+
+def loose_sheets():
+    """Sheets with loose nodes by name: one, as many as are named and one more, at both ends of the numbers, and as many as a limit allows."""
+    edge = [(1000, 2000)]
+    cases = {f"{count} loose nodes": [*edge, *((3 * v + 1,) for v in range(count))] for count in (1, 2, 20, 21, 46, 254)}
+    cases["a loose node between"] = [(1, 3), (2,)]
+    cases["loose nodes at both ends"] = [*meshes.projective_plane(), (65535,), (300,)]
+    cases["loose nodes and a tetrahedron"] = [(1, 2, 3, 4), (0,), (9,)]
+    return {name: from_facets(facets) for name, facets in cases.items()}
 
 
 def regions(rng):
@@ -184,7 +200,7 @@ def check_where(rng, driver):
         else:
             fault = wrong(name, data, limit, region, plain, as_json) if object_of(as_json.output)["refusal"] == number else "another number"
         yield f"{name}, limit {limit}", fault
-    for number in (1, 2, 3, 4, 5, 6, 7, 14, 15, 16):
+    for number in (1, 2, 3, 4, 5, 6, 7, 14, 15, 16, 18):
         yield f"{told[number]} refusals with {number}", None if told[number] else "never due"
 
 

@@ -7,6 +7,7 @@ import random
 import subprocess
 from pathlib import Path
 
+from command.dropped import dropped, said_of_dropped
 from command.runs import DONE, DRIVER, REFUSED, in_process, is_mesh
 from command.told import Dimension, from_json, from_words, head, object_of
 from command.where import Fault, fault_of, first_tag, in_region, read_text
@@ -27,6 +28,11 @@ QUICK = 100
 # A sheet with an order beyond the entry limit: dimension 1 is refused with 13.
 TOO_WIDE = from_facets(meshes.tower(20))
 
+# A triangle and its side, points in no edge, one of them twice, and a point of the triangle.
+POINTS = b"".join([b"$MeshFormat\n2.2 0 8\n$EndMeshFormat\n$Nodes\n6\n", *(b"%d 0 0 0\n" % node for node in (1, 2, 3, 4, 7, 9)), b"$EndNodes\n$Elements\n6\n"
+                   b"1 2 2 1 1 1 2 3\n2 15 2 5 1 9\n3 15 2 5 1 7\n4 15 2 5 2 9\n5 15 2 6 1 1\n6 1 2 8 1 1 2\n$EndElements\n"])
+POINTS_DROPPED = {(): [7, 9], (1,): [], (5,): [], (5, 8): [7, 9], (6, 8): [], (1, 5, 6): [7, 9]}
+
 
 def sheet_of(data, limit, region):
     """The answer of the import to a mesh text, 0 for a sheet, and the sheet."""
@@ -45,6 +51,14 @@ def region_of(text, limit, region):
         return 0, sheet_within(closure(element.nodes for element in chosen), limit, longest(limit))
     except Refused as refused:
         return refused.number, None
+
+
+def dropped_of(data, region):
+    """The nodes that the import of an input drops: none of a sheet."""
+    if not is_mesh(data):
+        return []
+    elements = read_text(data)[1]
+    return dropped(element.nodes for element, _, _ in (in_region(elements, region) if region else elements))
 
 
 def tags_of(text):
@@ -94,6 +108,10 @@ class Case:
         number, sheet = sheet_of(self.data, LIMITS[self.limit], self.region)
         return number or refusal(sheet, LIMITS[self.limit]), sheet
 
+    def dropped(self):
+        """The nodes that are dropped of an input that is not refused."""
+        return dropped_of(self.data, self.region)
+
     def wrong(self, plain, as_json, words):
         """What differs from what is due, in the three runs."""
         number, sheet = self.told()
@@ -102,6 +120,8 @@ class Case:
         due = [due_dimension(sheet, p, self.limit) for p in self.dimensions]
         status = REFUSED if any(found.refusal for found in due) else DONE
         faults = [name for name, ran in (("plain", plain), ("JSON", as_json), ("words", words)) if ran.status != status]
+        said = f"fildwuk: {said_of_dropped(self.dropped())}." if self.dropped() else None
+        faults += ["dropped nodes of plain lines"] if [line for line in plain.lines() if "dropped" in line] != [said] * bool(said) else []
         if plain.output != due_plain(sheet, self.dimensions, LIMITS[self.limit]).encode():
             faults.append("plain lines")
         return faults + self.wrong_json(sheet, due, as_json) + self.wrong_words(sheet, due, words)
@@ -122,9 +142,10 @@ class Case:
     def wrong_json(self, sheet, due, ran):
         """What differs in the object."""
         found, counts = object_of(ran.output), [parse(sheet, LIMITS[self.limit]).count(p) for p in range(DIMENSIONS)]
-        if set(found) != {"fildwuk", "limit", "region", "refusal", "counts", "dimensions"}:
+        if set(found) != {"fildwuk", "limit", "region", "refusal", "counts", "dropped", "dimensions"}:
             return ["names of the object"]
         right = (found["limit"], found["region"], found["refusal"], found["counts"]) == (LIMITS[self.limit], self.region, 0, counts)
+        right = right and found["dropped"] == self.dropped()
         same = [from_json(part) for part in found["dimensions"]] == due
         return ([] if right else ["head of the object"]) + ([] if same else ["dimensions of the object"])
 
@@ -135,6 +156,10 @@ class Case:
         if lines[0] != head(NAME + (f", region {' '.join(map(str, self.region))}" if self.region else ""), counts):
             return ["first line"]
         at = 1
+        if self.dropped():
+            if lines[1] != said_of_dropped(self.dropped()) + ".":
+                return ["dropped nodes"]
+            at = 2
         for part in due:
             found, taken = from_words(lines[at:], part.dimension, part.orders)
             if found != part:
@@ -175,6 +200,7 @@ def cases(rng, inputs):
         tags = tags_of(data) if is_mesh(data) else []
         if tags:
             yield Case(name, data, "library", region=rng.sample(tags, rng.randint(1, min(3, len(tags)))))
+    yield from (Case("points", POINTS, limit, region=region) for region in POINTS_DROPPED for limit in LIMITS)
     yield Case("tower 20", TOO_WIDE, "library", 1)
 
 
@@ -209,7 +235,8 @@ def main():
         for fault in faults:
             print(f"{case.name}, limit {case.limit}, dimensions {list(case.dimensions)}, region {case.region}: {fault}")
     wrong += count_beside_program(tried, options.driver, options.program)
-    lost = {0, 1, 2, 3, 4, 5, 6, 7, 13, 14, 15, 16} - told
+    lost = {0, 1, 2, 3, 4, 5, 6, 7, 13, 14, 15, 16, 18} - told
+    lost |= {region for region, nodes in POINTS_DROPPED.items() if dropped_of(POINTS, region) != nodes}
     regions = sum(bool(case.region) for case in made)
     print(f"{len(made)} cases, {regions} with a region, {len(tried)} sheets beside the program, {wrong} differ" + (f", never due: {lost}" if lost else ""))
     raise SystemExit(1 if wrong or lost else 0)

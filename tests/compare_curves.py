@@ -24,7 +24,8 @@ from command.told import object_of
 from compare_groups import Made, area, gmsh_fault
 from model.group_files import Parts, chain_of, group_chains, oriented, views, without_groups
 from model.judgement import sign
-from model.sheet import LIBRARY_COUNT_LIMIT, from_facets, parse
+from model.sheet import LIBRARY_COUNT_LIMIT, parse
+from model.sweep import swept_from_facets
 
 ROOT = Path(__file__).resolve().parent.parent
 MESHES = ROOT / "tests/meshes"
@@ -58,7 +59,7 @@ def due_name(case, tag):
 
 def files_fault(case, found, groups, view):
     """What is wrong with the files of --groups and --view, whose surfaces the object tells; None where nothing is."""
-    sheet, p = parse(from_facets(case.region), LIBRARY_COUNT_LIMIT), case.dimension
+    sheet, p = parse(swept_from_facets(case.region), LIBRARY_COUNT_LIMIT), case.dimension
     before, after = Parts(case.text), Parts(groups)
     surfaces = [(group["tag"], group["surface"]) for group in found["groups"] if "surface" in group]
     total = sum(abs(coefficient) for _, surface in surfaces for coefficient, _ in surface["chain"])

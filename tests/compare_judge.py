@@ -15,6 +15,7 @@ from collections import Counter
 from itertools import combinations
 from pathlib import Path
 
+from command.dropped import dropped, said_of_dropped
 from model.judge_cases import random_case
 from model.judgement import judge
 from model.sheet import closure
@@ -22,7 +23,7 @@ from model.sheet import closure
 ROOT = Path(__file__).resolve().parent.parent
 COMMAND = ROOT / "target/host/fildwuk"
 KINDS = ("a basis", "index", "dependent", "multiple", "multiple up to a twisted part", "divisible", "divisible up to a twisted part", "outside", "open",
-         "bounds", "twisted", "free", "left out", "no groups", "a tag of the region in another dimension")
+         "bounds", "twisted", "free", "left out", "no groups", "dropped", "a tag of the region in another dimension")
 MESHES = ROOT / "tests/meshes"
 
 
@@ -55,6 +56,8 @@ def words_fault(status, words, found):
     thing = ["component", "loop", "cavity", "closed volume"][found["dimension"]]
     if status != (0 if found["basis"] else 1) or len(basis) != found["basis"]:
         return "status or basis"
+    if found["dropped"] and lines.pop(1) != said_of_dropped(found["dropped"]):
+        return "dropped"
     for group, line in zip(found["groups"], lines[1:]):
         said = {"outside": "not in the region", "large": "not judged", "open": "no cycle", "bounds": "bounds", "free": "free",
                 "twisted": f"twisted of order {group.get('order')}"}[group["verdict"]]
@@ -75,7 +78,7 @@ def words_fault(status, words, found):
 
 def fault_of(command, case):
     """What is wrong with the command on a case, None where nothing is, and what is due."""
-    due = {**judge(case.region, case.dimension, case.groups, case.tags), "left_out": case.left_out}
+    due = {**judge(case.region, case.dimension, case.groups, case.tags), "left_out": case.left_out, "dropped": dropped(case.region)}
     status, output, messages = run(command, ["-", *case.words, "--json"], case.text)
     if not case.groups:
         right = messages.startswith("fildwuk: the file has no physical group of ")
@@ -104,6 +107,7 @@ def compare_random(command, count, seed):
         met["cases"] += 1
         met["a basis"] += due["basis"]
         met["left out"] += bool(due["left_out"] and due["groups"])
+        met["dropped"] += bool(due["dropped"])
         met["no groups"] += not due["groups"]
         met["a tag of the region in another dimension"] += any(group["tag"] in case.tags for group in due["groups"])
         met["index"] += due["index"] > 1
@@ -123,6 +127,8 @@ def compare_random(command, count, seed):
 LARGE = "".join(f"{i + 2} 1 2 9 1 1 2\n" for i in range(32768))
 TRIANGLE = "$MeshFormat\n2.2 0 8\n$EndMeshFormat\n$Nodes\n3\n1 0 0 0\n2 1 0 0\n3 0 1 0\n$EndNodes\n$Elements\n{}\n{}$EndElements\n"
 NAMED = TRIANGLE.replace("$Nodes", '$PhysicalNames\n2\n1 4 "x"\n2 5 "y"\n$EndPhysicalNames\n$Nodes', 1)
+# A line, and a point of group 9 in no edge.
+WIRE = TRIANGLE.format(2, "1 1 2 5 1 1 2\n2 15 2 9 1 3\n")
 FAULTS = [
     ("unknown tag", TRIANGLE.format(1, "1 2 2 5 1 1 2 3\n"), ["8"], 2, "", "no group of lines has the tag 8"),
     ("tag of another dimension", TRIANGLE.format(1, "1 2 2 5 1 1 2 3\n"), ["5"], 2, "", "no group of lines has the tag 5"),
@@ -138,6 +144,11 @@ FAULTS = [
     ("a wire left out", TRIANGLE.format(2, "1 1 2 1 1 1 2\n2 1 2 2 1 1 2\n"), ["--region", "1"], 1, "group 1: left out, it is part of the region\n", ""),
     ("line with one node twice", TRIANGLE.format(2, "1 2 2 5 1 1 2 3\n2 1 2 9 1 1 1\n"), [], 1, "the line in line 13 of the file is no edge", ""),
     ("line of three nodes", TRIANGLE.format(2, "1 2 2 5 1 1 2 3\n2 1 2 9 1 1 2 3\n"), [], 1, "the line in line 13 of the file is no edge", ""),
+    ("a point in no edge", WIRE, ["--dimension", "0"], 1, "group 9, 1 point: not in the region: the point in line 13 of the file is no vertex of it\n", ""),
+    ("a point in no edge, in a region of points", WIRE, ["5"], 1, "region: 1 vertex, 0 edges, 0 triangles, 0 tetrahedra; no free loops\ngroup 5, ", ""),
+    ("a node that is dropped", WIRE, ["9", "--region", "5", "9", "--dimension", "0"], 1, "region: 2 vertices, 1 edge, 0 triangles, 0 tetrahedra; 1 free "
+     "component\n1 node in no edge is dropped: 3\ngroup 9, 1 point: not in the region", ""),
+    ("a group of points without a line", WIRE, ["9", "--region", "9", "--dimension", "0"], 0, "group 9, 1 point: free; coordinates 1\n", ""),
     ("line alone", TRIANGLE.format(1, "1 1 2 9 1 1 2\n"), [], 1, "name the groups by their tags, or the region by --region\n", ""),
     ("line alone, named", TRIANGLE.format(1, "1 1 2 9 1 1 2\n"), ["9"], 1, "taken: name the region by --region\n", ""),
     ("line alone, region named", TRIANGLE.format(1, "1 1 2 9 1 1 2\n"), ["9", "--region", "9"], 1, "no cycle: its boundary has -1 at (1)", ""),

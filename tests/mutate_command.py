@@ -22,12 +22,13 @@ def inputs(rng):
     found.update((path.name, path.read_bytes()) for path in Path("tests/meshes").glob("*_loops.msh"))
     found.update({name: data for name, data in random_sheets(rng, 3).items()})
     found.update({name: from_facets(facets) for name, facets in (("plane", meshes.projective_plane()), ("bottle", meshes.klein_bottle()))})
+    found.update({f"loose {i}": from_facets([*facets, (0,), (300,), (9999,)]) for i, facets in enumerate(([(1, 2)], meshes.projective_plane()))})
     found.update({name: data for name, (data, _) in list(sheet_cases.damaged(PROGRAM_COUNT_LIMIT).items())[::40]})
     return {name: data for name, data in found.items() if len(data) <= LONGEST}
 
 
 def main():
-    """Exits with 1 where a run fails, or where an answer of the import was never due."""
+    """Exits with 1 where a run fails, or where an answer of the import or of the sweep was never due."""
     parser = argparse.ArgumentParser(description=__doc__, formatter_class=argparse.RawDescriptionHelpFormatter)
     parser.add_argument("--driver", type=Path, default=DRIVER, metavar="FILE", help="the built driver (target/host/command_mutations)")
     parser.add_argument("--count", type=int, default=100000, metavar="N", help="mutated texts and sheets (100000)")

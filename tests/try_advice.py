@@ -1,6 +1,6 @@
 #!/usr/bin/env python3
-"""Follows the advice that fildwuk gives in its messages: what a refused input was told is run, with Gmsh and the unpackers, and the mesh that comes of it
-is accepted. Advice that was found not to help stays without help."""
+"""Follows the advice that fildwuk gives in its messages: what a refused input was told is run, with Gmsh, the unpackers and the command itself, and
+the mesh or sheet that comes of it is accepted. Advice that was found not to help stays without help."""
 
 import argparse
 import bz2
@@ -18,6 +18,7 @@ MESHES = Path("tests/meshes").resolve()
 RING = Path("examples/copper_ring.msh").read_bytes()
 FINE_BOX = b'SetFactory("OpenCASCADE");\nBox(1) = {0, 0, 0, 1, 1, 1};\n'
 PLATE = (MESHES / "plate.geo").read_bytes()
+LOOSE = Path("examples/old_quarter_ring.sheet").read_bytes()
 COARSE = ["-clscale", "30"]
 
 
@@ -132,6 +133,16 @@ def element_facts(room):
         yield f"without {name}", answer(room, room.gmsh(FINE_BOX, "-2", "-format", "msh22", *COARSE))[0] == 0
 
 
+def sheet_facts(room):
+    """Whether the advice on a sheet with loose nodes, and on a mesh that is to be swept, helps, by name."""
+    for name, words, data, made in (("18", ["report", "OLD.sheet"], LOOSE, "NEW.sheet"), ("a mesh that is to be swept", ["sweep", "FILE.msh"], RING, "FILE.sheet")):
+        status, said = room.run(*words[:1], room.file(data, words[1]))
+        line = re.search(r"`fildwuk (.*)`", said)
+        yield f"{name} is refused with advice", status == 1 and line is not None and not (room.folder / made).exists()
+        room.shell(f"{room.command} {line[1]}")
+        yield f"the advice on {name}", room.run("report", made)[0] == 0
+
+
 def main():
     """Exits with 1 where advice does not help."""
     parser = argparse.ArgumentParser(description=__doc__, formatter_class=argparse.RawDescriptionHelpFormatter)
@@ -139,7 +150,7 @@ def main():
     options = parser.parse_args()
     with tempfile.TemporaryDirectory() as folder:
         room = Room(options.command.resolve(), folder)
-        found = dict([*format_facts(room), *coarser_facts(room), *element_facts(room)])
+        found = dict([*format_facts(room), *coarser_facts(room), *element_facts(room), *sheet_facts(room)])
     for name, helps in found.items():
         if not helps:
             print(f"not as due: {name}")

@@ -170,21 +170,14 @@ static int refuse_text(const struct options *options, const struct text *text, c
     return status;
 }
 
-/* Whether the command can take its words; says why where it cannot. */
-static int can_take(const char *command, const struct options *options, const struct text *text, FILE *err) {
-    if (options->form == FORM_PLAIN)
-        fprintf(err, "fildwuk: %s has no --plain (fildwuk %s --help)\n", command, command);
-    else if (options->no_tag != NULL)
-        region_no_tag(text, options->no_tag, err);
-    return options->form != FORM_PLAIN && options->no_tag == NULL;
-}
-
-int docket_run(const char *command, docket_work *work, const struct options *options, const struct text *text, const struct console *console) {
+int docket_run(docket_work *work, const struct options *options, const struct text *text, const struct console *console) {
     struct mesh mesh;
     struct mesh_fault fault;
     struct docket docket = {options, text, &mesh, {NULL, 0}, {NULL, 0}, options->has_dimension ? options->dimension : DIMENSION};
-    if (!can_take(command, options, text, console->err))
+    if (options->no_tag != NULL) {
+        region_no_tag(text, options->no_tag, console->err);
         return STATUS_FAILED;
+    }
     enum mesh_answer answer = mesh_read(text, &mesh, &fault);
     if (answer == MESH_NO_MEMORY)
         return failed(strerror(ENOMEM), console->err);

@@ -27,9 +27,9 @@ struct docket {
 /* What a command does with the groups on the region, which is imported and has a report of the dimension. Answers the exit status. */
 typedef int docket_work(const struct docket *docket, const struct source *region, const struct homology *homology, const struct console *console);
 
-/* Finds the groups that the options name and the region, and does the work on them. `command` is the command's name for messages. Answers the exit
- * status; where the work is not done, it has said why. */
-int docket_run(const char *command, docket_work *work, const struct options *options, const struct text *text, const struct console *console);
+/* Finds the groups that the options name and the region, and does the work on them. Answers the exit status; where the work is not done, it has said
+ * why. */
+int docket_run(docket_work *work, const struct options *options, const struct text *text, const struct console *console);
 
 /* What groups are held to, with coefficients up to `most`. */
 struct chain_region docket_region(const struct docket *docket, const struct source *region, int64_t most);

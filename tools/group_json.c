@@ -24,8 +24,8 @@ static void write_name_of(FILE *file, const struct text *text, const struct mesh
     free(bytes);
 }
 
-void group_json_start(FILE *file, const struct docket *docket, const uint8_t *sheet, const struct homology *homology) {
-    json_start(sheet, docket->options, file);
+void group_json_start(FILE *file, const struct docket *docket, const struct source *region, const struct homology *homology) {
+    json_start(region, docket->options, file);
     fprintf(file, ", \"dimension\": %u, \"free\": %zu, \"orders\": [", (unsigned)homology->dimension, homology->rank);
     for (size_t k = 0; k < homology->order_total; k++)
         fprintf(file, "%s%" PRId64, k == 0 ? "" : ", ", homology_order(homology, k));

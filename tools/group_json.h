@@ -7,8 +7,8 @@
 #include "classes.h"
 #include "docket.h"
 
-/* Writes the start of an object: that on the sheet, the dimension, its free rank and orders, and the start of the list of groups. */
-void group_json_start(FILE *file, const struct docket *docket, const uint8_t *sheet, const struct homology *homology);
+/* Writes the start of an object: that on the region's sheet, the dimension, its free rank and orders, and the start of the list of groups. */
+void group_json_start(FILE *file, const struct docket *docket, const struct source *region, const struct homology *homology);
 
 /* Writes the start of a group: its tag, its name, its elements, whether it is a cycle, and its verdict. `first` is 1 for the first of them. */
 void group_json_group(FILE *file, const struct docket *docket, const struct group *group, int first);

@@ -6,11 +6,11 @@
 #include "physical.h"
 #include "words.h"
 
-void group_write_region(FILE *file, const uint8_t *sheet, const struct homology *homology) {
+void group_write_region(FILE *file, const struct source *region, const struct homology *homology) {
     uint32_t dimension = homology->dimension;
     fputs("region: ", file);
     for (uint32_t p = 0; p < SHEET_DIMENSIONS; p++) {
-        size_t count = sheet_count(sheet, p);
+        size_t count = sheet_count(region->sheet.bytes, p);
         fprintf(file, "%s%zu %s", p == 0 ? "" : ", ", count, sheet_cell_name(p, count));
     }
     if (homology->rank == 0)
@@ -22,6 +22,10 @@ void group_write_region(FILE *file, const uint8_t *sheet, const struct homology 
     for (size_t k = 0; k < homology->order_total; k++)
         fprintf(file, "%s %" PRId64, k == 0 ? "" : ",", homology_order(homology, k));
     fputc('\n', file);
+    if (region->dropped.total > 0) {
+        loose_tell(&region->dropped, file);
+        fputc('\n', file);
+    }
 }
 
 void group_write_start(FILE *file, const struct docket *docket, const struct group *group) {

@@ -7,8 +7,8 @@
 #include "classes.h"
 #include "docket.h"
 
-/* Writes the line on the region: its cells, and what is free and twisted of the dimension. */
-void group_write_region(FILE *file, const uint8_t *sheet, const struct homology *homology);
+/* Writes the line on the region: its cells, and what is free and twisted of the dimension; and one on the nodes that are dropped, where some are. */
+void group_write_region(FILE *file, const struct source *region, const struct homology *homology);
 
 /* Writes what the line of a group starts with: its tag, its name and its elements, up to a colon. */
 void group_write_start(FILE *file, const struct docket *docket, const struct group *group);

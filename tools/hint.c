@@ -76,6 +76,11 @@ int hint_is_text(const struct text *text) {
     return text->length > 0 && !input_is_mesh(text);
 }
 
+int hint_is_mesh(const struct text *text) {
+    static const char START[] = "$MeshFormat";
+    return text->length >= sizeof START - 1 && memcmp(text->bytes, START, sizeof START - 1) == 0;
+}
+
 /* Whether a text has a word that only a script of Gmsh has. */
 static int is_script(const struct text *text) {
     static const char *const WORDS[] = {"SetFactory(", "Point(", "Point (", "Physical Point", "Physical Curve", "Physical Line", "Physical Surface",

@@ -1,11 +1,9 @@
 /* The command `import`: the sheet of a mesh. */
 #include "import.h"
 
-#include <unistd.h>
-
 #include "fildwuk.h"
-#include "output.h"
 #include "refusal.h"
+#include "sheet_output.h"
 #include "source.h"
 
 const char IMPORT_HELP[] =
@@ -13,9 +11,10 @@ const char IMPORT_HELP[] =
     "                      [--limit host|library]\n"
     "\n"
     "Reads a mesh in MSH 2.2 ASCII, as `gmsh -format msh22` writes it, and writes the\n"
-    "sheet of its cells and all their faces. Without FILE.msh, or where it is -,\n"
-    "standard input is read; without -o, standard output is written, where it is no\n"
-    "terminal.\n"
+    "sheet of its cells and all their faces. Points in no edge are dropped, where\n"
+    "there is an edge, and it says which they are. Without FILE.msh, or where it is\n"
+    "-, standard input is read; without -o, standard output is written, where it is\n"
+    "no terminal.\n"
     "\n"
     "  -o FILE.sheet    the file to write; it gets its name when it is complete\n"
     "  --region TAG ..  only the elements with these physical tags, of the highest\n"
@@ -26,24 +25,12 @@ const char IMPORT_HELP[] =
     "read or written, or a word is wrong. After 1 and 2 standard error has the\n"
     "reason.\n";
 
-/* Writes the sheet of a source. */
+/* Writes the sheet of a source, and says which nodes are dropped, where some are. */
 static int write_sheet(const struct options *options, const struct source *source, const struct console *console) {
-    struct output output;
-    if (options->output == NULL) {
-        fwrite(source->sheet.bytes, 1, source->sheet.length, console->out);
-        return STATUS_DONE;
-    }
-    if (!output_begin(&output, options->output, options->input, console->err))
-        return STATUS_FAILED;
-    fwrite(source->sheet.bytes, 1, source->sheet.length, output.file);
-    return output_end(&output, console->err) ? STATUS_DONE : STATUS_FAILED;
-}
-
-int import_can_begin(const struct options *options, FILE *err) {
-    if (options->output != NULL || !isatty(STDOUT_FILENO))
-        return 1;
-    fputs("fildwuk: a sheet is no text for a terminal: name a file after -o, or - (fildwuk import --help)\n", err);
-    return 0;
+    int status = sheet_output_write(options, &source->sheet, console);
+    if (status == STATUS_DONE && source->dropped.total > 0)
+        sheet_output_tell(options, &source->dropped, console);
+    return status;
 }
 
 int import_text(const struct options *options, const struct text *text, const struct console *console) {

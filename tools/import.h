@@ -6,9 +6,6 @@
 
 extern const char IMPORT_HELP[];
 
-/* Whether the sheet has a place to go: without -o, standard output is no terminal. */
-int import_can_begin(const struct options *options, FILE *err);
-
 /* The command on a text. */
 int import_text(const struct options *options, const struct text *text, const struct console *console);
 

@@ -53,16 +53,18 @@ void json_refusal(const struct refusal *refusal, FILE *file) {
     fputs("}\n", file);
 }
 
-void json_start(const uint8_t *sheet, const struct options *options, FILE *file) {
+void json_start(const struct source *source, const struct options *options, FILE *file) {
     write_head(options, file);
     fputs(", \"refusal\": 0, \"counts\": [", file);
     for (uint32_t p = 0; p < SHEET_DIMENSIONS; p++)
-        fprintf(file, "%s%zu", p == 0 ? "" : ", ", sheet_count(sheet, p));
+        fprintf(file, "%s%zu", p == 0 ? "" : ", ", sheet_count(source->sheet.bytes, p));
+    fputs("], \"dropped\": [", file);
+    loose_write(&source->dropped, source->dropped.total, file);
     fputc(']', file);
 }
 
-void json_begin(const uint8_t *sheet, const struct options *options, FILE *file) {
-    json_start(sheet, options, file);
+void json_begin(const struct source *source, const struct options *options, FILE *file) {
+    json_start(source, options, file);
     fputs(", \"dimensions\": [", file);
 }
 

@@ -14,11 +14,11 @@ void json_string(const char *text, FILE *file);
 /* Writes the object of an input that is refused as a whole. */
 void json_refusal(const struct refusal *refusal, FILE *file);
 
-/* Writes the start of an object on a sheet: the limit, the region and the counts. */
-void json_start(const uint8_t *sheet, const struct options *options, FILE *file);
+/* Writes the start of an object on a sheet: the limit, the region, the counts and the nodes that are dropped. */
+void json_start(const struct source *source, const struct options *options, FILE *file);
 
-/* Writes the start of the object of a report, with the limit, the region and the counts of the sheet. */
-void json_begin(const uint8_t *sheet, const struct options *options, FILE *file);
+/* Writes the start of the object of a report. */
+void json_begin(const struct source *source, const struct options *options, FILE *file);
 
 /* Writes a dimension, also one that is refused, whose generators are these chains; `first` is 1 for the first of them. `groups` has the tags of its
  * generators, where they are written as groups or views, else it is null. */

@@ -37,9 +37,9 @@ static int judge_groups(const struct docket *docket, const struct source *region
     if (answer == CLASSES_DONE) {
         status = judgement.together == TOGETHER_BASIS ? STATUS_DONE : STATUS_REFUSED;
         if (docket->options->form == FORM_JSON)
-            judge_write_json(console->out, docket, region->sheet.bytes, &judgement);
+            judge_write_json(console->out, docket, region, &judgement);
         else
-            judge_write_words(console->out, docket, region->sheet.bytes, &judgement);
+            judge_write_words(console->out, docket, region, &judgement);
     } else {
         docket_failed(answer, console->err);
     }
@@ -48,5 +48,5 @@ static int judge_groups(const struct docket *docket, const struct source *region
 }
 
 int judge_text(const struct options *options, const struct text *text, const struct console *console) {
-    return docket_run("judge", judge_groups, options, text, console);
+    return docket_run(judge_groups, options, text, console);
 }

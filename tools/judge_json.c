@@ -64,9 +64,9 @@ static void write_together(FILE *file, const struct judgement *judgement) {
     fprintf(file, ", \"basis\": %s}\n", BASIS[judgement->together]);
 }
 
-void judge_write_json(FILE *file, const struct docket *docket, const uint8_t *sheet, const struct judgement *judgement) {
+void judge_write_json(FILE *file, const struct docket *docket, const struct source *region, const struct judgement *judgement) {
     const struct classes *classes = &judgement->classes;
-    group_json_start(file, docket, sheet, classes->homology);
+    group_json_start(file, docket, region, classes->homology);
     for (size_t i = 0; i < classes->total; i++) {
         group_json_group(file, docket, &classes->groups[i], i == 0);
         if (group_is_cycle(&classes->groups[i]))

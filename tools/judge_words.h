@@ -8,9 +8,9 @@
 #include "judgement.h"
 
 /* Writes a line on the region, one on each group, also on those left out, one on all together with the reasons, and what helps. */
-void judge_write_words(FILE *file, const struct docket *docket, const uint8_t *sheet, const struct judgement *judgement);
+void judge_write_words(FILE *file, const struct docket *docket, const struct source *region, const struct judgement *judgement);
 
 /* Writes one object. docs/COMMAND.md says what it holds. */
-void judge_write_json(FILE *file, const struct docket *docket, const uint8_t *sheet, const struct judgement *judgement);
+void judge_write_json(FILE *file, const struct docket *docket, const struct source *region, const struct judgement *judgement);
 
 #endif

@@ -120,8 +120,8 @@ static int set_help(struct words *words, struct options *options) {
 }
 
 static const struct row TABLE[] = {
-    {"-o", OPTION_OUTPUT, set_output},       {"--dimension", OPTION_DIMENSION, set_dimension}, {"--plain", OPTION_FORM, set_plain},
-    {"--json", OPTION_FORM, set_json},       {"--region", OPTION_REGION, set_region},          {"--limit", OPTION_LIMIT, set_limit},
+    {"-o", OPTION_OUTPUT, set_output},       {"--dimension", OPTION_DIMENSION, set_dimension}, {"--plain", OPTION_PLAIN, set_plain},
+    {"--json", OPTION_JSON, set_json},       {"--region", OPTION_REGION, set_region},          {"--limit", OPTION_LIMIT, set_limit},
     {"--groups", OPTION_GROUPS, set_groups}, {"--view", OPTION_VIEW, set_view},                {"--help", 0, set_help},
     {"-h", 0, set_help},
 };

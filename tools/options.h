@@ -10,12 +10,13 @@
 enum option {
     OPTION_OUTPUT = 1,     /* -o FILE */
     OPTION_DIMENSION = 2,  /* --dimension P */
-    OPTION_FORM = 4,       /* --plain, --json */
+    OPTION_PLAIN = 4,      /* --plain */
     OPTION_REGION = 8,     /* --region TAG .. */
     OPTION_LIMIT = 16,     /* --limit host|library */
     OPTION_GROUPS = 32,    /* --groups FILE */
     OPTION_VIEW = 64,      /* --view FILE */
-    OPTION_TAGS = 128      /* numbers after the file */
+    OPTION_TAGS = 128,     /* numbers after the file */
+    OPTION_JSON = 256      /* --json */
 };
 
 enum form { FORM_WORDS, FORM_PLAIN, FORM_JSON };

@@ -12,12 +12,12 @@
 
 static const char SUFFIX[] = ".XXXXXX";
 
-static int is_standard(const char *name) { return name == NULL || strcmp(name, "-") == 0; }
+int output_is_standard(const char *name) { return name == NULL || strcmp(name, "-") == 0; }
 
 /* Says why an output cannot be written. */
 static int failed(const char *name, const char *why, FILE *err) {
     fputs("fildwuk: cannot write ", err);
-    write_name(err, is_standard(name) ? "standard output" : name);
+    write_name(err, output_is_standard(name) ? "standard output" : name);
     fprintf(err, ": %s\n", why);
     return 0;
 }
@@ -25,7 +25,7 @@ static int failed(const char *name, const char *why, FILE *err) {
 /* Whether the output is the regular file that the input is. */
 static int is_input(const char *name, const char *input) {
     struct stat written, read;
-    if (is_standard(name) || stat(name, &written) != 0)
+    if (output_is_standard(name) || stat(name, &written) != 0)
         return 0;
     if ((input_is_standard(input) ? fstat(STDIN_FILENO, &read) : stat(input, &read)) != 0)
         return 0;
@@ -46,7 +46,7 @@ int output_check(const char *name, const char *input, FILE *err) {
     struct stat there;
     if (is_input(name, input))
         return failed(name, "it is the input", err);
-    if (is_standard(name))
+    if (output_is_standard(name))
         return 1;
     if (stat(name, &there) == 0)
         return !S_ISDIR(there.st_mode) || failed(name, strerror(EISDIR), err);
@@ -139,7 +139,7 @@ static int write_there(const struct output *output) {
 /* Writes to what the name stands for. Answers 0 where that fails, with errno. */
 static int write_named(const struct output *output) {
     struct stat there;
-    if (is_standard(output->name))
+    if (output_is_standard(output->name))
         return write_all(STDOUT_FILENO, output->bytes, output->length);
     if (stat(output->name, &there) != 0)
         return lstat(output->name, &there) == 0 ? write_there(output) : write_beside(output, output->name, usual_rights());

@@ -23,6 +23,9 @@ struct output {
     size_t length;
 };
 
+/* Whether a name stands for standard output: none, or `-`. */
+int output_is_standard(const char *name);
+
 /* Whether an output of this name can be begun and is no folder and in a folder that there is; says why where it is not so. Names are as below. */
 int output_check(const char *name, const char *input, FILE *err);
 

@@ -96,11 +96,22 @@ static int report_dimension(const struct job *job, const struct homology *homolo
     return refusal_tell(&refusal, job->console->err);
 }
 
+/* Says which nodes the import has dropped, where some are: plain lines have no place for them. JSON has them at its start. */
+static void write_dropped(const struct job *job) {
+    int is_plain = job->options->form == FORM_PLAIN;
+    FILE *file = is_plain ? job->console->err : job->console->out;
+    if (job->source->dropped.total == 0 || job->options->form == FORM_JSON)
+        return;
+    fputs(is_plain ? "fildwuk: " : "", file);
+    loose_tell(&job->source->dropped, file);
+    fputs(".\n", file);
+}
+
 /* Writes what stands before the dimensions. */
 static void write_start(const struct job *job) {
     FILE *out = job->console->out;
     if (job->options->form == FORM_JSON)
-        json_begin(job->source->sheet.bytes, job->options, out);
+        json_begin(job->source, job->options, out);
     if (job->options->form == FORM_WORDS) {
         write_name(out, input_name(job->options->input));
         for (size_t i = 0; i < job->options->region.total; i++)
@@ -108,6 +119,7 @@ static void write_start(const struct job *job) {
         fputs(": ", out);
         words_counts(job->source->sheet.bytes, out);
     }
+    write_dropped(job);
 }
 
 /* Asks about a dimension. Answers 0 where there is no memory, and says so. */
@@ -133,7 +145,12 @@ static int report_from(const struct job *job, const struct homology *known, uint
     return status;
 }
 
-/* Reports on a sheet. The first call tells whether the sheet is refused as a whole: with 1 to 8. */
+/* Whether a refusal is of the whole input, whatever the dimension: of the sheet, or of a dimension that there is none of. */
+static int is_of_whole(uint32_t answer) {
+    return (answer != FILDWUK_DONE && answer <= FILDWUK_DIMENSION_EXCEEDS_TOP) || answer == FILDWUK_VERTEX_LOOSE;
+}
+
+/* Reports on a sheet. The first call tells whether it is refused as a whole. */
 static int report_sheet(const struct job *job) {
     struct homology homology;
     const struct options *options = job->options;
@@ -141,7 +158,7 @@ static int report_sheet(const struct job *job) {
     int status;
     if (!ask(job, first, &homology))
         return STATUS_FAILED;
-    if (homology.answer != FILDWUK_DONE && homology.answer <= FILDWUK_DIMENSION_EXCEEDS_TOP) {
+    if (is_of_whole(homology.answer)) {
         status = refuse(job, homology.answer);
     } else {
         write_start(job);

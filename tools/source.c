@@ -16,12 +16,13 @@ static int failed(const char *why, FILE *err) {
     return 0;
 }
 
-/* Imports a text into the source's sheet, which has room for the longest. */
-static void import(const struct text *text, enum limit limit, struct source *source) {
+/* Imports a text into the source's sheet, which has room for the longest. Answers 0 where there is no memory to find the nodes that are dropped. */
+static int import(const struct text *text, enum limit limit, struct source *source) {
     uint8_t *sheet = source->sheet.bytes;
     source->answer = limit == LIMIT_HOST ? fildwuk_import(text->bytes, text->length, sheet, FILDWUK_SHEET_BYTES)
                                          : fildwuk_library_import(text->bytes, text->length, sheet, FILDWUK_LIBRARY_SHEET_BYTES);
     source->sheet.length = source->answer == FILDWUK_DONE ? sheet_length(sheet) : 0;
+    return source->answer != FILDWUK_DONE || loose_imported(text, sheet, &source->dropped);
 }
 
 int source_import(const struct options *options, const struct text *text, struct source *source, FILE *err) {
@@ -32,10 +33,11 @@ int source_import(const struct options *options, const struct text *text, struct
     if (options->region.total > 0 && !region_choose(text, &options->region, &chosen, err))
         return 0;
     source->sheet.bytes = calloc(1, FILDWUK_LIBRARY_SHEET_BYTES);
-    if (source->sheet.bytes != NULL)
-        import(options->region.total > 0 ? &chosen : text, options->limit, source);
+    int done = source->sheet.bytes != NULL && import(options->region.total > 0 ? &chosen : text, options->limit, source);
     input_free(&chosen);
-    return source->sheet.bytes != NULL || failed(strerror(ENOMEM), err);
+    if (!done)
+        source_free(source);
+    return done || failed(strerror(ENOMEM), err);
 }
 
 int source_find(const struct options *options, const struct text *text, struct source *source, FILE *err) {

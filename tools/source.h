@@ -3,6 +3,7 @@
 #define SOURCE_H
 
 #include "input.h"
+#include "loose.h"
 #include "options.h"
 
 struct source {
@@ -10,6 +11,7 @@ struct source {
     int is_mesh;
     uint32_t answer;   /* 0, or the refusal of the import; a sheet as input is not looked at here */
     struct text sheet; /* empty after a refusal */
+    struct loose dropped; /* of a mesh: the nodes that the import has left out */
 };
 
 /* Finds the sheet of an input, for a mesh by the elements that --region names. Answers 1, or 0 where it fails and says why on `err`. After 1 give it to

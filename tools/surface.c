@@ -32,14 +32,14 @@ const char SURFACE_HELP[] =
     "written, or a tag is none of a group.\n";
 
 /* Writes the files that are asked for, and then what is found. */
-static int write_found(const struct docket *docket, const struct surfaces *surfaces, const struct console *console) {
+static int write_found(const struct docket *docket, const struct source *region, const struct surfaces *surfaces, const struct console *console) {
     struct groups groups;
     int status = exports_write(docket->options, docket->text, &surfaces->chains, &groups, console);
     const struct groups *written = status == STATUS_DONE && exports_asked(docket->options) ? &groups : NULL;
     if (docket->options->form == FORM_JSON)
-        surface_write_json(console->out, docket, surfaces, written);
+        surface_write_json(console->out, docket, region, surfaces, written);
     else
-        surface_write_words(console->out, docket, surfaces, written);
+        surface_write_words(console->out, docket, region, surfaces, written);
     if (status != STATUS_DONE)
         return status;
     return surfaces->classes.total > 0 && surfaces->chains.total == surfaces->classes.total ? STATUS_DONE : STATUS_REFUSED;
@@ -50,7 +50,7 @@ static int find_surfaces(const struct docket *docket, const struct source *regio
     struct surfaces surfaces;
     struct chain_region held = docket_region(docket, region, FILDWUK_SURFACE_COEFFICIENT_MOST);
     enum classes_answer answer = surfaces_find(held, homology, &docket->tags, &docket->options->region, &surfaces);
-    int status = answer == CLASSES_DONE ? write_found(docket, &surfaces, console) : docket_failed(answer, console->err);
+    int status = answer == CLASSES_DONE ? write_found(docket, region, &surfaces, console) : docket_failed(answer, console->err);
     surfaces_free(&surfaces);
     return status;
 }
@@ -63,5 +63,5 @@ int surface_text(const struct options *options, const struct text *text, const s
     }
     if (!exports_check(options, &source, console->err))
         return STATUS_FAILED;
-    return docket_run("surface", find_surfaces, options, text, console);
+    return docket_run(find_surfaces, options, text, console);
 }

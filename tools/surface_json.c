@@ -24,9 +24,10 @@ static void write_found(FILE *file, const struct surfaces *surfaces, const struc
     fputc('}', file);
 }
 
-void surface_write_json(FILE *file, const struct docket *docket, const struct surfaces *surfaces, const struct groups *groups) {
+void surface_write_json(FILE *file, const struct docket *docket, const struct source *region, const struct surfaces *surfaces,
+                        const struct groups *groups) {
     const struct classes *classes = &surfaces->classes;
-    group_json_start(file, docket, surfaces->chains.sheet, classes->homology);
+    group_json_start(file, docket, region, classes->homology);
     for (size_t i = 0; i < classes->total; i++) {
         group_json_group(file, docket, &classes->groups[i], i == 0);
         write_found(file, surfaces, groups, i);

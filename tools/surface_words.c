@@ -49,9 +49,10 @@ static void write_wide_hint(FILE *file, const struct surfaces *surfaces) {
         fputs("a part of the region that has the group (--region TAG), or another numbering of the nodes, may stay within 1048575\n", file);
 }
 
-void surface_write_words(FILE *file, const struct docket *docket, const struct surfaces *surfaces, const struct groups *groups) {
+void surface_write_words(FILE *file, const struct docket *docket, const struct source *region, const struct surfaces *surfaces,
+                         const struct groups *groups) {
     const struct classes *classes = &surfaces->classes;
-    group_write_region(file, surfaces->chains.sheet, classes->homology);
+    group_write_region(file, region, classes->homology);
     for (size_t i = 0; i < classes->total; i++) {
         group_write_start(file, docket, &classes->groups[i]);
         write_surface(file, docket, surfaces, i);

@@ -4,7 +4,10 @@
 #include <string.h>
 
 #include "fildwuk.h"
+#include "loose.h"
 #include "sheet.h"
+
+enum { LOOSE_SHOWN = 20 };
 
 /* Writes a cell as `triangle 3 of 4, (1,2,3)`. */
 static void write_cell(const uint8_t *sheet, uint32_t p, size_t i, FILE *file) {
@@ -108,6 +111,16 @@ static void write_first(const uint8_t *sheet, uint32_t number, FILE *file) {
                 return;
 }
 
+/* Writes the vertices in no edge, the first of them where they are many. */
+static void write_loose(const uint8_t *sheet, FILE *file) {
+    struct loose loose;
+    loose_find(sheet, &loose);
+    if (loose.total == 0)
+        return;
+    fprintf(file, "%zu of its %zu vertices %s in no edge: ", loose.total, sheet_count(sheet, 0), loose.total == 1 ? "is" : "are");
+    loose_write(&loose, LOOSE_SHOWN, file);
+}
+
 void where_sheet(const struct text *sheet, size_t limit, uint32_t number, FILE *file) {
     if (number == FILDWUK_SHEET_TOO_SHORT)
         fprintf(file, "It has %zu bytes", sheet->length);
@@ -122,4 +135,6 @@ void where_sheet(const struct text *sheet, size_t limit, uint32_t number, FILE *
                 sheet->length > INPUT_MOST_SHEET ? INPUT_MOST_SHEET : sheet->length, sheet_length(sheet->bytes));
     if (number >= FILDWUK_VERTICES_DO_NOT_RISE && number <= FILDWUK_FACE_MISSING && sheet->length == sheet_length(sheet->bytes))
         write_first(sheet->bytes, number, file);
+    if (number == FILDWUK_VERTEX_LOOSE && sheet->length == sheet_length(sheet->bytes))
+        write_loose(sheet->bytes, file);
 }

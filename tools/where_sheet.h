@@ -7,7 +7,7 @@
 
 #include "input.h"
 
-/* Writes where, for the refusals 1 to 7 under a limit of cells, as a sentence without a line feed; nothing where it is not sure. */
+/* Writes where, for the refusals 1 to 7 and 18 under a limit of cells, as a sentence without a line feed; nothing where it is not sure. */
 void where_sheet(const struct text *sheet, size_t limit, uint32_t number, FILE *file);
 
 #endif

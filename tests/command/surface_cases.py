@@ -101,6 +101,9 @@ def copies(*edges):
     return TRIANGLE.format(1 + len(edges), FILLED + "".join(lines))
 
 
+# A line, and a point of group 9 in no edge.
+WIRE = TRIANGLE.format(2, "1 1 2 5 1 1 2\n2 15 2 9 1 3\n")
+
 # Named cases: the text, the words after the file, the status, and what stands in the output and in the messages.
 NAMED = [
     ("once round", copies(*TRIP), [], 0, "group 9, 3 lines: bounds +1 (1,2,3)\n", ""),
@@ -118,9 +121,15 @@ NAMED = [
     ("no groups", TRIANGLE.format(1, FILLED), [], 1, "region: 3 vertices, 3 edges, 1 triangle, ", "fildwuk: the file has no physical group of lines\n"),
     ("no such region", copies(*TRIP), ["--region", "6"], 2, "", "no element has the physical tag 6"),
     ("a point", TRIANGLE.format(2, FILLED + "2 15 2 9 1 1\n"), ["--dimension", "0"], 1, "group 9, 1 point: no surface, free; coordinates 1\n", ""),
+    ("a point in no edge", WIRE, ["--dimension", "0"], 1, "group 9, 1 point: no surface, not in the region: the point in line 13 of the file is no vertex of it\n",
+     ""),
+    ("a point in no edge, in the region", WIRE, ["5"], 1, "region: 1 vertex, 0 edges, 0 triangles, 0 tetrahedra; no free loops\ngroup 5, 1 line: no surface, "
+     "not in the region", ""),
+    ("a node that is dropped", WIRE, ["9", "--region", "5", "9", "--dimension", "0"], 1, "region: 2 vertices, 1 edge, 0 triangles, 0 tetrahedra; 1 free "
+     "component\n1 node in no edge is dropped: 3\ngroup 9, 1 point: no surface, not in the region", ""),
     ("tetrahedra", copies(*TRIP), ["--dimension", "3"], 2, "", "0, 1 or 2 is wanted after --dimension"),
     ("dimension 4", copies(*TRIP), ["--dimension", "4"], 1, "", "refused with 8: the dimension exceeds 3."),
-    ("plain", copies(*TRIP), ["--plain"], 2, "", "fildwuk: surface has no --plain (fildwuk surface --help)\n"),
+    ("plain", copies(*TRIP), ["--plain"], 2, "", "fildwuk: there is no option --plain (fildwuk surface --help)\n"),
     ("malformed", "$MeshFormat\n", [], 1, "", "refused with 14"),
     ("malformed, as an object", "$MeshFormat\n", ["--json"], 1, '"refusal": 14, ', "refused with 14"),
     ("faulty element", TRIANGLE.format(2, "1 1 2 9 1 1 2\n2 2 2 5 1 1 2 2\n"), [], 1, "", "Line 13, node 2 stands in it twice"),

@@ -1,10 +1,12 @@
 """What `fildwuk surface` is to say of the groups of a case: the object of --json but for the surfaces, which are held to their boundary, and the words."""
 
+from command.dropped import dropped, said_of_dropped
 from command.told import CELLS, KINDS, number_of
 from model import homology
 from model.judgement import chain_of, first_beyond, opened, said_of_cycle
 from model.matrices import apply, boundary
-from model.sheet import LIBRARY_COUNT_LIMIT, from_facets, parse
+from model.sheet import LIBRARY_COUNT_LIMIT, parse
+from model.sweep import swept_from_facets
 
 COEFFICIENT_LIMIT = 15
 ELEMENTS = [("point", "points"), ("line", "lines"), ("triangle", "triangles"), ("tetrahedron", "tetrahedra")]
@@ -28,18 +30,18 @@ def said_of(data, sheet, p, orders, group):
 
 def due_object(case):
     """The object that is due for a case, without surfaces, with the names in their order."""
-    data, p = from_facets(case.region), case.dimension
+    data, p = swept_from_facets(case.region), case.dimension
     sheet, report = parse(data, LIBRARY_COUNT_LIMIT), homology.report(data, p)
     groups = [said_of(data, sheet, p, report.orders, group) for group in case.groups]
     for group in groups:
         group["refusal"] = ANSWERS[group["verdict"]]
-    return {"limit": 256, "region": case.tags, "refusal": 0, "counts": [sheet.count(q) for q in range(4)], "dimension": p, "free": report.rank,
-            "orders": report.orders, "groups": groups, "left_out": case.left_out}
+    return {"limit": 256, "region": case.tags, "refusal": 0, "counts": [sheet.count(q) for q in range(4)], "dropped": dropped(case.region), "dimension": p,
+            "free": report.rank, "orders": report.orders, "groups": groups, "left_out": case.left_out}
 
 
 def surface_fault(case, group, surface):
     """What is wrong with a surface as pairs of a coefficient and a cell, None where its boundary is the chain of the group exactly."""
-    sheet, p = parse(from_facets(case.region), LIBRARY_COUNT_LIMIT), case.dimension
+    sheet, p = parse(swept_from_facets(case.region), LIBRARY_COUNT_LIMIT), case.dimension
     place = {cell: i for i, cell in enumerate(sheet.cells(p + 1))}
     cells = [tuple(cell) for _, cell in surface]
     if cells != sorted(set(cells)) or not all(cell in place for cell in cells) or not all(coefficient for coefficient, _ in surface):
@@ -97,7 +99,7 @@ def due_words(found, named, exported):
     counts = ", ".join(number_of(count, names) for count, names in zip(found["counts"], CELLS))
     free = number_of(found["free"], tuple(f"free {name}" for name in KINDS[p])) if found["free"] else f"no free {KINDS[p][1]}"
     twisted = f", {number_of(len(orders), tuple(f'twisted {name}' for name in KINDS[p]))} of order {', '.join(map(str, orders))}" if orders else ""
-    lines = [f"region: {counts}; {free}{twisted}"]
+    lines = [f"region: {counts}; {free}{twisted}", *([said_of_dropped(found["dropped"])] if found["dropped"] else [])]
     for group in found["groups"]:
         name = "" if group["name"] is None else f' "{group["name"]}"'
         lines.append(f"group {group['tag']}{name}, {number_of(group['elements'], ELEMENTS[p])}: {group_words(p, orders, group)}")

@@ -3,10 +3,11 @@
 from itertools import chain
 
 from model.mesh import ELEMENT_FAULTY, MESH_MALFORMED, NODES_OF_KIND, SHEET_TOO_LONG, Lines, read_element, read_format, read_nodes
-from model.sheet import DIMENSIONS, HEADER_BYTES, Refused, closure, faces, read_section, section_starts
+from model.sheet import DIMENSIONS, HEADER_BYTES, LOOSE_VERTEX, Refused, closure, faces, loose_vertices, read_section, section_starts
 
 CELLS = [("vertex", "vertices"), ("edge", "edges"), ("triangle", "triangles"), ("tetrahedron", "tetrahedra")]
 SHOWN = 60
+LOOSE_SHOWN = 20
 MEGABYTE = 1 << 20
 
 # Characters that turn the direction of writing or are not seen.
@@ -180,6 +181,13 @@ def of_cells(sections, number):
     raise AssertionError("the model does not refuse so")
 
 
+def of_loose(sections):
+    """What is due for refusal 18."""
+    loose = [str(node) for (node,) in loose_vertices(sections)]
+    more = f" and {len(loose) - LOOSE_SHOWN} more" if len(loose) > LOOSE_SHOWN else ""
+    return f"{len(loose)} of its {len(sections[0])} vertices {'is' if len(loose) == 1 else 'are'} in no edge: {', '.join(loose[:LOOSE_SHOWN])}{more}"
+
+
 def of_sheet(data, number, limit):
     """What is due for a sheet that is refused with this number."""
     if number == 1:
@@ -194,4 +202,5 @@ def of_sheet(data, number, limit):
     if number == 4:
         length = f"more than {MEGABYTE}" if len(data) > MEGABYTE else len(data)
         return f"It has {length} bytes, and {starts[-1]} are due"
-    return of_cells([read_section(data, p, counts[p], starts[p]) for p in range(DIMENSIONS)], number)
+    sections = [read_section(data, p, counts[p], starts[p]) for p in range(DIMENSIONS)]
+    return of_loose(sections) if number == LOOSE_VERTEX else of_cells(sections, number)

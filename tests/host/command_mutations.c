@@ -1,9 +1,9 @@
 /* Mutates mesh texts and sheets and runs every command of fildwuk on each, in process. Usage: command_mutations COUNT SEED FILE ..
  *
- * Each text is a file with one to four changes: of bytes, of numbers, of lines, of parts of other files. It is lent at its exact length, so that a
- * sanitizer sees a read beyond it. Held on each: a command answers 0, 1 or 2; import and report answer as the proved calls do, asked again here; the
+ * Each text is a file with one to four changes: of bytes, of numbers, of lines, of parts of other files, of a vertex added to a sheet. It is lent at its exact length, so that a
+ * sanitizer sees a read beyond it. Held on each: a command answers 0, 1 or 2; import, sweep and report answer as the proved calls do, asked again here; the
  * reader of tools/mesh.c takes a text exactly where the import does not say 14, and finds a faulty element exactly where it says 15; a refusal with 14,
- * 15 or 16 says where; the proved calls agree with the chains that judge and surface find; and no message has a control byte but line feeds. The program
+ * 15, 16 or 18 says where; a swept sheet is not refused, and is the sheet that was given where that is not; the proved calls agree with the chains that judge and surface find; and no message has a control byte but line feeds. The program
  * ends with status 3 where one of these fails, after writing the text to `failed_text` in the current folder. */
 #include <stdlib.h>
 #include <string.h>
@@ -20,8 +20,9 @@ static struct text files[MOST_FILES];
 static size_t file_total;
 static uint64_t state;
 
-/* How many texts the proved import has answered with each number, and how many runs of a command ended with each status. */
-static size_t answers[FILDWUK_SHEET_TOO_LONG + 1], statuses[STATUS_FAILED + 1];
+/* How many texts the proved import has answered with each number, how many runs of a command ended with each status, and how many sheets were swept, lost
+ * a node by it, and were refused by the sweep. */
+static size_t answers[FILDWUK_SHEET_TOO_LONG + 1], statuses[STATUS_FAILED + 1], swept_total, dropped_total, unswept_total;
 
 /* A random number below a bound, by xorshift. */
 static size_t below(size_t bound) {
@@ -103,16 +104,36 @@ static void change_line(struct text *text) {
     free(copy);
 }
 
+static void add_to_field(struct text *text, size_t at, size_t more) {
+    size_t field = fildwuk_sheet_field(text->bytes, at) + more;
+    text->bytes[at] = (uint8_t)field;
+    text->bytes[at + 1] = (uint8_t)(field >> 8);
+}
+
+/* Adds a vertex to what may be a sheet, after its last one, with the count and the offsets that this asks for. */
+static void add_vertex(struct text *text) {
+    size_t end = text->length < 16 ? 0 : fildwuk_sheet_field(text->bytes, 6);
+    if (end < 18 || end > text->length || text->length > MOST_BYTES - 2)
+        return;
+    size_t vertex = fildwuk_sheet_field(text->bytes, end - 2) + below(3);
+    uint8_t bytes[] = {(uint8_t)vertex, (uint8_t)(vertex >> 8)};
+    replace(text, end, end, bytes, sizeof bytes);
+    add_to_field(text, 0, 1);
+    for (size_t at = 6; at < 16; at += 4)
+        add_to_field(text, at, sizeof bytes);
+}
+
 /* Cuts the end off. */
 static void cut(struct text *text) { text->length = below(text->length + 1); }
 
 static void mutate(struct text *text) {
-    static void (*const CHANGE[])(struct text *) = {change_bytes, change_number, change_number, change_number, change_line, change_line, cut};
+    static void (*const CHANGE[])(struct text *) = {change_bytes, change_number, change_number, change_number,
+                                                     change_line,  change_line,   add_vertex,    cut};
     const struct text *file = &files[below(file_total)];
     memcpy(text->bytes, file->bytes, file->length);
     text->length = file->length;
     for (size_t left = 1 + below(1 + below(CHANGES)); left > 0; left--)
-        CHANGE[below(left > 1 ? 6 : 7)](text);
+        CHANGE[below(left > 1 ? 7 : 8)](text);
 }
 
 static void fail(const struct text *text, const char *what) {
@@ -178,7 +199,7 @@ struct choice {
 /* Runs a command with up to two of its options. */
 static void run_any(const struct command *command, const struct text *text) {
     static const struct choice CHOICES[] = {
-        {OPTION_FORM, {"--plain"}},           {OPTION_FORM, {"--json"}},           {OPTION_DIMENSION, {"--dimension", "1"}},
+        {OPTION_PLAIN, {"--plain"}},          {OPTION_JSON, {"--json"}},           {OPTION_DIMENSION, {"--dimension", "1"}},
         {OPTION_DIMENSION, {"--dimension", "2"}}, {OPTION_DIMENSION, {"--dimension", "9"}}, {OPTION_REGION, {"--region", "1"}},
         {OPTION_REGION, {"--region", "7", "8"}},  {OPTION_LIMIT, {"--limit", "host"}},      {OPTION_GROUPS, {"--groups", "/dev/null"}},
         {OPTION_VIEW, {"--view", "/dev/null"}},   {OPTION_TAGS, {"1", "2"}},                {OPTION_OUTPUT, {"-o", "/dev/null"}},
@@ -251,6 +272,36 @@ static void hold_report(const struct text *text) {
     if (refusal == FILDWUK_DONE ? ran.status != STATUS_DONE || ran.out_length < 2 || memcmp(ran.out, "H ", 2) != 0
                                 : ran.status != STATUS_REFUSED || ran.out_length != strlen(due) || memcmp(ran.out, due, ran.out_length) != 0)
         fail(text, "report differs from the proved calls");
+    if (refusal == FILDWUK_VERTEX_LOOSE && !says(&ran, " in no edge: "))
+        fail(text, "18 does not say where");
+    release(ran);
+}
+
+/* Holds what a sweep has written to the report and to the sheet that was given. */
+static void hold_swept(const struct text *text, const struct text *swept) {
+    uint32_t refusal = refusal_of(text);
+    int is_same = swept->length == text->length && memcmp(swept->bytes, text->bytes, text->length) == 0;
+    if (refusal_of(swept) != FILDWUK_DONE || refusal != (is_same ? FILDWUK_DONE : FILDWUK_VERTEX_LOOSE))
+        fail(text, "a swept sheet is refused, or is another where nothing is to be dropped");
+    swept_total++;
+    dropped_total += !is_same;
+}
+
+/* Holds the command `sweep` to the proved sweep, and both to the report. A mesh text is refused by both. */
+static void hold_sweep(const struct text *text) {
+    static uint8_t sheet[FILDWUK_LIBRARY_SHEET_BYTES];
+    char *words[] = {"a file"};
+    uint32_t answer = fildwuk_library_sweep(text->bytes, text->length, sheet, sizeof sheet);
+    struct text swept = {sheet, answer == FILDWUK_DONE ? fildwuk_sheet_length(sheet) : 0};
+    struct ran ran = run(command_find("sweep"), 1, words, text);
+    if (ran.status != (answer == FILDWUK_DONE ? STATUS_DONE : STATUS_REFUSED) || ran.out_length != swept.length ||
+        memcmp(ran.out, sheet, swept.length) != 0)
+        fail(text, "sweep differs from the proved sweep");
+    if (answer == FILDWUK_DONE)
+        hold_swept(text, &swept);
+    if (says(&ran, " dropped: ") != (answer == FILDWUK_DONE && swept.length < text->length))
+        fail(text, "sweep does not say what it drops, or says it of nothing");
+    unswept_total += answer != FILDWUK_DONE;
     release(ran);
 }
 
@@ -263,6 +314,7 @@ static void try(const struct text *text) {
         memcpy(exact.bytes, text->bytes, text->length);
     hold_import(&exact);
     hold_report(&exact);
+    hold_sweep(&exact);
     for (size_t i = 0; command_at(i) != NULL; i++)
         run_any(command_at(i), &exact);
     free(exact.bytes);
@@ -287,5 +339,6 @@ int main(int argc, char **argv) {
            statuses[STATUS_REFUSED], statuses[STATUS_FAILED]);
     printf("imports: %zu done, %zu with 14, %zu with 15, %zu with 16\n", answers[FILDWUK_DONE], answers[FILDWUK_MESH_MALFORMED],
            answers[FILDWUK_ELEMENT_FAULTY], answers[FILDWUK_SHEET_TOO_LONG]);
+    printf("sweeps: %zu done, %zu of them with nodes dropped, %zu refused\n", swept_total, dropped_total, unswept_total);
     return 0;
 }
