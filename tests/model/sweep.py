@@ -1,6 +1,6 @@
 """02, Note 7: a sheet without its loose nodes, the vertices in no edge where there is an edge."""
 
-from model.sheet import Refused, layout, loose_vertices, read_cells
+from model.sheet import Refused, closure, layout, loose_vertices, read_cells
 
 SHEET_TOO_LONG = 16
 
@@ -10,6 +10,11 @@ def swept(sections):
     dropped = set(loose_vertices(sections))
     vertices, *others = sections
     return [[cell for cell in vertices if cell not in dropped], *map(list, others)]
+
+
+def swept_from_facets(facets):
+    """The bytes of the sheet of all faces of the facets, without loose nodes."""
+    return layout(swept(closure(facets)))
 
 
 def sweep(data, count_limit, room):
