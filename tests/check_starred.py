@@ -1,5 +1,5 @@
 #!/usr/bin/env python3
-"""Holds the table of crate starred to the items of documents 01 and 02 that it is for, and the table of sheets in crate sheet_format to document 01.
+"""Holds the table of crate starred to the items of documents 01 and 02 that it is for, and the table of sheets in crate sheet_format to both documents.
 
 Each item stands here by its words, with the calls that settle it. A call has its sheet, its dimension, what is asked, and the lengths of the slices lent
 for the answer and for work; what is due is the model's. Every call here must stand in the table with that answer, and every case of the table here, so
@@ -8,7 +8,7 @@ that a case that is left out, changed or added is told. The table must be all ca
 
 from model import calls, homology
 from model.headroom import bits, largest, peak, whole
-from model.sheet import LIBRARY_COUNT_LIMIT, PROGRAM_COUNT_LIMIT, from_facets, layout, parse, refusal
+from model.sheet import LIBRARY_COUNT_LIMIT, LOOSE_VERTEX, PROGRAM_COUNT_LIMIT, from_facets, layout, parse, refusal
 from tables import CRATES, Tables
 
 NO_CELLS = from_facets([])
@@ -20,6 +20,10 @@ TETRAHEDRON = from_facets([(0, 1, 2, 3)])
 FIFTEEN = NO_CELLS[:15]
 WITHOUT_VERTEX = layout([[(0,)], [(0, 1)], [], []])
 REVERSED = layout([[(0,), (1,)], [(1, 0)], [], []])
+TWO_VERTICES = from_facets([(3,), (5,)])
+LOOSE_NODE = from_facets([(0, 2), (1,)])
+LOOSE_NODE_SWEPT = from_facets([(0, 2)])
+WITHOUT_VERTEX_LOOSE_NODE = layout([[(0,), (2,)], [(0, 1)], [], []])
 
 REPORT = ("report",)
 BACKWARDS, TWICE, OPEN, WIDE = [-1, 1, -1], [2, -2, 2], [1, 0, 0], [32768, 0, 0]
@@ -104,9 +108,14 @@ BESIDE = [
       (FILLED, 4, surface(1, -1, 1), 1, 28), (FILLED, 4, surface(1, -1, 1), 0, 27), (FILLED, 1, surface(1, -1), 1, 28),
       (FILLED, 1, surface(1, -1, 1, 0), 1, 28), (FILLED, 1, surface(16), 1, 28), (FILLED, 1, surface(*OPEN), 1, 28), (HOLLOW, 1, surface(*OPEN), 2, 27),
       (TETRAHEDRON, 3, surface(1), 2, 6)]),
+    ("Sheets with no edges keep their acceptance", [(TWO_VERTICES, 0, REPORT, 8, 8)]),
+    ("18, after 7 and before 8, for such a sheet",
+     [(LOOSE_NODE, 0, REPORT, 14, 21), (LOOSE_NODE, 4, REPORT, 14, 21), (LOOSE_NODE, 0, chain(4, 3, 2), 3, 21), (LOOSE_NODE, 0, many(0), 0, 21),
+      (LOOSE_NODE, 0, surface(-1, 0, 1), 1, 22), (WITHOUT_VERTEX_LOOSE_NODE, 4, REPORT, 8, 10)]),
 ]
-# The sheets of the starred items, as crate sheet_format has them in its table.
-SHEETS = [NO_CELLS, ONE_VERTEX, EDGE, HOLLOW, FILLED, FIFTEEN, REVERSED, WITHOUT_VERTEX]
+# The sheets of the starred items and of Note 7 in 02, as crate sheet_format has them in its table.
+SHEETS = [NO_CELLS, ONE_VERTEX, EDGE, HOLLOW, FILLED, FIFTEEN, REVERSED, WITHOUT_VERTEX, TWO_VERTICES, LOOSE_NODE, LOOSE_NODE_SWEPT,
+          WITHOUT_VERTEX_LOOSE_NODE]
 
 
 def due(call):
@@ -187,8 +196,8 @@ def sheet_faults():
     for place, (data, number) in enumerate(held):
         if {number} != {refusal(data, limit) for limit in (LIBRARY_COUNT_LIMIT, PROGRAM_COUNT_LIMIT)}:
             yield f"line {place} of the table of sheets has another number than the model gives"
-    if not set(range(8)) <= {number for _, number in held}:
-        yield "a number of 1 to 7 is not in the table of sheets"
+    if not {*range(8), LOOSE_VERTEX} <= {number for _, number in held}:
+        yield "a number of 1 to 7, or 18, is not in the table of sheets"
 
 
 def main():

@@ -19,7 +19,7 @@ from model.sheet import DIMENSIONS, LIBRARY_COUNT_LIMIT, VERTEX_LIMIT, from_face
 
 DRIVER = Path("target/host/helpers")
 FORMAT = Path("docs/FORMAT.md")
-ANSWERS = 18
+ANSWERS = 19
 NO_ANSWER = "no answer of this release"
 EDGES_OF_NUMBERS = [0, 1, -1, 127, 128, 255, 256, -128, -129, 32767, -32767]
 RANDOM_SHEETS = 60

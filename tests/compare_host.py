@@ -12,7 +12,7 @@ from drivers import Expected, count_differing
 from make_sheets import fault_sheets, known_sheets, random_sheets
 from model import homology, list_cases, residue_cases
 from model.calls import host_coordinate_lists, host_coordinates, host_report, host_surface
-from model.sheet import PROGRAM_COUNT_LIMIT, Refused, refusal
+from model.sheet import LOOSE_VERTEX, PROGRAM_COUNT_LIMIT, TRIAL, Refused, refusal
 
 DRIVER = Path("target/host/driver")
 ROOM = 8 * (2 + 48 + 48 * 48)
@@ -149,7 +149,8 @@ def all_calls(rng, list_rng, sheets, with_lists):
 
 def missing(told):
     """The answers that were never due; with no chains the output cannot be too short for the lists."""
-    wanted = {"R": range(10), "C": range(13), "L": range(13), "L of no chains": [*range(9), 10]}
+    on_sheets = [*range(9), LOOSE_VERTEX]
+    wanted = {"R": [*on_sheets, 9], "C": [*on_sheets, *range(9, 13)], "L": [*on_sheets, *range(9, 13)], "L of no chains": [*on_sheets, 10]}
     return [(kind, number) for kind, numbers in wanted.items() for number in numbers if not told[kind, number]]
 
 
@@ -177,7 +178,7 @@ def main():
     told = count_told(made)
     wrong = count_differing(options.driver, [expected for _, expected in made])
     for kind in dict.fromkeys(kind for kind, _ in told):
-        print(f"{kind}: " + ", ".join(f"{told[kind, number]} answered {number}" for number in range(14) if told[kind, number]))
+        print(f"{kind}: " + ", ".join(f"{told[kind, number]} answered {number}" for number in (0, *TRIAL) if told[kind, number]))
     for line in residue_cases.ranges(met):
         print(line)
     print(f"{len(made)} calls, {wrong} differ")

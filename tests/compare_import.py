@@ -1,8 +1,9 @@
 #!/usr/bin/env python3
 """Compares the import of meshes, by the host call and by the library's call, with the model, into slices of many lengths.
 
-The texts have every freedom of the form of 02, Note 3, every fault and many two together, counts at the limits, 18,000 more made at random, some
-of them damaged, and some of a million bytes. A call is held to its number, to the sheet, to what it leaves in its slice, and to its time.
+The texts have every freedom of the form of 02, Note 3, every fault and many two together, counts at the limits, loose nodes that the sweep of Note 7
+drops, 18,000 more made at random, some of them damaged, and some of a million bytes. A call is held to its number, to the sheet, to what it leaves
+in its slice, and to its time.
 """
 
 import argparse
@@ -15,7 +16,8 @@ from pathlib import Path
 
 from drivers import Expected, count_differing
 from model import mesh, mesh_cases, mesh_texts
-from model.sheet import LIBRARY_COUNT_LIMIT, PROGRAM_COUNT_LIMIT, Refused, closure, longest, parse
+from model.sheet import LIBRARY_COUNT_LIMIT, PROGRAM_COUNT_LIMIT, Refused, closure, layout, longest, parse
+from model.sweep import swept
 
 DRIVER = Path("target/host/import_driver")
 BATCH = 2000
@@ -23,9 +25,11 @@ BATCH = 2000
 # The limit of each call: H for that of the host, L for the library's.
 LIMITS = {"H": PROGRAM_COUNT_LIMIT, "L": LIBRARY_COUNT_LIMIT}
 
-# The answers to each call. Each must be due once for a hundred random texts at least.
-ANSWERS = ["done", "14", "15", "16 by a count", "16 by the slice"]
-SHARE = 100
+# The answers to each call. Each must be due once for so many random texts at least. 16 is also told where the sheet as swept would be within the limit,
+# or fit the slice.
+DONE, DROPPED, COUNT, SLICE = "done", "done with loose nodes dropped", "16 by a count", "16 by the slice"
+COUNT_ALONE, SLICE_ALONE = "16 by a count before the sweep alone", "16 by the slice before the sweep alone"
+ANSWERS = {DONE: 100, DROPPED: 100, "14": 100, "15": 100, COUNT: 100, COUNT_ALONE: 1000, SLICE: 100, SLICE_ALONE: 100}
 
 
 @dataclass(frozen=True)
@@ -35,22 +39,41 @@ class Read:
     sections: list
     number: int = 0
 
+    def within(self, limit, room):
+        """The answer into so many bytes, and the sheet, or None."""
+        if self.sections is None:
+            return self.number, None
+        try:
+            return mesh.DONE, mesh.sheet_within(self.sections, limit, room)
+        except Refused as refused:
+            return refused.number, None
+
     def sheet(self, limit):
         """The sheet in a slice that is long enough, or None."""
-        try:
-            return mesh.sheet_within(self.sections, limit, longest(limit)) if self.sections is not None else None
-        except Refused:
-            return None
+        return self.within(limit, longest(limit))[1]
+
+    def told(self, limit, room):
+        """The answer into so many bytes in words, with what decides it."""
+        if self.sections is None:
+            return str(self.number)
+        kept = swept(self.sections)
+        if max(map(len, self.sections)) > limit:
+            return COUNT if max(map(len, kept)) > limit else COUNT_ALONE
+        if len(layout(self.sections)) > room:
+            return SLICE if len(layout(kept)) > room else SLICE_ALONE
+        return DONE if kept == self.sections else DROPPED
 
 
 def subsets(facets):
-    """The nonempty subsets of the facets' vertex sets."""
+    """The nonempty subsets of the facets' vertex sets, without those of one vertex that are in no larger one, where there is a larger one."""
     chosen = [[v for i, v in enumerate(facet) if bits >> i & 1] for facet in facets for bits in range(1, 1 << len(facet))]
-    return set(map(frozenset, chosen))
+    large = {frozenset(subset) for subset in chosen if len(subset) > 1}
+    used = frozenset().union(*large)
+    return large | {frozenset(subset) for subset in chosen if len(subset) == 1 and (not large or used.issuperset(subset))}
 
 
 def hold_sheet(sheet, limit, facets):
-    """Stops where a sheet of the model is refused, or its cells are not the subsets of the facets."""
+    """Stops where a sheet of the model is refused, or its cells are not those subsets of the facets."""
     cells = [frozenset(cell) for section in parse(sheet, limit).sections for cell in section]
     if len(set(cells)) < len(cells) or set(cells) != subsets(facets):
         raise SystemExit("the model's sheet has other cells than the text")
@@ -71,28 +94,23 @@ def read(text, facets=None):
     return reading
 
 
-def room(rng, sheet, limit):
-    """The length of a slice to lend: about that of the sheet, where there is one."""
+def room(rng, sheet, whole, limit):
+    """The length of a slice to lend: about that of the sheet before or after the sweep, where there is one."""
     if sheet is None:
         return rng.choice([0, 16, rng.randrange(longest(limit)), longest(limit), longest(limit) + 5])
-    n = len(sheet)
-    return rng.choice([n, n, n, n + 1, n + rng.randrange(60), max(n, longest(limit)), n - 1, n - 1, rng.randrange(n), 0])
+    m, n = len(sheet), len(whole)
+    return rng.choice([n, n, n, n + 1, n + rng.randrange(60), max(n, longest(limit)), n - 1, n - 1, m, m - 1, rng.randrange(n), 0])
 
 
 def expected(rng, name, text, reading, kind):
     """A call with what the driver is to write, by the model, and what it is refused for."""
     limit = LIMITS[kind]
     sheet = reading.sheet(limit)
-    lent = rng.randbytes(room(rng, sheet, limit))
-    number, left, told = reading.number, lent, str(reading.number)
-    if reading.sections is not None and sheet is None:
-        number, told = mesh.SHEET_TOO_LONG, "16 by a count"
-    elif sheet is not None and len(lent) < len(sheet):
-        number, told = mesh.SHEET_TOO_LONG, "16 by the slice"
-    elif sheet is not None:
-        left, told = sheet + lent[len(sheet):], "done"
+    lent = rng.randbytes(room(rng, sheet, sheet and layout(reading.sections), limit))
+    number, found = reading.within(limit, len(lent))
+    left = lent if found is None else found + lent[len(found):]
     request = kind.encode() + struct.pack("<2I", len(text), len(lent)) + text + lent
-    return Expected(f"{name}, {kind} into {len(lent)} bytes", request, number, struct.pack("<I", number) + left), told
+    return Expected(f"{name}, {kind} into {len(lent)} bytes", request, number, struct.pack("<I", number) + left), reading.told(limit, len(lent))
 
 
 def named_texts():
@@ -145,10 +163,9 @@ def main():
     for kind in LIMITS:
         print(f"{kind}: " + ", ".join(f"{told[kind, answer]} answered {answer}" for answer in ANSWERS))
     print(f"{number} texts, {sum(told.values())} calls, {wrong} differ")
-    least = max(1, options.random // SHARE)
-    seldom = [key for key in ((kind, answer) for kind in LIMITS for answer in ANSWERS) if told[key] < least]
+    seldom = [(kind, answer) for kind in LIMITS for answer, share in ANSWERS.items() if told[kind, answer] < max(1, options.random // share)]
     if seldom and not options.text:
-        print(f"due less than {least} times:", seldom)
+        print("due too seldom:", seldom)
     raise SystemExit(1 if wrong or (seldom and not options.text) else 0)
 
 

@@ -18,7 +18,7 @@ from make_sheets import fault_sheets
 from model import homology, list_cases, meshes, random_meshes, residue_cases, sheet_cases
 from model.calls import library_coordinate_lists, library_coordinates, library_report, library_surface
 from model.matrices import apply, boundary
-from model.sheet import DIMENSIONS, LIBRARY_COUNT_LIMIT, PROGRAM_COUNT_LIMIT, Refused, from_facets, parse, refusal
+from model.sheet import DIMENSIONS, LIBRARY_COUNT_LIMIT, LOOSE_VERTEX, PROGRAM_COUNT_LIMIT, TRIAL, Refused, from_facets, parse, refusal
 
 DRIVER = Path("target/host/library_driver")
 # The byte that the slices are lent with.
@@ -83,6 +83,7 @@ def sheets_to_compare(rng):
     sheets.update({name: from_facets(facets) for name, facets in meshes.sized().items()})
     sheets.update({name: data for name, data in list(fault_sheets().items())[::9]})
     sheets.update({f"random {i}": from_facets(random_meshes.complex_of(rng, PROGRAM_COUNT_LIMIT)) for i in range(10)})
+    sheets.update({f"random {i} with loose nodes": from_facets(random_meshes.loose_complex_of(rng, LIBRARY_COUNT_LIMIT)) for i in range(5)})
     return sheets
 
 
@@ -192,7 +193,8 @@ def count_told(made):
 
 def missing(told):
     """The answers that were never due."""
-    wanted = {"R": [*range(10), 13], "C": range(14), "L": range(14), "L of no chains": [*range(11), 13]}
+    on_sheets = [*range(9), LOOSE_VERTEX, 9, 13]
+    wanted = {"R": on_sheets, "C": [*on_sheets, 10, 11, 12], "L": [*on_sheets, 10, 11, 12], "L of no chains": [*on_sheets, 10]}
     return [(kind, number) for kind, numbers in wanted.items() for number in numbers if not told[kind, number]]
 
 
@@ -213,10 +215,10 @@ def main():
         told.update(count_told(made))
         wrong += count_differing(options.driver, [expected for _, expected in made])
     for kind in dict.fromkeys(kind for kind, _ in told):
-        print(f"{kind}: " + ", ".join(f"{told[kind, n]} answered {n}" for n in range(14) if told[kind, n]))
+        print(f"{kind}: " + ", ".join(f"{told[kind, n]} answered {n}" for n in (0, *TRIAL) if told[kind, n]))
     for line in residue_cases.ranges(met):
         print(line)
-    print(f"{len(sheets)} sheets, {sum(told[kind, n] for kind in 'RCL' for n in range(14))} calls, {wrong} differ")
+    print(f"{len(sheets)} sheets, {sum(told[kind, n] for kind in 'RCL' for n in (0, *TRIAL))} calls, {wrong} differ")
     lost = [] if options.sheet else missing(told) + residue_cases.never_met(met, [2 ** FLOORS])
     if lost:
         print("never due:", lost)

@@ -14,7 +14,7 @@ from textwrap import fill
 from model import headroom, homology, random_meshes
 from model.headroom import Holding
 from model.reduction import TooWide
-from model.sheet import DIMENSIONS, Sheet, closure
+from model.sheet import DIMENSIONS, Sheet, closure, loose_vertices
 
 STYLES = [random_meshes.wound, random_meshes.dense, random_meshes.glued]
 MATRICES = ["first matrix", "V", "inverse of V", "second matrix", "Q", "G"]
@@ -40,16 +40,16 @@ def wishes():
 
 
 def complex_of_number(number):
-    """The facets of a random complex with its vertices in any order."""
+    """The facets of a random complex without loose nodes and with its vertices in any order."""
     rng = random.Random(number)
-    facets = random_meshes.renumbered(rng, STYLES[number % len(STYLES)](rng))
+    facets = random_meshes.swept(random_meshes.renumbered(rng, STYLES[number % len(STYLES)](rng)))
     return sorted({tuple(sorted(facet)) for facet in facets})
 
 
 def classes(facets, p):
-    """Both reductions of dimension p of the sheet of the facets; None where they go too wide or have no matrix to reduce."""
+    """Both reductions of dimension p of the sheet of the facets; None where they go too wide or have no matrix to reduce, or there is a loose node."""
     sheet = Sheet(tuple(map(tuple, closure(facets))))
-    if sheet.count(p) == 0 or max(map(sheet.count, range(DIMENSIONS))) > MOST_CELLS:
+    if loose_vertices(sheet.sections) or sheet.count(p) == 0 or max(map(sheet.count, range(DIMENSIONS))) > MOST_CELLS:
         return None
     try:
         return homology.classes(sheet, p)

@@ -1,12 +1,12 @@
 #!/usr/bin/env python3
-"""Writes sound and damaged sheets, with what document 01 answers to each, by the model."""
+"""Writes sound and damaged sheets, with what documents 01 and 02 answer to each, by the model."""
 
 import argparse
 import random
 import re
 from pathlib import Path
 
-from model import meshes, random_meshes, sheet_cases
+from model import loose_cases, meshes, random_meshes, sheet_cases
 from model.calls import program_output
 from model.sheet import LIBRARY_COUNT_LIMIT, PROGRAM_COUNT_LIMIT, from_facets, refusal
 
@@ -17,6 +17,9 @@ files written to FOLDER:
                  refusal at 256, 0 where it is accepted
   NAME.out       with --outputs, what the program prints for it"""
 
+# For every so many random sheets there is one with loose nodes.
+LOOSE_EVERY = 5
+
 
 def known_sheets():
     """The complexes with known homology and the meshes near the limits."""
@@ -25,10 +28,10 @@ def known_sheets():
 
 
 def fault_sheets():
-    """The sheets for checks 1 to 7 at both limits; stops if the model differs from what is due."""
+    """The sheets for checks 1 to 7 and 18 at both limits; stops if the model differs from what is due."""
     sheets = {}
     for limit in (PROGRAM_COUNT_LIMIT, LIBRARY_COUNT_LIMIT):
-        cases = {**sheet_cases.damaged(limit), **sheet_cases.at_limit(limit)}
+        cases = {**sheet_cases.damaged(limit), **sheet_cases.at_limit(limit), **loose_cases.sheets(limit)}
         for name, (data, due) in {**cases, **sheet_cases.long_tails(), **sheet_cases.at_word_edges()}.items():
             if refusal(data, limit) != due:
                 raise SystemExit(f"{name}: refusal {due} is due at {limit} cells")
@@ -37,13 +40,13 @@ def fault_sheets():
 
 
 def random_sheets(rng, count):
-    """So many random sound sheets within 48 cells, and a damaged copy of each."""
+    """So many random accepted sheets within 48 cells, some with loose nodes beside them, and a damaged copy of each."""
     sheets = {}
     for i in range(count):
-        data = from_facets(random_meshes.complex_of(rng, PROGRAM_COUNT_LIMIT))
-        sheets[f"random {i}"] = data
-        sheets[f"random {i} damaged"] = sheet_cases.damage(rng, data)
-    return sheets
+        sheets[f"random {i}"] = from_facets(random_meshes.complex_of(rng, PROGRAM_COUNT_LIMIT))
+        if i % LOOSE_EVERY == 0:
+            sheets[f"random {i} with loose nodes"] = from_facets(random_meshes.loose_complex_of(rng, PROGRAM_COUNT_LIMIT))
+    return {**sheets, **{f"{name} damaged": sheet_cases.damage(rng, data) for name, data in sheets.items()}}
 
 
 def file_name(name):
@@ -71,7 +74,7 @@ def main():
                                      formatter_class=argparse.RawDescriptionHelpFormatter)
     parser.add_argument("folder", type=Path, metavar="FOLDER", help="made if it does not exist")
     parser.add_argument("--random", type=int, default=200, metavar="N",
-                        help="random sheets, each also in a damaged copy (200)")
+                        help="random accepted sheets, each also in a damaged copy (200)")
     parser.add_argument("--seed", type=int, default=1, help="seed of the random sheets (1)")
     parser.add_argument("--outputs", action="store_true", help="write the program's output too")
     options = parser.parse_args()

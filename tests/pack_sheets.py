@@ -1,5 +1,5 @@
 #!/usr/bin/env python3
-"""Writes the input of crate sheet_cases and the output due, by the model: the sheets of checks 1 to 7 at both limits."""
+"""Writes the input of crate sheet_cases and the output due, by the model: the sheets of checks 1 to 7 and 18 at both limits."""
 
 import argparse
 from pathlib import Path

@@ -17,11 +17,12 @@ from checks.reductions import Reductions
 from checks.residues import Residues, TwistedLoops
 from checks.sheets import Boundaries, Sheets
 from checks.surfaces import SurfaceRefusalOrder, Surfaces, SurfaceSlices, TrackedColumns
+from checks.sweeps import LooseNodes, OrderOfTrial, Sweeps
 
 __all__ = ["Boundaries", "Calls", "Coordinates", "Headroom", "Imports", "ListRefusalOrder", "Lists",
-           "ListSlices", "Meshes", "NoChainsRefusalOrder", "Reductions", "RefusalOrder", "Reports",
-           "Residues", "Sheets", "SlicesOfCheck9", "SurfaceRefusalOrder", "Surfaces", "SurfaceSlices",
-           "TrackedColumns", "TwistedLoops"]
+           "ListSlices", "LooseNodes", "Meshes", "NoChainsRefusalOrder", "OrderOfTrial", "Reductions",
+           "RefusalOrder", "Reports", "Residues", "Sheets", "SlicesOfCheck9", "SurfaceRefusalOrder",
+           "Surfaces", "SurfaceSlices", "Sweeps", "TrackedColumns", "TwistedLoops"]
 
 if __name__ == "__main__":
     if {"-h", "--help"} & set(sys.argv[1:]):

@@ -19,10 +19,11 @@ def answer(call, *arguments, **choices):
     return 0
 
 
-def random_sheets(seed, count, count_limit=48):
-    """So many seeded random sheets."""
+def random_sheets(seed, count, count_limit=48, loose=False):
+    """So many seeded random sheets, each with loose nodes or none."""
     rng = random.Random(seed)
-    return [from_facets(random_meshes.complex_of(rng, count_limit)) for _ in range(count)]
+    complex_of = random_meshes.loose_complex_of if loose else random_meshes.complex_of
+    return [from_facets(complex_of(rng, count_limit)) for _ in range(count)]
 
 
 def residue(value, order):

@@ -1,4 +1,4 @@
-"""Checks of reports and coordinates, and of the order of refusals 1 to 13."""
+"""Checks of reports and coordinates, and of the order of refusals 1 to 13 and 18."""
 
 import random
 import unittest
@@ -9,7 +9,7 @@ from model import meshes, sheet_cases
 from model.homology import classes, coordinates, report, report_slots, work_slots
 from model.matrices import apply, boundary, identity, is_cycle
 from model.reduction import ENTRY_LIMIT, TooWide
-from model.sheet import from_facets, parse
+from model.sheet import LOOSE_VERTEX, TRIAL, first_tried, from_facets, parse
 
 
 class Reports(unittest.TestCase):
@@ -107,16 +107,16 @@ class Coordinates(unittest.TestCase):
 
 
 class RefusalOrder(unittest.TestCase):
-    """Each refusal of the coordinate call alone, and every two: the lower number is told."""
+    """Each refusal of the coordinate call alone, and every two: the one that is tried first is told."""
 
     call = staticmethod(coordinates)
-    numbers = range(1, 14)
+    numbers = TRIAL[:-1]
 
     def setting(self, numbers):
         draft = sheet_cases.Draft()
         faults = {number: edit for number, edit in sheet_cases.faults(256).values()}
         for number in sorted(numbers, reverse=True):
-            if number <= 7:
+            if number in faults:
                 faults[number](draft)
         edges = len(sheet_cases.Draft().sections[1])
         chain = [0] * edges
@@ -134,7 +134,11 @@ class RefusalOrder(unittest.TestCase):
         for number in self.numbers:
             self.assertEqual(answer(self.call, **self.setting({number})), number)
         for pair in combinations(self.numbers, 2):
-            self.assertEqual(answer(self.call, **self.setting(set(pair))), min(pair), pair)
+            self.assertEqual(answer(self.call, **self.setting(set(pair))), first_tried(pair), pair)
+
+    def test_18_is_told_after_7_and_before_8(self):
+        told = [answer(self.call, **self.setting({LOOSE_VERTEX, number})) for number in self.numbers]
+        self.assertEqual(told, [*range(1, 8), *[LOOSE_VERTEX] * (len(self.numbers) - 7)])
 
     def test_nothing_is_refused_without_a_fault(self):
         self.assertEqual(answer(self.call, **self.setting(set())), 0)

@@ -9,7 +9,7 @@ from checks.common import EDGE, FILLED, HOLLOW, answer, random_sheets
 from checks.homology import RefusalOrder
 from model import calls, list_cases, meshes
 from model.homology import coordinate_lists, coordinates, work_slots
-from model.sheet import from_facets, parse
+from model.sheet import TRIAL, from_facets, parse
 
 LOOP, BACK, OPEN = [1, -1, 1], [-2, 2, -2], [1, 0, 0]
 WIDE, WIDE_OPEN = [32768, -32768, 32768], [-32768, 0, 0]
@@ -153,10 +153,10 @@ class ListRefusalOrder(RefusalOrder):
 
 
 class NoChainsRefusalOrder(RefusalOrder):
-    """With no chains 1 to 10 and 13 apply; check 9 wants the work slice alone."""
+    """With no chains 1 to 10, 13 and 18 apply; check 9 wants the work slice alone."""
 
     call = staticmethod(coordinate_lists)
-    numbers = (*range(1, 11), 13)
+    numbers = tuple(number for number in TRIAL[:-1] if number not in (11, 12))
 
     def setting(self, numbers):
         choices = super().setting(numbers)

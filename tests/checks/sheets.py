@@ -1,11 +1,11 @@
-"""Checks of the sheet: its bytes, refusals 1 to 7, the boundary matrices."""
+"""Checks of the sheet: its bytes, refusals 1 to 7 and 18, the boundary matrices."""
 
 import struct
 import unittest
 from itertools import product
 
 from checks.common import EDGE, HOLLOW, random_sheets
-from model import sheet_cases
+from model import loose_cases, sheet_cases
 from model.matrices import boundary, multiply
 from model.sheet import closure, dump, from_facets, layout, parse, refusal, word
 
@@ -23,7 +23,7 @@ class Sheets(unittest.TestCase):
 
     def test_every_fault_and_every_two(self):
         for limit in (48, 256):
-            cases = {**sheet_cases.damaged(limit), **sheet_cases.at_limit(limit)}
+            cases = {**sheet_cases.damaged(limit), **sheet_cases.at_limit(limit), **loose_cases.sheets(limit)}
             for name, (data, due) in cases.items():
                 self.assertEqual(refusal(data, limit), due, (name, limit))
 

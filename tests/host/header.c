@@ -44,6 +44,20 @@ static int check_surface(void) {
     return fildwuk_get_number(surface, 0) == 1 && fildwuk_get_number(surface, 1) == 0 && fildwuk_get_number(surface, 2) == 0 ? 0 : 17;
 }
 
+/* The hollow triangle with a loose node. 0 where its report is refused with 18 and its sweep leaves SHEET and what is past it, else a number above 17. */
+static int check_sweep(void) {
+    static const uint8_t loose[36] = {4, 0, 16, 0, 3, 0, 24, 0, 0, 0, 36, 0, 0, 0, 36, 0, 0, 0, 1, 0, 2, 0, 9, 0, 0, 0, 1, 0, 0, 0, 2, 0, 1, 0, 2, 0};
+    static uint8_t swept[sizeof SHEET + 1];
+    swept[sizeof SHEET] = 7;
+    if (fildwuk_report(loose, sizeof loose, 4, swept, 0) != FILDWUK_VERTEX_LOOSE)
+        return 18;
+    if (fildwuk_sweep(loose, sizeof loose, swept, sizeof SHEET - 1) != FILDWUK_SHEET_TOO_LONG || swept[0] != 0)
+        return 19;
+    if (fildwuk_sweep(loose, sizeof loose, swept, sizeof swept) != FILDWUK_DONE || fildwuk_sheet_length(swept) != sizeof SHEET)
+        return 20;
+    return memcmp(swept, SHEET, sizeof SHEET) == 0 && swept[sizeof SHEET] == 7 ? 0 : 21;
+}
+
 /* The mesh text of the hollow triangle, whose sheet is SHEET. 0 where it is imported and refused as it must be, else a number above 9. */
 static int check_import(void) {
     static const char text[] = "$MeshFormat\n2.2 0 8\n$EndMeshFormat\n$Nodes\n3\n0 0 0 0\n1 1 0 0\n2 0 1 0\n$EndNodes\n"
@@ -71,5 +85,6 @@ int main(void) {
         return 4;
     const int lists = check_lists();
     const int surface = check_surface();
-    return lists != 0 ? lists : surface != 0 ? surface : check_import();
+    const int sweep = check_sweep();
+    return lists != 0 ? lists : surface != 0 ? surface : sweep != 0 ? sweep : check_import();
 }

@@ -89,9 +89,11 @@ static int as_single_calls(const struct request *r, struct left lists) {
     return due == lists.number;
 }
 
-/* Whether lists, or the refusal of a chain, are those of single calls. Without coefficients, and with a refusal before 11, there are none. */
+/* Whether lists, or the refusal of a chain, are those of single calls. Without coefficients, and with a refusal tried before 11, there are none. */
 static int lists_are_right(const struct request *r, struct left lists) {
-    if ((lists.number != 0 && lists.number < 11) || r->chains_len == 0)
+    const int chains_were_tried = lists.number == FILDWUK_DONE || lists.number == FILDWUK_COEFFICIENT_EXCEEDS ||
+                                  lists.number == FILDWUK_BOUNDARY_NOT_ZERO || lists.number == FILDWUK_TOO_WIDE;
+    if (!chains_were_tried || r->chains_len == 0)
         return 1;
     return r->number <= r->chains_len && r->chains_len <= r->output_len && as_single_calls(r, lists);
 }

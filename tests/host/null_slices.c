@@ -70,6 +70,9 @@ static void host_calls(void) {
     DUE(14, fildwuk_import(no.text, 0, lent.bytes, sizeof lent.bytes));
     DUE(14, fildwuk_import(no.text, 0, no.bytes, 0));
     DUE(16, fildwuk_import((const uint8_t *)TEXT, sizeof TEXT - 1, no.bytes, 0));
+    DUE(1, fildwuk_sweep(no.sheet, 0, lent.bytes, sizeof lent.bytes));
+    DUE(1, fildwuk_sweep(no.sheet, 0, no.bytes, 0));
+    DUE(16, fildwuk_sweep(SHEET, sizeof SHEET, no.bytes, 0));
 }
 
 static void library_calls(void) {
@@ -101,6 +104,9 @@ static void library_calls(void) {
     DUE(14, fildwuk_library_import(no.text, 0, lent.bytes, sizeof lent.bytes));
     DUE(14, fildwuk_library_import(no.text, 0, no.bytes, 0));
     DUE(16, fildwuk_library_import((const uint8_t *)TEXT, sizeof TEXT - 1, no.bytes, 0));
+    DUE(1, fildwuk_library_sweep(no.sheet, 0, lent.bytes, sizeof lent.bytes));
+    DUE(1, fildwuk_library_sweep(no.sheet, 0, no.bytes, 0));
+    DUE(16, fildwuk_library_sweep(SHEET, sizeof SHEET, no.bytes, 0));
 }
 
 int main(void) {

@@ -6,6 +6,7 @@ from model import homology, surface
 from model.headroom import bits
 from model.reduction import ENTRY_LIMIT
 from model.sheet import DIMENSIONS, LIBRARY_COUNT_LIMIT, PROGRAM_COUNT_LIMIT, Refused, refusal
+from model.sweep import sweep
 
 DONE = 0
 TOO_WIDE = 13
@@ -132,6 +133,15 @@ def host_surface(data, p, chain_bytes, lent):
     except Refused as refused:
         return refused.number, bytes(lent)
     return DONE, written(lent, numbers)
+
+
+def sweep_call(data, lent, count_limit):
+    """The sweep call of the host or of the library: its answer and the lent bytes after it."""
+    try:
+        sheet = sweep(data, count_limit, len(lent))
+    except Refused as refused:
+        return refused.number, bytes(lent)
+    return DONE, sheet + bytes(lent[len(sheet):])
 
 
 def dimension_lines(data, p, count_limit, limit):

@@ -1,7 +1,7 @@
 """The report and the coordinates of 01, the coordinate lists of Note 1 in 02, the peak of Note 4 and the residues of Note 5.
 
-Refusals 1 to 13 are tried in order. A slice length that is not given is long
-enough. Refusals are raised as Refused.
+Refusals 1 to 7, 18 and 8 to 13 are tried in this order. A slice length that is
+not given is long enough. Refusals are raised as Refused.
 """
 
 from dataclasses import dataclass
@@ -84,7 +84,7 @@ def shorter(length, needed):
 
 
 def admit(data, p, count_limit):
-    """The sheet in the bytes; raises Refused 1 to 8."""
+    """The accepted sheet in the bytes; raises Refused 1 to 7, 18 and 8."""
     sheet = parse(data, count_limit)
     if p >= DIMENSIONS:
         raise Refused(8)

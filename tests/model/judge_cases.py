@@ -8,7 +8,8 @@ from model import homology, meshes
 from model.judgement import Group, sign
 from model.matrices import boundary, transpose
 from model.mesh import NODES_OF_KIND
-from model.sheet import LIBRARY_COUNT_LIMIT, from_facets, parse
+from model.sheet import LIBRARY_COUNT_LIMIT, parse
+from model.sweep import swept_from_facets
 
 KIND_OF_NODES = {count: kind for kind, count in NODES_OF_KIND.items()}
 HEAD = ["$MeshFormat", "2.2 0 8", "$EndMeshFormat"]
@@ -71,7 +72,7 @@ def spread(rng, chain, cells):
 
 def combine(rng, facets, p):
     """A random cycle of dimension p: a combination of the generators, or of none, plus boundaries."""
-    data = from_facets(facets)
+    data = swept_from_facets(facets)
     sheet, report = parse(data, LIBRARY_COUNT_LIMIT), homology.report(data, p)
     chain = [0] * sheet.count(p)
     few = rng.choice([0, 1, 1, 1, 2, 3])
@@ -103,7 +104,7 @@ def make_elements(rng, facets, p):
 
 def good_family(rng, facets, p):
     """The elements of groups that are a basis of the free cycles, up to twisted parts and boundaries."""
-    data = from_facets(facets)
+    data = swept_from_facets(facets)
     sheet, report = parse(data, LIBRARY_COUNT_LIMIT), homology.report(data, p)
     t = len(report.orders)
     rows = [list(generator) for generator in report.generators[t:]]

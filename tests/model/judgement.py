@@ -10,7 +10,8 @@ from math import gcd, lcm
 
 from model import homology
 from model.matrices import apply, boundary
-from model.sheet import LIBRARY_COUNT_LIMIT, from_facets, parse
+from model.sheet import LIBRARY_COUNT_LIMIT, parse
+from model.sweep import swept_from_facets
 
 COEFFICIENT_LIMIT = 32767
 BASIS, NO_BASIS = True, False
@@ -151,7 +152,7 @@ def add_multiples(groups, orders, said):
 
 def judge(region, p, groups, tags):
     """What is said of the groups on the region with these facets and the tags of --region."""
-    data = from_facets(region)
+    data = swept_from_facets(region)
     sheet = parse(data, LIBRARY_COUNT_LIMIT)
     report = homology.report(data, p)
     chains = [opened(sheet, p, group) for group in groups]

@@ -1,14 +1,14 @@
-"""02, Note 3: a text in the form of MSH 2.2 ASCII, and the sheet of its cells and their faces."""
+"""02, Note 3: a text in the form of MSH 2.2 ASCII, and the sheet of its cells and their faces, which is swept (Note 7)."""
 
 import re
 from dataclasses import dataclass
 
 from model.sheet import VERTEX_LIMIT, Refused, closure, layout
+from model.sweep import SHEET_TOO_LONG, swept
 
 DONE = 0
 MESH_MALFORMED = 14
 ELEMENT_FAULTY = 15
-SHEET_TOO_LONG = 16
 
 # The number of nodes of each kind of element: a point, a line, a triangle, a tetrahedron.
 NODES_OF_KIND = {15: 1, 1: 2, 2: 3, 4: 4}
@@ -167,13 +167,13 @@ def facets_of(text):
 
 
 def sheet_within(sections, limit, room):
-    """The sheet of all cells, by dimension; raises Refused 16 where a count exceeds the limit or the sheet has more bytes than the room."""
+    """What the sweep leaves of the sheet of all cells, by dimension; raises Refused 16 where a count of all cells exceeds the limit or their sheet has
+    more bytes than the room."""
     if any(len(section) > limit for section in sections):
         raise Refused(SHEET_TOO_LONG)
-    sheet = layout(sections)
-    if len(sheet) > room:
+    if len(layout(sections)) > room:
         raise Refused(SHEET_TOO_LONG)
-    return sheet
+    return layout(swept(sections))
 
 
 def import_mesh(text, limit, room):

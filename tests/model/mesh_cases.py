@@ -1,13 +1,15 @@
-"""Texts for the import of 02, Note 3, by name, with what is due: each freedom of the form, faults alone and together, limits, long texts."""
+"""Texts for the import of 02, Note 3, by name, with what is due: each freedom of the form, faults alone and together, limits, long texts, points
+that the sweep of Note 7 drops."""
 
 from itertools import product
 
+from model import loose_cases
 from model.mesh_drafts import KEYWORDS, ODD_WORDS, SECTION_NAMES, Draft, Hand, line_of, looks_like_closing
 from model.mesh_faults import UNUSED, faults, put
-from model.sheet import DIMENSIONS
+from model.sheet import DIMENSIONS, LIBRARY_COUNT_LIMIT, PROGRAM_COUNT_LIMIT
 from model.sheet_cases import first_cells
 
-# Cells of every dimension, so that a fault finds an element of the kind that it names.
+# Cells of every dimension, so that a fault finds an element of the kind that it names. The point is in no edge.
 BASE_FACETS = [(0, 1, 2, 3), (1, 2, 3, 4), (5, 6, 7), (8, 9), (65535,), (2, 6)]
 
 
@@ -134,8 +136,11 @@ def free(rng):
 
 
 def at_limit(rng):
-    """Texts by name with their facets: no cells, and as many cells as a limit allows and one more, each element once and several times."""
-    facets = {"no elements": []}
+    """Texts by name with their facets: no cells, as many cells as a limit allows and one more, also with points that the sweep drops, each element
+    once and several times."""
+    facets = {"no elements": [], "a triangle and a point": [(1, 2, 3), (4,)], "two points": [(1,), (2,)]}
+    for limit in (PROGRAM_COUNT_LIMIT, LIBRARY_COUNT_LIMIT):
+        facets.update({**loose_cases.at_limit(limit), **loose_cases.above_limit(limit)})
     for count, p in product((47, 48, 49, 255, 256, 257), range(DIMENSIONS)):
         facets[f"{count} cells of dimension {p}"] = first_cells(p, count)
     facets["300 equal elements"] = [(1, 2, 3)] * 300

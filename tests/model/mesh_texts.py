@@ -2,7 +2,7 @@
 
 from itertools import combinations
 
-from model import meshes, random_meshes, sheet_cases
+from model import loose_cases, meshes, random_meshes, sheet_cases
 from model.mesh_drafts import KIND_OF_SIZE, MOST_DIGITS, SECTION_NAMES, Draft, Element, Hand, section, word
 from model.mesh_faults import faults
 from model.sheet import LIBRARY_COUNT_LIMIT, PROGRAM_COUNT_LIMIT, VERTEX_LIMIT
@@ -74,9 +74,12 @@ def draft_of(rng, hand, facets):
 
 
 def near_limit(rng):
-    """Cells of one dimension, as many as a limit allows or one more, with as few cells below as can be."""
-    count = rng.choice([PROGRAM_COUNT_LIMIT] * 5 + [LIBRARY_COUNT_LIMIT] * 2) + rng.choice([0, 1])
-    return sheet_cases.first_cells(rng.randrange(4), count)
+    """Cells of one dimension, as many as a limit allows or one more, with as few cells below as can be, or vertices of which some are loose."""
+    limit = rng.choice([PROGRAM_COUNT_LIMIT] * 5 + [LIBRARY_COUNT_LIMIT] * 2)
+    if rng.random() < 0.3:
+        made = rng.choice([loose_cases.at_limit, loose_cases.above_limit])(limit)
+        return rng.choice(list(made.values()))
+    return sheet_cases.first_cells(rng.randrange(4), limit + rng.choice([0, 1]))
 
 
 def beyond(rng):
@@ -88,7 +91,8 @@ def any_facets(rng):
     """The facets of a mesh: most are small, some near a limit or beyond."""
     chance = rng.random()
     if chance < 0.88:
-        return rng.choice(random_meshes.STYLES)(rng)
+        facets = rng.choice(random_meshes.STYLES)(rng)
+        return random_meshes.loosened(rng, facets) if rng.random() < 0.2 else facets
     if chance < 0.95:
         return near_limit(rng)
     return rng.choice(list(meshes.sized().values())) if chance < 0.985 else beyond(rng)

@@ -42,7 +42,7 @@ CASES = {
         (9, 15, 18), (9, 15, 20), (9, 16, 18), (11, 16, 18), (13, 18, 20), (14, 22, 23), (17, 23, 24), (19, 21, 23)]),
     # first matrix 1, V 1, inverse of V 1, product 1, second matrix 2, Q 1, G 1
     Holding("second matrix", at_end=False, negative=True, positive=False): (1, [
-        (0, 1, 2), (0, 1, 3), (0, 2, 4), (0, 3, 5), (1, 2, 5), (1, 3, 4), (1, 4, 5), (2, 3, 4), (2, 3, 5), (3, 4, 5)]),
+        (0, 1, 2), (0, 1, 3), (0, 2, 5), (0, 3, 4, 6), (1, 2, 6), (1, 3, 5), (1, 5, 6), (2, 3, 5), (2, 3, 6), (3, 5, 6)]),
     # first matrix 1, V 1, inverse of V 1, product 1, second matrix 2, Q 1, G 1
     Holding("second matrix", at_end=True, negative=False, positive=True): (1, [
         (0, 1, 2), (0, 1, 5), (0, 2, 4), (0, 3, 4), (0, 3, 5), (1, 2, 3), (1, 3, 4), (1, 4, 5), (2, 3, 5), (2, 4, 5)]),

@@ -68,12 +68,39 @@ def renumbered(rng, facets):
     return [tuple(image[v] for v in facet) for facet in facets]
 
 
+def swept(facets):
+    """The facets without the points that no other facet has, where one has an edge."""
+    used = {v for facet in facets if len(facet) > 1 for v in facet}
+    return [facet for facet in facets if len(facet) > 1 or facet[0] in used] if used else facets
+
+
+def loosened(rng, facets):
+    """The facets and one to four more points, before, beside or after their vertices or anywhere."""
+    used = {v for facet in facets for v in facet}
+    near = {v + step for v in used for step in (-256, -1, 1, 256)} | {0, VERTEX_LIMIT, rng.randint(0, VERTEX_LIMIT)}
+    free = sorted(v for v in near - used if 0 <= v <= VERTEX_LIMIT)
+    return facets + [(v,) for v in rng.sample(free, min(len(free), rng.randint(1, 4)))]
+
+
 STYLES = [scattered, dense, solid, glued, glued, joined, joined]
 
 
+def within(facets, count_limit):
+    """Whether the complex of the facets has at most so many cells in each dimension."""
+    return max(map(len, closure(facets))) <= count_limit
+
+
 def complex_of(rng, count_limit):
-    """The facets of a random complex with at most so many cells in each dimension."""
+    """The facets of a random complex without loose nodes and with at most so many cells in each dimension."""
     while True:
-        facets = renumbered(rng, rng.choice(STYLES)(rng))
-        if max(map(len, closure(facets))) <= count_limit:
+        facets = renumbered(rng, swept(rng.choice(STYLES)(rng)))
+        if within(facets, count_limit):
+            return facets
+
+
+def loose_complex_of(rng, count_limit):
+    """The same with loose nodes beside at least one edge."""
+    while True:
+        facets = loosened(rng, complex_of(rng, count_limit))
+        if max(map(len, facets)) > 1 and within(facets, count_limit):
             return facets

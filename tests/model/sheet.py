@@ -1,4 +1,4 @@
-"""The sheet of 01: its layout, refusals 1 to 7, building one and printing one."""
+"""The sheet of 01: its layout, refusals 1 to 7 and 18 (02, Note 7), building one and printing one."""
 
 import struct
 from dataclasses import dataclass
@@ -9,6 +9,10 @@ DIMENSIONS = 4
 LIBRARY_COUNT_LIMIT = 256
 PROGRAM_COUNT_LIMIT = 48
 VERTEX_LIMIT = 65535
+LOOSE_VERTEX = 18
+
+# The order in which the refusals of a call on a sheet are tried.
+TRIAL = (*range(1, 8), LOOSE_VERTEX, *range(8, 14), 17)
 
 
 class Refused(Exception):
@@ -80,7 +84,18 @@ def face_missing(sections):
     return False
 
 
-def parse(data, count_limit):
+def loose_vertices(sections):
+    """02, Note 7: the vertices in no edge, where there is an edge."""
+    used = {v for edge in sections[1] for v in edge}
+    return [cell for cell in sections[0] if cell[0] not in used] if used else []
+
+
+def first_tried(numbers):
+    """The refusal that is told where the faults of these numbers meet."""
+    return min(numbers, key=TRIAL.index)
+
+
+def read_cells(data, count_limit):
     """The sheet in the bytes; raises Refused 1 to 7, each tried over the whole sheet."""
     data = bytes(data)
     if len(data) < HEADER_BYTES:
@@ -102,6 +117,14 @@ def parse(data, count_limit):
     if face_missing(sections):
         raise Refused(7)
     return Sheet(tuple(sections))
+
+
+def parse(data, count_limit):
+    """The accepted sheet in the bytes; raises Refused 1 to 7 and then 18."""
+    sheet = read_cells(data, count_limit)
+    if loose_vertices(sheet.sections):
+        raise Refused(LOOSE_VERTEX)
+    return sheet
 
 
 def refusal(data, count_limit):

@@ -1,13 +1,16 @@
-"""Sheets for the checks 1 to 7: sound ones, each fault alone, and every two faults together."""
+"""Sheets for the checks 1 to 7 and 18: sound ones, each fault alone, and every two faults together."""
 
 from dataclasses import dataclass, field
 from itertools import combinations, islice
 from math import comb
 
-from model.sheet import DIMENSIONS, closure, layout, section_starts
+from model.sheet import DIMENSIONS, LOOSE_VERTEX, VERTEX_LIMIT, closure, first_tried, layout, section_starts
 
-# The last cell of each section is a face of no other, so that a fault in it is the only one.
-BASE_FACETS = [(0, 1, 2, 3), (1, 2, 3, 4), (5, 6, 7), (8, 9), (10,)]
+# The last cell of each section above 0 is a face of no other, so that a fault in it is the only one.
+BASE_FACETS = [(1, 2, 3, 4), (2, 3, 4, 5), (6, 7, 8), (10, 11)]
+
+# Vertices that are in no facet: before, between and after the others.
+LOOSE = [(0,), (9,), (12,), (VERTEX_LIMIT,), (0, 9, 12)]
 
 
 @dataclass
@@ -97,6 +100,13 @@ def drop_face(cell):
     return edit
 
 
+def add_loose(vertices):
+    """Fault 18: vertices in no edge."""
+    def edit(draft):
+        draft.sections[0] = sorted(draft.sections[0] + [(v,) for v in vertices])
+    return edit
+
+
 def faults(count_limit):
     """Every edit by name, with the number of the check that it alone fails."""
     edits = {f"{kept} bytes": (1, cut_header(kept)) for kept in (0, 1, 15)}
@@ -111,8 +121,10 @@ def faults(count_limit):
     for p in range(1, DIMENSIONS):
         edits[f"cell turned in {p}"] = (5, turn_cell(p))
         edits[f"vertex twice in {p}"] = (5, repeat_vertex(p))
-    for cell in ((2,), (4,), (1, 3), (3, 4), (0, 2, 3), (2, 3, 4), (5, 7), (9,)):
+    for cell in ((3,), (5,), (2, 4), (4, 5), (1, 3, 4), (3, 4, 5), (6, 8), (11,)):
         edits[f"face {'-'.join(map(str, cell))} missing"] = (7, drop_face(cell))
+    for vertices in LOOSE:
+        edits[f"vertices {', '.join(map(str, vertices))} loose"] = (LOOSE_VERTEX, add_loose(vertices))
     return edits
 
 
@@ -128,7 +140,7 @@ def damaged(count_limit):
         # Faults in cells are put in by falling number, so that each finds the cells it names.
         for name in sorted(names, key=lambda name: -edits[name][0]):
             edits[name][1](draft)
-        sheets[", ".join(names)] = (draft.bytes(), min(numbers))
+        sheets[", ".join(names)] = (draft.bytes(), first_tried(numbers))
     return sheets
 
 
@@ -146,14 +158,20 @@ def full_in(p, count):
     return layout(closure(first_cells(p, count)))
 
 
+def filled(facets, p, count):
+    """The facets and as many of the first cells of dimension p as give so many."""
+    present = set(closure(facets)[p])
+    missing = [cell for cell in first_cells(p, 2 * count) if cell not in present]
+    return facets + missing[:count - len(present)]
+
+
 def full(count):
-    """A sheet with so many cells in each dimension."""
-    facets = first_cells(3, count)
-    for p in (2, 1, 0):
-        present = set(closure(facets)[p])
-        missing = [cell for cell in first_cells(p, 2 * count) if cell not in present]
-        facets = facets + missing[:count - len(present)]
-    return layout(closure(facets))
+    """A sheet with so many cells in each dimension, at least 48, and no loose vertex."""
+    facets = filled(first_cells(3, count), 2, count)
+    new = list(range(len(closure(facets)[0]), count))
+    if len(new) % 2:
+        new.append(0)
+    return layout(closure(filled(facets + list(zip(new[0::2], new[1::2])), 1, count)))
 
 
 def at_limit(count_limit):

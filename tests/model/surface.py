@@ -1,6 +1,6 @@
 """Note 6 of 02: the surface that a cycle bounds, a chain of the next dimension whose boundary is the cycle.
 
-Refusals 1 to 13 and then 17 are tried. A slice length that is not given is long enough. Refusals are raised as Refused.
+Refusals 1 to 7, 18, 8 to 13 and 17 are tried in this order. A slice length that is not given is long enough. Refusals are raised as Refused.
 """
 
 from model import homology
