@@ -10,7 +10,7 @@ crate `demands` is checked without the proofs of the claims, and an error is wan
     NAME way                a kind of report, of coordinates or of counts that the claims are about is left out
     NAME ↔ n, NAME ↔ n back the nth equivalence of a claim or record keeps one direction only
     FILE: text              a text is replaced by this one, which says less
-    contract NAME           a public contract says less and its proof follows; crate `clients`, which calls each public function, is checked
+    contract NAME           a public contract says less and its proof follows; crate `clients` or `sweep_client`, which call the public functions, is checked
     control NAME            no weakening: the copy of another crate's record is as good as the record itself, so that no use is refused
 WORD: only the weakenings whose name has it. --list: the names. Takes some 8 minutes for all on two free cores; ends with 1 if one goes unseen.
 """
@@ -28,7 +28,10 @@ WEAK = "Rattle.demands.specs.Weak"
 
 # records of other crates that claims conclude with, each with the definitions between it and the claims: all are copied
 SHADOWS = {
+    "IsLayout": [("sheet_format", "Sheet", ["IsLayout", "IsSheet"])],
     "IsSheet": [("sheet_format", "Sheet", ["IsSheet"])],
+    "NoLooseNodes": [("complexes", "Loose", ["NoLooseNodes"]), ("sheet_format", "Sheet", ["IsSheet"])],
+    "InEdge": [("complexes", "Loose", ["InEdge", "NoLooseNodes"]), ("sheet_format", "Sheet", ["IsSheet"]), ("sweeps", "Swept", ["StaysIn", "IsSwept", "SweptSheet"])],
     "Outcome": [("answers", "Outcome", ["Outcome"])],
     "NoCycle": [("answers", "Outcome", ["NoCycle"])],
     "Carries": [("answers", "Outcome", ["Carries"])],
@@ -40,17 +43,35 @@ SHADOWS = {
     "HasCounts": [("answers", "Right", ["HasCounts"])],
     "DimensionPrinted": [("answers", "Printed", ["DimensionPrinted", "DimensionsPrinted"])],
     "DimensionsPrinted": [("answers", "Printed", ["DimensionsPrinted"])],
+    "WrittenSheet": [("sheet_format", "Written", ["WrittenSheet"]), ("sweeps", "Swept", ["SweptSheet"]), ("imports", "Sheet", ["ImportedSheet"])],
+    "StaysIn": [("sweeps", "Swept", ["StaysIn", "IsSwept", "SweptSheet"])],
+    "IsSwept": [("sweeps", "Swept", ["IsSwept", "SweptSheet"]), ("imports", "Sheet", ["ImportedSheet"])],
+    "SweptSheet": [("sweeps", "Swept", ["SweptSheet"])],
     "ImportedSheet": [("imports", "Sheet", ["ImportedSheet"])],
 }
 # records of `demands`
-OWN = {"ListSingle": "Calls", "RightReport": "Answers", "HeadroomBits": "Headroom", "NoneFor": "Headroom", "AtEntryLimit": "Headroom", "HasCells": "Meshes",
+OWN = {"HasSwept": "Sweeps", "ListSingle": "Calls", "RightReport": "Answers", "HeadroomBits": "Headroom", "NoneFor": "Headroom", "AtEntryLimit": "Headroom", "HasCells": "Meshes",
        "SomeNonzero": "Surfaces"}
 WAYS = {"ReportOf": "Answers", "CoordinatesOf": "Answers", "SurfaceOf": "Surfaces", "SurfaceTold": "Surfaces"}
 
 # a file of `demands`, or the name of a shadow: a text, and one that says less
 LESS = [
-    ("Sheets", "limit ≤ libraryLimit → (b : List ℕ) → Bytes b", "limit < libraryLimit → (b : List ℕ) → Bytes b"),
-    ("Sheets", "limit ≤ libraryLimit → (b : List ℕ) (sheet", "limit < libraryLimit → (b : List ℕ) (sheet"),
+    ("Sheets", "limit ≤ libraryLimit → (b : List ℕ) → Bytes b → (refusal limit b ≡ 0)", "limit < libraryLimit → (b : List ℕ) → Bytes b → (refusal limit b ≡ 0)"),
+    ("Sheets", "limit ≤ libraryLimit → (b : List ℕ) (laid", "limit < libraryLimit → (b : List ℕ) (laid"),
+    ("Sheets", "limit ≤ libraryLimit → (b : List ℕ) → Bytes b → (complexRefusal", "limit < libraryLimit → (b : List ℕ) → Bytes b → (complexRefusal"),
+    ("Sheets", "(complexRefusal limit b ≡ 0) × (NoLooseNodes", "(Unit {0}) × (NoLooseNodes"),
+    ("Sheets", "× (NoLooseNodes (sectionsOf b) → ⊥)", "× (Unit {0})"),
+    ("Sweeps", "length slice < length (layout L))", "suc (length slice) < length (layout L))"),
+    ("Sweeps", "length (layout L) ≤ length slice", "length (layout L) < length slice"),
+    ("Sweeps", "record { answer = done (length (layout L)); output = layout L", "record { answer = sweepCall limit b slice .answer; output = layout L"),
+    ("Sweeps", "output = layout L ++ drop (length (layout L)) slice }", "output = sweepCall limit b slice .output }"),
+    ("Sweeps", "length b ≤ length slice", "length b < length slice"),
+    ("Sweeps", "record { answer = done (length b); output = b ++", "record { answer = sweepCall limit b slice .answer; output = b ++"),
+    ("Sweeps", "output = b ++ drop (length b) slice }", "output = sweepCall limit b slice .output }"),
+    ("Sweeps", "→ n ≤ length slice′", "→ n < length slice′"),
+    ("Sweeps", "limit ≤ libraryLimit → Bytes b → (n : ℕ) → sweepCall", "limit < libraryLimit → Bytes b → (n : ℕ) → sweepCall"),
+    ("StaysIn", "p ≡ 0 → 0 < count K 1", "p ≡ 0 → 1 < count K 1"),
+    ("NoLooseNodes", "0 < count K 1 → (i : ℕ) → i < count K 0", "0 < count K 1 → (i : ℕ) → suc i < count K 0"),
     ("Calls", "j < counts .torsion + counts .free", "suc j < counts .torsion + counts .free"),
     ("Calls", " i < many →", " suc i < many →"),
     ("Calls", "cellCount q ≤ length output′", "cellCount q < length output′"),
@@ -138,6 +159,14 @@ CONTRACTS = {
         (LIBRARY + "specs/LibraryAnswers.antt", "told called ≡ (r, output, work)", "told called ≡ (r, output)"),
         (LIBRARY + "proofs/Told.antt", "(λ i. (sym e i, output, work))", "(λ i. (sym e i, output))"),
         (LIBRARY + "proofs/Told.antt", "called-told {output = output} {work = work} a e", "called-told {output = output} a e"),
+    ],
+    "WriteTold without its output": [
+        ("crates/refusal/specs/Written.antt", "  pub number-is : r ≡ numberTold (called .answer)\n  pub output-is : output ≡ called .output", "  pub number-is : r ≡ numberTold (called .answer)"),
+        ("crates/refusal/proofs/Told.antt", "record { number-is = e ∙ ap numberTold (a .answer); output-is = a .output-is }", "record { number-is = e ∙ ap numberTold (a .answer) }"),
+    ],
+    "WriteTold without its number": [
+        ("crates/refusal/specs/Written.antt", "  pub number-is : r ≡ numberTold (called .answer)\n", ""),
+        ("crates/refusal/proofs/Told.antt", "record { number-is = e ∙ ap numberTold (a .answer); output-is = a .output-is }", "record { output-is = a .output-is }"),
     ],
     "print_input for inputs that fit the array": [
         ("crates/printer/src/lib.rt", "((b : List ℕ) → take (length held) b", "((b : List ℕ) → length b ≤ length held → take (length held) b"),
@@ -253,7 +282,7 @@ def shadow(room, name, change):
 
 
 def is_use(name):
-    return name.startswith("Use") or name in ("Filled.antt", "Hollow.antt", "Plane.antt")
+    return name.startswith("Use") or name in ("Filled.antt", "Hollow.antt", "Loose.antt", "Plane.antt")
 
 
 HALVES = """
@@ -392,7 +421,7 @@ def main():
             shutil.copytree(kept, os.path.join(room, "crates/demands"))
             edit(room)
             contract = label.startswith("contract ")
-            folder = "clients/proofs/" if contract else "demands/proofs/"
+            folder = ("sweep_client/proofs/" if "WriteTold" in label else "clients/proofs/") if contract else "demands/proofs/"
             done = subprocess.run(["rt", "dev", folder.split("/")[0]], cwd=room, stdout=subprocess.PIPE, stderr=subprocess.STDOUT, text=True)
             files = re.findall(r"/crates/(\S+?)\.antt:\d+:\d+: error", done.stdout)
             broken = sorted({f for f in files if not f.startswith(folder)})

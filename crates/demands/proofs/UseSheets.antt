@@ -1,13 +1,13 @@
 -- Uses of the claims on acceptance: the hollow triangle is a sheet at the limit 3, with its cells, and none at the limit 2; an edge with a loose node is the
 -- layout of a complex, and is refused with 18; two vertices without an edge are accepted.
-use mathlib.Core.Path.{_≡_, refl, sym, _∙_}
-use mathlib.Core.List.{List}
+use mathlib.Core.Path.{_≡_, refl, sym, _∙_, subst}
+use mathlib.Core.List.{List, [], _∷_}
 use Prim.Native.Nat.{ℕ}
 use native.Mathlib.Omega.{arith}
 use Rattle.lists.specs.Tabulate.{tabulate}
 use Rattle.complexes.specs.Cell.{without, same, rises, precedes, listed}
 use Rattle.complexes.specs.Complex.{Complex}
-use Rattle.complexes.specs.Loose.{NoLooseNodes}
+use Rattle.complexes.specs.Loose.{InEdge, NoLooseNodes}
 use Rattle.sheet_format.specs.Layout.{start, layout, top}
 use Rattle.sheet_format.specs.Check.{countField, offsetField, cellOf, cellsOf, sectionsOf, some, verticesDoNotRise, cellsDoNotRise, faceMissing, complexRefusal, refusal}
 use Rattle.sheet_format.specs.Sheet.{Bytes, IsLayout, IsSheet}
@@ -25,8 +25,11 @@ module _ (acceptance : Acceptance) where
   complex : Complex top 3 (is-sheet .laid .cells)
   complex = is-sheet .laid .complex
 
-  used : NoLooseNodes (is-sheet .laid .cells)
-  used = is-sheet .used
+  -- the vertex 0 stands in an edge
+  used : SheetCells → InEdge hollowCells (0 ∷ [])
+  unfolding sectionsOf cellsOf cellOf countField start tabulate
+  used sheetCells =
+      subst NoLooseNodes (sheetCells 3 (omega arith) hollowTriangle (is-sheet .laid)) (is-sheet .used) .used (omega arith) 0 (omega arith)
 
   bytes : layout (is-sheet .laid .cells) ≡ hollowTriangle
   bytes = is-sheet .laid .bytes

@@ -12,7 +12,7 @@ use Rattle.sheet_format.specs.Sheet.{Bytes}
 use Rattle.program_text.specs.Text.{refusalLine, programText}
 use Rattle.answers.specs.Printed.{DimensionsPrinted}
 
--- 01, "A sheet refused by 1 to 7 gives the single line `R` and the number", and no other sheet does
+-- 01, "A sheet refused by 1 to 7 gives the single line `R` and the number", and no other sheet does; 02, Note 7, "18 ..; the program prints it too"
 abbrev pub ProgramRefuses : Type 0
 ProgramRefuses = (b : List ℕ) (k : ℕ) → k ≢ 0 → (programText b ≡ refusalLine k) ↔ (refusal hostLimit b ≡ k)
 

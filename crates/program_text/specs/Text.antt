@@ -54,7 +54,7 @@ unfoldable pub dimensionsText : List ℕ → ℕ → ℕ → List ℕ
 dimensionsText b zero p = []
 dimensionsText b (suc more) p = dimensionText p (cellCount (asked b p)) (two (asked b p) noTransforms) ++ dimensionsText b more (suc p)
 
--- a sheet refused by 1 to 7 gives the single line `R` and the number, any other a text for each dimension
+-- a sheet refused by 1 to 7 or 18 gives the single line `R` and the number, any other a text for each dimension
 unfoldable pub textFor : ℕ → List ℕ → List ℕ
 textFor zero b = dimensionsText b (suc top) 0
 textFor (suc n) b = refusalLine (suc n)

@@ -2,6 +2,7 @@
 use mathlib.Core.List.{List, [], _∷_}
 use Prim.Native.Nat.{ℕ}
 use Rattle.sheet_format.specs.Starred.{hollowTriangle, fifteenBytes, edgeReversed, edgeWithoutVertex}
+use Rattle.sheet_format.specs.OrderCases.{edgeAndNode}
 
 -- ---- the texts
 
@@ -36,4 +37,6 @@ textCases =
     ∷ record { sheet = edgeReversed; text = 82 ∷ 32 ∷ 53 ∷ 10 ∷ [] }
     -- R 7
     ∷ record { sheet = edgeWithoutVertex; text = 82 ∷ 32 ∷ 55 ∷ 10 ∷ [] }
+    -- R 18
+    ∷ record { sheet = edgeAndNode; text = 82 ∷ 32 ∷ 49 ∷ 56 ∷ 10 ∷ [] }
     ∷ []

@@ -81,7 +81,7 @@ workSlots K p = count K p * (2 * count K p + max (countBelow K p) (count K (suc 
 abbrev pub workSlotsFor : Transforms → Sections → ℕ → ℕ
 workSlotsFor t K p = cond (t .secondColumns) (workSlots K p + count K (suc p) * count K (suc p)) (workSlots K p)
 
--- 1 to 9, at a count limit: an output of `slots` slots and a work slice of `space` slots are wanted, and so many are lent
+-- 1 to 7, 18, 8 and 9, at a count limit: an output of `slots` slots and a work slice of `space` slots are wanted, and so many are lent
 unfoldable pub callChecks : ℕ → Question → ℕ → ℕ → ℕ → ℕ → List (ℕ × Bool)
 callChecks limit q slots space output work =
     sheetChecks limit (q .sheet)

@@ -3,6 +3,7 @@ use mathlib.Core.List.{List, [], _∷_}
 use Prim.Native.Nat.{ℕ}
 use lib.IntN.{pos}
 use Rattle.sheet_format.specs.Starred.{noCells, oneVertex, edgeSheet, hollowTriangle, filledTriangle}
+use Rattle.sheet_format.specs.OrderCases.{twoVertices}
 use Rattle.trials.specs.Trial.{done}
 use Rattle.requests.specs.Call.{report, coordinates}
 use Rattle.starred.specs.Case.{Case, counts, minus, nines, zeros}
@@ -45,6 +46,11 @@ reportCases =
     record {
       call = record { sheet = oneVertex; dimension = 0; request = report; output = nines 4; work = nines 2 };
       expected = record { answer = done (counts 1 0 1 1); output = pos 1 ∷ pos 0 ∷ pos 1 ∷ nines 1; work = zeros 2 };
+    }
+    -- two vertices and no edge, dimension 0
+    ∷ record {
+      call = record { sheet = twoVertices; dimension = 0; request = report; output = nines 8; work = nines 8 };
+      expected = record { answer = done (counts 2 0 1 1); output = pos 2 ∷ pos 0 ∷ pos 1 ∷ pos 0 ∷ pos 0 ∷ pos 1 ∷ nines 2; work = zeros 8 };
     }
     -- the edge 01, dimension 0
     ∷ record {

@@ -1,8 +1,9 @@
--- Calls that are refused: the starred ones of document 01, and 9 to 11. Where two refusals apply to a call, the earlier is told.
+-- Calls that are refused: the starred ones of document 01, 18, and 9 to 11. Where two refusals apply to a call, the earlier is told.
 use mathlib.Core.List.{List, [], _∷_}
 use lib.IntN.{pos}
 use Rattle.sheet_format.specs.Starred.{edgeSheet, hollowTriangle, fifteenBytes, edgeWithoutVertex, edgeReversed}
-use Rattle.requests.specs.Call.{report, coordinates}
+use Rattle.sheet_format.specs.OrderCases.{faceAndLooseNode, edgeAndNode}
+use Rattle.requests.specs.Call.{report, coordinates, lists, surface}
 use Rattle.starred.specs.Case.{Case, minus, nines, refuses}
 
 abbrev pub sheetCases : List Case
@@ -18,6 +19,18 @@ sheetCases =
     ∷ refuses 7 (record { sheet = edgeWithoutVertex; dimension = 0; request = coordinates (pos 4 ∷ []); output = nines 2; work = nines 10 })
     ∷ refuses 7 (record { sheet = edgeWithoutVertex; dimension = 4; request = report; output = nines 8; work = nines 10 })
     ∷ refuses 7 (record { sheet = edgeWithoutVertex; dimension = 0; request = coordinates []; output = []; work = nines 1 })
+    ∷ []
+
+abbrev pub looseCases : List Case
+looseCases =
+    -- an edge and a loose node, also with dimension 4
+    refuses 18 (record { sheet = edgeAndNode; dimension = 0; request = report; output = nines 14; work = nines 21 })
+    ∷ refuses 18 (record { sheet = edgeAndNode; dimension = 4; request = report; output = nines 14; work = nines 21 })
+    ∷ refuses 18 (record { sheet = edgeAndNode; dimension = 0; request = coordinates (pos 4 ∷ pos 3 ∷ pos 2 ∷ []); output = nines 3; work = nines 21 })
+    ∷ refuses 18 (record { sheet = edgeAndNode; dimension = 0; request = lists 0 []; output = []; work = nines 21 })
+    ∷ refuses 18 (record { sheet = edgeAndNode; dimension = 0; request = surface (minus 1 ∷ pos 0 ∷ pos 1 ∷ []); output = nines 1; work = nines 22 })
+    -- a missing face and a loose node, with dimension 4
+    ∷ refuses 7 (record { sheet = faceAndLooseNode; dimension = 4; request = report; output = nines 8; work = nines 10 })
     ∷ []
 
 abbrev pub dimensionCases : List Case

@@ -34,13 +34,13 @@ use Rattle.requests.proofs.ListsLaws.{no-cells}
 use Rattle.starred.specs.Same.{sameSlice, sameCounts, sameAnswer, sameCalled}
 use Rattle.starred.specs.Case.{Case, good, counts, nines, zeros}
 use Rattle.starred.specs.DoneCases.{noCellsCases, reportCases, coordinateCases}
-use Rattle.starred.specs.RefusedCases.{sheetCases, dimensionCases, sliceCases, chainCases}
+use Rattle.starred.specs.RefusedCases.{sheetCases, looseCases, dimensionCases, sliceCases, chainCases}
 use Rattle.starred.specs.ListCases.{listCases}
 use Rattle.starred.specs.SurfaceCases.{surfaceDoneCases, boundsNothingCases, surfaceRefusedCases}
 
 -- the table
 abbrev pub cases : List Case
-cases = noCellsCases ++ (reportCases ++ (coordinateCases ++ (sheetCases ++ (dimensionCases ++ (sliceCases ++ (chainCases ++ (listCases ++ (surfaceDoneCases ++ (boundsNothingCases ++ surfaceRefusedCases)))))))))
+cases = noCellsCases ++ (reportCases ++ (coordinateCases ++ (sheetCases ++ (looseCases ++ (dimensionCases ++ (sliceCases ++ (chainCases ++ (listCases ++ (surfaceDoneCases ++ (boundsNothingCases ++ surfaceRefusedCases))))))))))
 
 pub starred-sheets-and-calls : T (every good cases)
 unfolding every good sameCalled sameAnswer sameCounts sameSlice sameList sameNumber
