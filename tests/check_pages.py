@@ -14,7 +14,7 @@ import tempfile
 from pathlib import Path
 
 # The name of a file with one of the endings that the sources have, and a path in one of their folders.
-NAMED = re.compile(r"(?<![\w<$./-])(?:[\w.-]+/)*[\w-]+\.(?:md|c|h|py|antt|rt|txt|msh|geo|sheet|a|so|pc|cmake|(?<=[a-z]\.)1)\b(?!>)")
+NAMED = re.compile(r"(?<![\w<$./*-])(?:[\w.-]+/)*[\w-]+\.(?:md|c|h|py|antt|rt|txt|msh|geo|sheet|a|so|pc|cmake|(?<=[a-z]\.)1)\b(?!>)")
 FOLDERS = ("crates", "tests", "bench", "tools", "docs", "examples", "target", "package", "include")
 IN_FOLDERS = re.compile(rf"(?<![\w/])(?:{'|'.join(FOLDERS)})/[\w./-]*\w")
 

@@ -4,7 +4,7 @@ usage: python3 tests/reading.py [--names]
 
 Starts at the claims (crates/demands/specs) and at the `ensures` of the public functions, and follows every name to its definition in the repository;
 names of the kit are not followed. Lines of definitions are counted; blank lines, comments and `use` lines are not. Each part is counted without what
-an earlier one has. What the calls, the import and the program compute is not opened: the contracts say that the code does it, and the claims say what
+an earlier one has. What the calls, the sweep, the import and the program compute is not opened: the contracts say that the code does it, and the claims say what
 it is. The consequences follow from the other claims and are counted apart.
 """
 import os
@@ -12,7 +12,7 @@ import re
 import sys
 
 ROOT = os.path.join(os.path.dirname(os.path.abspath(__file__)), "..", "crates")
-COMPUTED = {"call", "hostCall", "importCall", "programText"}
+COMPUTED = {"call", "hostCall", "sweepCall", "importCall", "programText"}
 CLAIMS = [
     ("the sheet", "Sheets"),
     ("the answers are right", "Answers"),
@@ -20,6 +20,7 @@ CLAIMS = [
     ("the headroom", "Headroom"),
     ("the surfaces", "Surfaces"),
     ("the host calls", "Host"),
+    ("the sweep", "Sweeps"),
     ("the mesh text and its import", "Meshes"),
     ("the program", "Program"),
     ("cells compared as words", "Words"),
@@ -33,10 +34,11 @@ PUBLIC = [
     ("calls/src/report.rt", ["report"]),
     ("calls/src/coordinates.rt", ["coordinate_lists", "coordinates"]),
     ("calls/src/surface.rt", ["surface"]),
+    ("sweeper/src/sweep.rt", ["sweep"]),
     ("importer/src/import.rt", ["import"]),
-    ("fildwuk/src/lib.rt", ["fildwuk_report", "fildwuk_coordinate_lists", "fildwuk_coordinates", "fildwuk_surface", "fildwuk_import"]),
+    ("fildwuk/src/lib.rt", ["fildwuk_report", "fildwuk_coordinate_lists", "fildwuk_coordinates", "fildwuk_surface", "fildwuk_sweep", "fildwuk_import"]),
     ("library_host/src/lib.rt", ["fildwuk_library_report", "fildwuk_library_headroom", "fildwuk_library_coordinates",
-                                 "fildwuk_library_coordinate_lists", "fildwuk_library_surface", "fildwuk_library_import"]),
+                                 "fildwuk_library_coordinate_lists", "fildwuk_library_surface", "fildwuk_library_sweep", "fildwuk_library_import"]),
     ("printer/src/lib.rt", ["print_input"]),
 ]
 TOKEN = re.compile(r"[^\s(){}\[\];,λ⟦⟧⌜⌝]+")

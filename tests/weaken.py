@@ -58,7 +58,7 @@ WAYS = {"ReportOf": "Answers", "CoordinatesOf": "Answers", "SurfaceOf": "Surface
 LESS = [
     ("Sheets", "limit ≤ libraryLimit → (b : List ℕ) → Bytes b → (refusal limit b ≡ 0)", "limit < libraryLimit → (b : List ℕ) → Bytes b → (refusal limit b ≡ 0)"),
     ("Sheets", "limit ≤ libraryLimit → (b : List ℕ) (laid", "limit < libraryLimit → (b : List ℕ) (laid"),
-    ("Sheets", "limit ≤ libraryLimit → (b : List ℕ) → Bytes b → (complexRefusal", "limit < libraryLimit → (b : List ℕ) → Bytes b → (complexRefusal"),
+    ("Sweeps", "limit ≤ libraryLimit → (b : List ℕ) → Bytes b → (complexRefusal", "limit < libraryLimit → (b : List ℕ) → Bytes b → (complexRefusal"),
     ("Sheets", "(complexRefusal limit b ≡ 0) × (NoLooseNodes", "(Unit {0}) × (NoLooseNodes"),
     ("Sheets", "× (NoLooseNodes (sectionsOf b) → ⊥)", "× (Unit {0})"),
     ("Sweeps", "length slice < length (layout L))", "suc (length slice) < length (layout L))"),

@@ -8,18 +8,15 @@ use Prim.Native.Nat.{ℕ}
 use Rattle.complexes.specs.Loose.{NoLooseNodes}
 use Rattle.sheet_format.specs.Check.{sectionsOf, looseNode, complexRefusal}
 use Rattle.sheet_format.specs.Sheet.{Bytes}
-use Rattle.sheet_format.proofs.Accept.{accepted-iff, laid-iff, laid-complex, sections-layout}
-use Rattle.sheet_format.proofs.LooseLaws.{looseNode-false, refusal-18, refusal-edgeless}
-use Rattle.demands.specs.Sheets.{Acceptance, SheetCells, Layouts, LooseRefused, EdgelessSheets}
+use Rattle.sheet_format.proofs.Accept.{accepted-iff, laid-complex, sections-layout}
+use Rattle.sheet_format.proofs.LooseLaws.{looseNode-false, refusal-18}
+use Rattle.demands.specs.Sheets.{Acceptance, SheetCells, LooseRefused}
 
 pub acceptance : Acceptance
 acceptance = accepted-iff
 
 pub sheetCells : SheetCells
 sheetCells limit small b s = sym (sections-layout (s .complex) small) ∙ ap sectionsOf (s .bytes)
-
-pub layouts : Layouts
-layouts = laid-iff
 
 -- a node is loose exactly when not all of them are used
 loose-iff : (limit : ℕ) (b : List ℕ) → Bytes b → complexRefusal limit b ≡ 0 → (looseNode (sectionsOf b) ≡ true) ↔ (NoLooseNodes (sectionsOf b) → ⊥)
@@ -32,6 +29,3 @@ looseRefused limit b bytes = (
   λ e. let k = refusal-18 limit b .0 e in (k .0, loose-iff limit b bytes (k .0) .0 (k .1)),
   λ h. refusal-18 limit b .1 (h .0, loose-iff limit b bytes (h .0) .1 (h .1)),
 )
-
-pub edgelessSheets : EdgelessSheets
-edgelessSheets = refusal-edgeless

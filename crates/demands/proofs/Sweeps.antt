@@ -1,9 +1,14 @@
 -- The claims on the sweep.
 use mathlib.Core.Path.{sym, _∙_}
+use Rattle.sheet_format.proofs.Accept.{laid-iff}
+use Rattle.sheet_format.proofs.LooseLaws.{refusal-edgeless}
 use Rattle.sweeps.specs.Sweep.{swept}
 use Rattle.sweeps.proofs.SweptLaws.{swept-is, swept-complex, swept-unique}
 use Rattle.sweeps.proofs.SweepLaws.{sweep-told, sweep-short, sweep-done, sweep-left, sweep-sheet, sweep-number, sweep-same, sweep-twice}
-use Rattle.demands.specs.Sweeps.{SweepRefused, SweptCells, SweptUnique, SweepTooShort, SweepDone, SweepLeft, SweepSheet, HostSweepSheet, SweepUnchanged, SweepTwice}
+use Rattle.demands.specs.Sweeps.{Layouts, SweepRefused, SweptCells, SweptUnique, SweepTooShort, SweepDone, SweepLeft, SweepSheet, HostSweepSheet, EdgelessSheets, SweepUnchanged, SweepTwice}
+
+pub layouts : Layouts
+layouts = laid-iff
 
 pub sweepRefused : SweepRefused
 sweepRefused = sweep-told
@@ -28,6 +33,9 @@ sweepSheet = sweep-sheet
 
 pub hostSweepSheet : HostSweepSheet
 hostSweepSheet limit b slice small bytes z = sweep-number limit b slice small bytes z
+
+pub edgelessSheets : EdgelessSheets
+edgelessSheets = refusal-edgeless
 
 pub sweepUnchanged : SweepUnchanged
 sweepUnchanged = sweep-same

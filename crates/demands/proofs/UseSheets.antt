@@ -1,5 +1,5 @@
--- Uses of the claims on acceptance: the hollow triangle is a sheet at the limit 3, with its cells, and none at the limit 2; an edge with a loose node is the
--- layout of a complex, and is refused with 18; two vertices without an edge are accepted.
+-- Uses of the claims on acceptance: the hollow triangle is a sheet at the limit 3, with its cells, and none at the limit 2; an edge with a loose node
+-- is refused with 18.
 use mathlib.Core.Path.{_≡_, refl, sym, _∙_, subst}
 use mathlib.Core.List.{List, [], _∷_}
 use Prim.Native.Nat.{ℕ}
@@ -10,12 +10,12 @@ use Rattle.complexes.specs.Complex.{Complex}
 use Rattle.complexes.specs.Loose.{InEdge, NoLooseNodes}
 use Rattle.sheet_format.specs.Layout.{start, layout, top}
 use Rattle.sheet_format.specs.Check.{countField, offsetField, cellOf, cellsOf, sectionsOf, some, verticesDoNotRise, cellsDoNotRise, faceMissing, complexRefusal, refusal}
-use Rattle.sheet_format.specs.Sheet.{Bytes, IsLayout, IsSheet}
+use Rattle.sheet_format.specs.Sheet.{Bytes, IsSheet}
 use Rattle.sheet_format.specs.Starred.{hollowTriangle}
-use Rattle.sheet_format.specs.OrderCases.{faceAndLooseNode, twoVertices, edgeAndNode}
-use Rattle.demands.specs.Sheets.{Acceptance, SheetCells, Layouts, LooseRefused, EdgelessSheets}
+use Rattle.sheet_format.specs.OrderCases.{edgeAndNode}
+use Rattle.demands.specs.Sheets.{Acceptance, SheetCells, LooseRefused}
 use Rattle.demands.proofs.Hollow.{hollow-bytes, hollowCells}
-use Rattle.demands.proofs.Loose.{loose-bytes, face-bytes, looseCells, loose-node}
+use Rattle.demands.proofs.Loose.{loose-bytes, loose-node}
 
 module _ (acceptance : Acceptance) where
   is-sheet : IsSheet 3 hollowTriangle
@@ -53,24 +53,6 @@ module _ (acceptance : Acceptance) where
 
 -- ---- loose nodes
 
-module _ (layouts : Layouts) where
-  loose-layout : IsLayout 48 edgeAndNode
-  unfolding complexRefusal countField offsetField cellOf cellsOf sectionsOf some verticesDoNotRise cellsDoNotRise faceMissing without same rises precedes listed start tabulate
-  loose-layout = layouts 48 (omega arith) edgeAndNode loose-bytes .0 refl
-
-  -- a face is missing: told 7
-  no-layout : IsLayout 48 faceAndLooseNode → ⊥
-  unfolding complexRefusal countField offsetField cellOf cellsOf sectionsOf some verticesDoNotRise cellsDoNotRise faceMissing without same rises precedes listed start tabulate
-  no-layout laid = let seven : _≡_ {A = ℕ} 7 0 = sym told ∙ layouts 48 (omega arith) faceAndLooseNode face-bytes .1 laid in omega (arith, seven)
-    where
-      told : complexRefusal 48 faceAndLooseNode ≡ 7
-      told = refl
-
-  -- the cells of the layout are the edge's, its vertices and the loose one
-  loose-cells : SheetCells → loose-layout .cells ≡ looseCells
-  unfolding sectionsOf cellsOf cellOf countField start tabulate
-  loose-cells sheetCells = sheetCells 48 (omega arith) edgeAndNode loose-layout
-
 module _ (looseRefused : LooseRefused) where
   -- no edge has the vertex 1
   loose-told : refusal 48 edgeAndNode ≡ 18
@@ -83,8 +65,3 @@ module _ (looseRefused : LooseRefused) where
 
   not-used : NoLooseNodes (sectionsOf edgeAndNode) → ⊥
   not-used = looseRefused 48 edgeAndNode loose-bytes .0 loose-told .1
-
--- two vertices and no edge
-edgeless : EdgelessSheets → refusal 48 twoVertices ≡ 0
-unfolding complexRefusal countField offsetField cellOf cellsOf sectionsOf some verticesDoNotRise cellsDoNotRise faceMissing without same rises precedes listed start tabulate
-edgeless edgelessSheets = edgelessSheets 48 twoVertices refl

@@ -12,17 +12,36 @@ use Rattle.complexes.specs.Cell.{without, same, rises, precedes, listed, Listed
 use Rattle.complexes.specs.Complex.{Sections, section, Complex}
 use Rattle.sheet_format.specs.Layout.{top, cellBytes, sectionBytes, sectionsBytes, start, headerBytes, layout}
 use Rattle.sheet_format.specs.Check.{countField, offsetField, cellOf, cellsOf, sectionsOf, some, verticesDoNotRise, cellsDoNotRise, faceMissing, complexRefusal, refusal}
-use Rattle.sheet_format.specs.Sheet.{Bytes}
+use Rattle.sheet_format.specs.Sheet.{Bytes, IsLayout}
 use Rattle.sheet_format.specs.Written.{headerGives}
-use Rattle.sheet_format.specs.OrderCases.{faceAndLooseNode, edgeAndNode, edgeAlone, edgeAloneSections}
+use Rattle.sheet_format.specs.OrderCases.{faceAndLooseNode, twoVertices, edgeAndNode, edgeAlone, edgeAloneSections}
 use Rattle.sweeps.specs.Sweep.{sweepCall}
 use Rattle.sweeps.specs.Swept.{IsSwept, SweptSheet}
 use Rattle.sweeps.specs.Cases.{lent}
 use Rattle.sweeps.specs.Examples.{loose-done, loose-host-done}
-use Rattle.demands.specs.Sweeps.{SweepRefused, SweptCells, SweptUnique, SweepTooShort, SweepDone, SweepLeft, SweepSheet, HostSweepSheet, SweepUnchanged, SweepTwice}
-use Rattle.demands.proofs.Loose.{loose-bytes, alone-bytes, looseCells, loose-sections, loose-laid, laid-48, alone-is, alone-complex, loose-node, edge-node}
+use Rattle.demands.specs.Sheets.{SheetCells}
+use Rattle.demands.specs.Sweeps.{Layouts, SweepRefused, SweptCells, SweptUnique, SweepTooShort, SweepDone, SweepLeft, SweepSheet, HostSweepSheet, EdgelessSheets, SweepUnchanged, SweepTwice}
+use Rattle.demands.proofs.Loose.{loose-bytes, alone-bytes, face-bytes, looseCells, loose-sections, loose-laid, laid-48, alone-is, alone-complex, loose-node, edge-node}
 
 -- ---- 1 to 7
+
+module _ (layouts : Layouts) where
+  loose-layout : IsLayout 48 edgeAndNode
+  unfolding complexRefusal countField offsetField cellOf cellsOf sectionsOf some verticesDoNotRise cellsDoNotRise faceMissing without same rises precedes listed start tabulate
+  loose-layout = layouts 48 (omega arith) edgeAndNode loose-bytes .0 refl
+
+  -- a face is missing: told 7
+  no-layout : IsLayout 48 faceAndLooseNode → ⊥
+  unfolding complexRefusal countField offsetField cellOf cellsOf sectionsOf some verticesDoNotRise cellsDoNotRise faceMissing without same rises precedes listed start tabulate
+  no-layout laid = let seven : _≡_ {A = ℕ} 7 0 = sym told ∙ layouts 48 (omega arith) faceAndLooseNode face-bytes .1 laid in omega (arith, seven)
+    where
+      told : complexRefusal 48 faceAndLooseNode ≡ 7
+      told = refl
+
+  -- the cells of the layout are the edge's, its vertices and the loose one
+  loose-cells : SheetCells → loose-layout .cells ≡ looseCells
+  unfolding sectionsOf cellsOf cellOf countField start tabulate
+  loose-cells sheetCells = sheetCells 48 (omega arith) edgeAndNode loose-layout
 
 told-7 : SweepRefused → (slice : List ℕ) → numberTold (sweepCall 48 faceAndLooseNode slice .answer) ≡ 7
 unfolding complexRefusal countField offsetField cellOf cellsOf sectionsOf some verticesDoNotRise cellsDoNotRise faceMissing without same rises precedes listed start tabulate
@@ -30,10 +49,11 @@ told-7 sweepRefused slice = sweepRefused 48 faceAndLooseNode slice (λ e. omega 
 
 -- ---- the cells
 
-has-cells : (sweptCells : SweptCells) → SweptUnique → sweptCells 48 looseCells (loose-laid 48 laid-48) .cells ≡ edgeAloneSections
-has-cells sweptCells sweptUnique =
-    let has = sweptCells 48 looseCells (loose-laid 48 laid-48) in
-    sweptUnique 48 looseCells (has .cells) edgeAloneSections (loose-laid 48 laid-48) (has .complex) (has .are) alone-complex alone-is
+module _ (sweptUnique : SweptUnique) where
+  has-cells : (sweptCells : SweptCells) → sweptCells 48 looseCells (loose-laid 48 laid-48) .cells ≡ edgeAloneSections
+  has-cells sweptCells =
+      let has = sweptCells 48 looseCells (loose-laid 48 laid-48) in
+      sweptUnique 48 looseCells (has .cells) edgeAloneSections (loose-laid 48 laid-48) (has .complex) (has .are) alone-complex alone-is
 
 -- ---- 16, and done
 
@@ -102,6 +122,11 @@ host-sheet : HostSweepSheet → SweptSheet hostLimit edgeAndNode (lent 30) (swee
 host-sheet hostSweepSheet = hostSweepSheet hostLimit edgeAndNode (lent 30) (omega arith) loose-bytes (ap (λ c. numberTold (c .answer)) loose-host-done)
 
 -- ---- written unchanged
+
+-- two vertices and no edge
+edgeless : EdgelessSheets → refusal 48 twoVertices ≡ 0
+unfolding complexRefusal countField offsetField cellOf cellsOf sectionsOf some verticesDoNotRise cellsDoNotRise faceMissing without same rises precedes listed start tabulate
+edgeless edgelessSheets = edgelessSheets 48 twoVertices refl
 
 unchanged : SweepUnchanged → sweepCall 48 edgeAlone (lent 30) ≡ record { answer = done 24; output = edgeAlone ++ lent 6 }
 unfolding refusal countField offsetField cellOf cellsOf sectionsOf some verticesDoNotRise cellsDoNotRise faceMissing without same rises precedes listed start tabulate

@@ -4,7 +4,6 @@ use mathlib.Core.Logic.{_↔_}
 use mathlib.Core.List.{List}
 use Prim.Native.Nat.{ℕ, _≤_}
 use Rattle.limits.specs.Limits.{libraryLimit}
-use Rattle.complexes.specs.Complex.{count}
 use Rattle.complexes.specs.Loose.{NoLooseNodes}
 use Rattle.sheet_format.specs.Check.{complexRefusal, refusal, sectionsOf}
 use Rattle.sheet_format.specs.Sheet.{Bytes, IsLayout, IsSheet}
@@ -18,15 +17,7 @@ Acceptance = (limit : ℕ) → limit ≤ libraryLimit → (b : List ℕ) → Byt
 abbrev pub SheetCells : Type 0
 SheetCells = (limit : ℕ) → limit ≤ libraryLimit → (b : List ℕ) (laid : IsLayout limit b) → laid .cells ≡ sectionsOf b
 
--- none of 1 to 7 applies exactly when the sheet holds a complex laid out so, with loose nodes or without
-abbrev pub Layouts : Type 0
-Layouts = (limit : ℕ) → limit ≤ libraryLimit → (b : List ℕ) → Bytes b → (complexRefusal limit b ≡ 0) ↔ IsLayout limit b
-
 -- 02, Note 7, "New numbers: 18, after 7 and before 8, for such a sheet": exactly where none of 1 to 7 applies, and there is an edge and a vertex in none
 abbrev pub LooseRefused : Type 0
 LooseRefused =
     (limit : ℕ) (b : List ℕ) → Bytes b → (refusal limit b ≡ 18) ↔ ((complexRefusal limit b ≡ 0) × (NoLooseNodes (sectionsOf b) → ⊥))
-
--- "Sheets with no edges keep their acceptance": they are told what 1 to 7 tell
-abbrev pub EdgelessSheets : Type 0
-EdgelessSheets = (limit : ℕ) (b : List ℕ) → count (sectionsOf b) 1 ≡ 0 → refusal limit b ≡ complexRefusal limit b

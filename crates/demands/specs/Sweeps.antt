@@ -7,13 +7,17 @@ use Prim.Native.Nat.{ℕ, _≤_, _<_}
 use lib.ListN.{length, take, drop}
 use Rattle.limits.specs.Limits.{libraryLimit}
 use Rattle.trials.specs.Trial.{done, numberTold}
-use Rattle.complexes.specs.Complex.{Sections, Complex}
+use Rattle.complexes.specs.Complex.{Sections, count, Complex}
 use Rattle.sheet_format.specs.Layout.{top, layout}
 use Rattle.sheet_format.specs.Check.{sectionsOf, complexRefusal, refusal}
-use Rattle.sheet_format.specs.Sheet.{Bytes}
+use Rattle.sheet_format.specs.Sheet.{Bytes, IsLayout}
 use Rattle.sheet_format.specs.Written.{headerGives}
 use Rattle.sweeps.specs.Sweep.{sweepCall}
 use Rattle.sweeps.specs.Swept.{IsSwept, SweptSheet}
+
+-- none of 1 to 7 applies exactly when the sheet holds a complex laid out so, with loose nodes or without
+abbrev pub Layouts : Type 0
+Layouts = (limit : ℕ) → limit ≤ libraryLimit → (b : List ℕ) → Bytes b → (complexRefusal limit b ≡ 0) ↔ IsLayout limit b
 
 -- "A sweep call tries 1 to 7": the first that applies is told, whatever the slice
 abbrev pub SweepRefused : Type 0
@@ -61,6 +65,10 @@ abbrev pub HostSweepSheet : Type 0
 HostSweepSheet =
     (limit : ℕ) (b slice : List ℕ) → limit ≤ libraryLimit → Bytes b → numberTold (sweepCall limit b slice .answer) ≡ 0 →
     SweptSheet limit b slice (sweepCall limit b slice .output) (headerGives (sweepCall limit b slice .output))
+
+-- "Sheets with no edges keep their acceptance": they are told what 1 to 7 tell
+abbrev pub EdgelessSheets : Type 0
+EdgelessSheets = (limit : ℕ) (b : List ℕ) → count (sectionsOf b) 1 ≡ 0 → refusal limit b ≡ complexRefusal limit b
 
 -- "written unchanged": an accepted sheet, and by `EdgelessSheets` one without edges
 abbrev pub SweepUnchanged : Type 0
