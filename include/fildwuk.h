@@ -84,7 +84,7 @@ enum fildwuk_answer {
     FILDWUK_ELEMENT_FAULTY = 15,       /* an element has another kind, another number of nodes than its kind, an unlisted node or a node twice */
     FILDWUK_SHEET_TOO_LONG = 16,       /* a count of the sheet would exceed its limit, or the slice for the sheet is too short */
     FILDWUK_BOUNDS_NOTHING = 17,       /* the cycle is the boundary of no chain with whole coefficients */
-    FILDWUK_VERTEX_LOOSE = 18          /* the sheet has an edge, and a vertex in no edge */
+    FILDWUK_LOOSE_NODE = 18            /* the sheet has an edge, and a vertex in no edge */
 };
 
 /* The most cells that a dimension may have. */
@@ -180,7 +180,7 @@ static inline const char *fildwuk_answer_text(uint32_t answer)
     case FILDWUK_ELEMENT_FAULTY: return "an element has another kind, another number of nodes than its kind, an unlisted node or a node twice";
     case FILDWUK_SHEET_TOO_LONG: return "a count of cells would exceed the limit, or the slice lent for the sheet is too short";
     case FILDWUK_BOUNDS_NOTHING: return "the cycle is the boundary of no chain with whole coefficients";
-    case FILDWUK_VERTEX_LOOSE: return "the sheet has an edge, and a vertex in no edge";
+    case FILDWUK_LOOSE_NODE: return "the sheet has an edge, and a vertex in no edge";
     default: return "no answer of this release";
     }
 }

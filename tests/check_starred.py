@@ -8,7 +8,7 @@ that a case that is left out, changed or added is told. The table must be all ca
 
 from model import calls, homology
 from model.headroom import bits, largest, peak, whole
-from model.sheet import LIBRARY_COUNT_LIMIT, LOOSE_VERTEX, PROGRAM_COUNT_LIMIT, from_facets, layout, parse, refusal
+from model.sheet import LIBRARY_COUNT_LIMIT, LOOSE_NODE, PROGRAM_COUNT_LIMIT, from_facets, layout, parse, refusal
 from tables import CRATES, Tables
 
 NO_CELLS = from_facets([])
@@ -196,7 +196,7 @@ def sheet_faults():
     for place, (data, number) in enumerate(held):
         if {number} != {refusal(data, limit) for limit in (LIBRARY_COUNT_LIMIT, PROGRAM_COUNT_LIMIT)}:
             yield f"line {place} of the table of sheets has another number than the model gives"
-    if not {*range(8), LOOSE_VERTEX} <= {number for _, number in held}:
+    if not {*range(8), LOOSE_NODE} <= {number for _, number in held}:
         yield "a number of 1 to 7, or 18, is not in the table of sheets"
 
 

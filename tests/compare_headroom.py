@@ -19,12 +19,12 @@ from make_sheets import random_sheets
 from model import headroom, homology, meshes
 from model.calls import library_headroom
 from model.peak_cases import CASES
-from model.sheet import DIMENSIONS, LIBRARY_COUNT_LIMIT, LOOSE_VERTEX, from_facets, layout, parse, refusal
+from model.sheet import DIMENSIONS, LIBRARY_COUNT_LIMIT, LOOSE_NODE, from_facets, layout, parse, refusal
 
 DRIVER = Path("target/host/headroom_driver")
 PEAK_SLOT, BITS_SLOT = struct.unpack("<QI", b"\xa5" * 12)
 DONE = 0
-ANSWERS = [*range(10), 13, LOOSE_VERTEX]
+ANSWERS = [*range(10), 13, LOOSE_NODE]
 MOST_BITS = 20
 
 

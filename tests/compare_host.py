@@ -12,7 +12,7 @@ from drivers import Expected, count_differing
 from make_sheets import fault_sheets, known_sheets, random_sheets
 from model import homology, list_cases, residue_cases
 from model.calls import host_coordinate_lists, host_coordinates, host_report, host_surface
-from model.sheet import LOOSE_VERTEX, PROGRAM_COUNT_LIMIT, TRIAL, Refused, refusal
+from model.sheet import LOOSE_NODE, PROGRAM_COUNT_LIMIT, TRIAL, Refused, refusal
 
 DRIVER = Path("target/host/driver")
 ROOM = 8 * (2 + 48 + 48 * 48)
@@ -149,7 +149,7 @@ def all_calls(rng, list_rng, sheets, with_lists):
 
 def missing(told):
     """The answers that were never due; with no chains the output cannot be too short for the lists."""
-    on_sheets = [*range(9), LOOSE_VERTEX]
+    on_sheets = [*range(9), LOOSE_NODE]
     wanted = {"R": [*on_sheets, 9], "C": [*on_sheets, *range(9, 13)], "L": [*on_sheets, *range(9, 13)], "L of no chains": [*on_sheets, 10]}
     return [(kind, number) for kind, numbers in wanted.items() for number in numbers if not told[kind, number]]
 

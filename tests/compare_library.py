@@ -18,7 +18,7 @@ from make_sheets import fault_sheets
 from model import homology, list_cases, meshes, random_meshes, residue_cases, sheet_cases
 from model.calls import library_coordinate_lists, library_coordinates, library_report, library_surface
 from model.matrices import apply, boundary
-from model.sheet import DIMENSIONS, LIBRARY_COUNT_LIMIT, LOOSE_VERTEX, PROGRAM_COUNT_LIMIT, TRIAL, Refused, from_facets, parse, refusal
+from model.sheet import DIMENSIONS, LIBRARY_COUNT_LIMIT, LOOSE_NODE, PROGRAM_COUNT_LIMIT, TRIAL, Refused, from_facets, parse, refusal
 
 DRIVER = Path("target/host/library_driver")
 # The byte that the slices are lent with.
@@ -193,7 +193,7 @@ def count_told(made):
 
 def missing(told):
     """The answers that were never due."""
-    on_sheets = [*range(9), LOOSE_VERTEX, 9, 13]
+    on_sheets = [*range(9), LOOSE_NODE, 9, 13]
     wanted = {"R": on_sheets, "C": [*on_sheets, 10, 11, 12], "L": [*on_sheets, 10, 11, 12], "L of no chains": [*on_sheets, 10]}
     return [(kind, number) for kind, numbers in wanted.items() for number in numbers if not told[kind, number]]
 

@@ -8,7 +8,7 @@ from pathlib import Path
 
 from make_sheets import fault_sheets, known_sheets, random_sheets
 from model.calls import program_output
-from model.sheet import LOOSE_VERTEX, PROGRAM_COUNT_LIMIT, longest, refusal
+from model.sheet import LOOSE_NODE, PROGRAM_COUNT_LIMIT, longest, refusal
 
 PROGRAM = Path("target/bin/homology")
 INPUT_ROOM = longest(PROGRAM_COUNT_LIMIT) + 1
@@ -17,7 +17,7 @@ SPREAD = 12
 
 def by_refusal(sheets):
     """The names of the sheets by the number of their refusal, 0 for accepted ones."""
-    names = {number: [] for number in (*range(8), LOOSE_VERTEX)}
+    names = {number: [] for number in (*range(8), LOOSE_NODE)}
     for name, data in sheets.items():
         names[refusal(data, PROGRAM_COUNT_LIMIT)].append(name)
     return names

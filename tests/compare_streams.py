@@ -21,7 +21,7 @@ from pathlib import Path
 
 from model import meshes, sheet_cases
 from model.calls import program_output
-from model.sheet import LOOSE_VERTEX, PROGRAM_COUNT_LIMIT, from_facets, longest, refusal
+from model.sheet import LOOSE_NODE, PROGRAM_COUNT_LIMIT, from_facets, longest, refusal
 
 PROGRAM = Path("target/bin/homology")
 PIPE_BYTES = 4096
@@ -154,7 +154,7 @@ def main():
         seen["output longer than the pipe"] += len(due) > PIPE_BYTES
         seen[f"refusal {refusal(data, PROGRAM_COUNT_LIMIT)}"] += 1
     print(", ".join(f"{name}: {seen[name]}" for name in sorted(seen)) + f"; {wrong} differ")
-    kinds = [f"refusal {n}" for n in (*range(8), LOOSE_VERTEX)] + ["longer than the program reads", "output longer than the pipe"]
+    kinds = [f"refusal {n}" for n in (*range(8), LOOSE_NODE)] + ["longer than the program reads", "output longer than the pipe"]
     raise SystemExit(1 if wrong or not all(seen[kind] for kind in kinds) else 0)
 
 

@@ -16,7 +16,7 @@ from drivers import count_differing
 from make_sheets import fault_sheets, known_sheets, random_sheets
 from model import homology, meshes, sheet_cases, surface_cases
 from model.calls import BOUNDS_NOTHING, DONE, TOO_WIDE
-from model.sheet import DIMENSIONS, LIBRARY_COUNT_LIMIT, LOOSE_VERTEX, PROGRAM_COUNT_LIMIT, from_facets, parse, refusal
+from model.sheet import DIMENSIONS, LIBRARY_COUNT_LIMIT, LOOSE_NODE, PROGRAM_COUNT_LIMIT, from_facets, parse, refusal
 from model.surface_chains import FREE, TWISTED, Cycles, causes
 from model.wide_surfaces import CASES
 
@@ -136,7 +136,7 @@ def main():
         library.compare(cases)
     for cases in wide_cases(rng):
         library.compare_alone(cases)
-    wanted = [*range(DONE, TOO_WIDE), LOOSE_VERTEX, *(f"{BOUNDS_NOTHING}, {cause}" for cause in (FREE, TWISTED))]
+    wanted = [*range(DONE, TOO_WIDE), LOOSE_NODE, *(f"{BOUNDS_NOTHING}, {cause}" for cause in (FREE, TWISTED))]
     lost = host.missing(wanted) + library.missing([*wanted, TOO_WIDE])
     lost += [] if library.told[ALONE] == len(CASES) else [ALONE]
     for side in (host, library):

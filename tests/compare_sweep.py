@@ -16,7 +16,7 @@ from drivers import Expected, count_differing
 from make_sheets import fault_sheets, known_sheets, random_sheets
 from model import random_meshes
 from model.calls import DONE, sweep_call
-from model.sheet import LIBRARY_COUNT_LIMIT, LOOSE_VERTEX, PROGRAM_COUNT_LIMIT, from_facets, refusal
+from model.sheet import LIBRARY_COUNT_LIMIT, LOOSE_NODE, PROGRAM_COUNT_LIMIT, from_facets, refusal
 from model.sweep import SHEET_TOO_LONG
 from model.sweep_cases import rooms, swept_sheet
 
@@ -108,7 +108,7 @@ def main():
     named = sheets(options.seed, options.random)
     made, told = calls(random.Random(options.seed), named)
     wrong = count_differing(options.driver, made)
-    wanted = [*WANTED, *(f"report {number}" for number in (0, *range(1, 8), LOOSE_VERTEX))]
+    wanted = [*WANTED, *(f"report {number}" for number in (0, *range(1, 8), LOOSE_NODE))]
     for kind in LIMITS:
         print(f"{kind}: " + ", ".join(f"{told[kind, each]} {each}" for each in wanted))
     lost = [(kind, each) for kind in LIMITS for each in wanted if not told[kind, each]]

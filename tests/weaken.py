@@ -30,8 +30,9 @@ WEAK = "Rattle.demands.specs.Weak"
 SHADOWS = {
     "IsLayout": [("sheet_format", "Sheet", ["IsLayout", "IsSheet"])],
     "IsSheet": [("sheet_format", "Sheet", ["IsSheet"])],
+    "LooseNode": [("complexes", "Loose", ["LooseNode"])],
     "NoLooseNodes": [("complexes", "Loose", ["NoLooseNodes"]), ("sheet_format", "Sheet", ["IsSheet"])],
-    "InEdge": [("complexes", "Loose", ["InEdge", "NoLooseNodes"]), ("sheet_format", "Sheet", ["IsSheet"]), ("sweeps", "Swept", ["StaysIn", "IsSwept", "SweptSheet"])],
+    "InEdge": [("complexes", "Loose", ["InEdge", "LooseNode", "NoLooseNodes"]), ("sheet_format", "Sheet", ["IsSheet"]), ("sweeps", "Swept", ["StaysIn", "IsSwept", "SweptSheet"])],
     "Outcome": [("answers", "Outcome", ["Outcome"])],
     "NoCycle": [("answers", "Outcome", ["NoCycle"])],
     "Carries": [("answers", "Outcome", ["Carries"])],
@@ -50,7 +51,7 @@ SHADOWS = {
     "ImportedSheet": [("imports", "Sheet", ["ImportedSheet"])],
 }
 # records of `demands`
-OWN = {"HasSwept": "Sweeps", "ListSingle": "Calls", "RightReport": "Answers", "HeadroomBits": "Headroom", "NoneFor": "Headroom", "AtEntryLimit": "Headroom", "HasCells": "Meshes",
+OWN = {"LooseSheet": "Sheets", "HasSwept": "Sweeps", "ListSingle": "Calls", "RightReport": "Answers", "HeadroomBits": "Headroom", "NoneFor": "Headroom", "AtEntryLimit": "Headroom", "HasCells": "Meshes",
        "SomeNonzero": "Surfaces"}
 WAYS = {"ReportOf": "Answers", "CoordinatesOf": "Answers", "SurfaceOf": "Surfaces", "SurfaceTold": "Surfaces"}
 
@@ -59,13 +60,20 @@ LESS = [
     ("Sheets", "limit ≤ libraryLimit → (b : List ℕ) → Bytes b → (refusal limit b ≡ 0)", "limit < libraryLimit → (b : List ℕ) → Bytes b → (refusal limit b ≡ 0)"),
     ("Sheets", "limit ≤ libraryLimit → (b : List ℕ) (laid", "limit < libraryLimit → (b : List ℕ) (laid"),
     ("Sweeps", "limit ≤ libraryLimit → (b : List ℕ) → Bytes b → (complexRefusal", "limit < libraryLimit → (b : List ℕ) → Bytes b → (complexRefusal"),
-    ("Sheets", "(complexRefusal limit b ≡ 0) × (NoLooseNodes", "(Unit {0}) × (NoLooseNodes"),
-    ("Sheets", "× (NoLooseNodes (sectionsOf b) → ⊥)", "× (Unit {0})"),
+    ("Sheets", "limit ≤ libraryLimit → (b : List ℕ) → Bytes b → (refusal limit b ≡ 18)", "limit < libraryLimit → (b : List ℕ) → Bytes b → (refusal limit b ≡ 18)"),
+    ("Calls", "answer = refused (refusal limit (q .sheet)); output", "answer = call limit q request output work .answer; output"),
+    ("Calls", "(refusal limit (q .sheet)); output = output; work = work }", "(refusal limit (q .sheet)); output = call limit q request output work .output; work = work }"),
+    ("Calls", "(refusal limit (q .sheet)); output = output; work = work }", "(refusal limit (q .sheet)); output = output; work = call limit q request output work .work }"),
+    ("Sweeps", "limit ≤ libraryLimit → Bytes b → complexRefusal limit b ≡ 0 →\n    (L : Sections) → Complex top limit L → IsSwept (sectionsOf b) L →\n    (numberTold", "limit < libraryLimit → Bytes b → complexRefusal limit b ≡ 0 →\n    (L : Sections) → Complex top limit L → IsSwept (sectionsOf b) L →\n    (numberTold"),
+    ("Sweeps", "limit ≤ libraryLimit → Bytes b → complexRefusal limit b ≡ 0 →\n    (L : Sections) → Complex top limit L → IsSwept (sectionsOf b) L → length", "limit < libraryLimit → Bytes b → complexRefusal limit b ≡ 0 →\n    (L : Sections) → Complex top limit L → IsSwept (sectionsOf b) L → length"),
+    ("Sweeps", "limit ≤ libraryLimit → Bytes b → complexRefusal limit b ≡ 0 → length b ≤", "limit < libraryLimit → Bytes b → complexRefusal limit b ≡ 0 → length b ≤"),
+    ("Sweeps", "complexRefusal limit b ≡ 0 → length b ≤ length slice", "complexRefusal limit b ≡ 0 → length b < length slice"),
+    ("Sweeps", "limit ≤ libraryLimit → (b slice : List ℕ) → Bytes b → refusal", "limit < libraryLimit → (b slice : List ℕ) → Bytes b → refusal"),
     ("Sweeps", "length slice < length (layout L))", "suc (length slice) < length (layout L))"),
     ("Sweeps", "length (layout L) ≤ length slice", "length (layout L) < length slice"),
     ("Sweeps", "record { answer = done (length (layout L)); output = layout L", "record { answer = sweepCall limit b slice .answer; output = layout L"),
     ("Sweeps", "output = layout L ++ drop (length (layout L)) slice }", "output = sweepCall limit b slice .output }"),
-    ("Sweeps", "length b ≤ length slice", "length b < length slice"),
+    ("Sweeps", "refusal limit b ≡ 0 → length b ≤ length slice →\n    sweepCall", "refusal limit b ≡ 0 → length b < length slice →\n    sweepCall"),
     ("Sweeps", "record { answer = done (length b); output = b ++", "record { answer = sweepCall limit b slice .answer; output = b ++"),
     ("Sweeps", "output = b ++ drop (length b) slice }", "output = sweepCall limit b slice .output }"),
     ("Sweeps", "→ n ≤ length slice′", "→ n < length slice′"),

@@ -39,7 +39,7 @@ static void write_help(const struct refusal *refusal, FILE *file) {
         fputs("It is a mesh: `fildwuk import FILE.msh -o FILE.sheet` writes its sheet, which has no loose nodes", file);
     else if (number <= FILDWUK_LENGTH_DIFFERS || number == FILDWUK_MESH_MALFORMED)
         hint_format(refusal->source->text, file);
-    if (number == FILDWUK_VERTEX_LOOSE)
+    if (number == FILDWUK_LOOSE_NODE)
         fputs("`fildwuk sweep OLD.sheet -o NEW.sheet` writes it without loose nodes", file);
     if (number == FILDWUK_TOO_WIDE)
         fprintf(file, "Parts that do not touch, asked for apart%s, or another numbering of the nodes may stay within it",

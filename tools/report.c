@@ -147,7 +147,7 @@ static int report_from(const struct job *job, const struct homology *known, uint
 
 /* Whether a refusal is of the whole input, whatever the dimension: of the sheet, or of a dimension that there is none of. */
 static int is_of_whole(uint32_t answer) {
-    return (answer != FILDWUK_DONE && answer <= FILDWUK_DIMENSION_EXCEEDS_TOP) || answer == FILDWUK_VERTEX_LOOSE;
+    return (answer != FILDWUK_DONE && answer <= FILDWUK_DIMENSION_EXCEEDS_TOP) || answer == FILDWUK_LOOSE_NODE;
 }
 
 /* Reports on a sheet. The first call tells whether it is refused as a whole. */

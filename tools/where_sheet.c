@@ -135,6 +135,6 @@ void where_sheet(const struct text *sheet, size_t limit, uint32_t number, FILE *
                 sheet->length > INPUT_MOST_SHEET ? INPUT_MOST_SHEET : sheet->length, sheet_length(sheet->bytes));
     if (number >= FILDWUK_VERTICES_DO_NOT_RISE && number <= FILDWUK_FACE_MISSING && sheet->length == sheet_length(sheet->bytes))
         write_first(sheet->bytes, number, file);
-    if (number == FILDWUK_VERTEX_LOOSE && sheet->length == sheet_length(sheet->bytes))
+    if (number == FILDWUK_LOOSE_NODE && sheet->length == sheet_length(sheet->bytes))
         write_loose(sheet->bytes, file);
 }

@@ -9,7 +9,7 @@ from model import meshes, sheet_cases
 from model.homology import classes, coordinates, report, report_slots, work_slots
 from model.matrices import apply, boundary, identity, is_cycle
 from model.reduction import ENTRY_LIMIT, TooWide
-from model.sheet import LOOSE_VERTEX, TRIAL, first_tried, from_facets, parse
+from model.sheet import LOOSE_NODE, TRIAL, first_tried, from_facets, parse
 
 
 class Reports(unittest.TestCase):
@@ -137,8 +137,8 @@ class RefusalOrder(unittest.TestCase):
             self.assertEqual(answer(self.call, **self.setting(set(pair))), first_tried(pair), pair)
 
     def test_18_is_told_after_7_and_before_8(self):
-        told = [answer(self.call, **self.setting({LOOSE_VERTEX, number})) for number in self.numbers]
-        self.assertEqual(told, [*range(1, 8), *[LOOSE_VERTEX] * (len(self.numbers) - 7)])
+        told = [answer(self.call, **self.setting({LOOSE_NODE, number})) for number in self.numbers]
+        self.assertEqual(told, [*range(1, 8), *[LOOSE_NODE] * (len(self.numbers) - 7)])
 
     def test_nothing_is_refused_without_a_fault(self):
         self.assertEqual(answer(self.call, **self.setting(set())), 0)

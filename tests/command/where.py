@@ -3,7 +3,7 @@
 from itertools import chain
 
 from model.mesh import ELEMENT_FAULTY, MESH_MALFORMED, NODES_OF_KIND, SHEET_TOO_LONG, Lines, read_element, read_format, read_nodes
-from model.sheet import DIMENSIONS, HEADER_BYTES, LOOSE_VERTEX, Refused, closure, faces, loose_vertices, read_section, section_starts
+from model.sheet import DIMENSIONS, HEADER_BYTES, LOOSE_NODE, Refused, closure, faces, loose_vertices, read_section, section_starts
 
 CELLS = [("vertex", "vertices"), ("edge", "edges"), ("triangle", "triangles"), ("tetrahedron", "tetrahedra")]
 SHOWN = 60
@@ -203,4 +203,4 @@ def of_sheet(data, number, limit):
         length = f"more than {MEGABYTE}" if len(data) > MEGABYTE else len(data)
         return f"It has {length} bytes, and {starts[-1]} are due"
     sections = [read_section(data, p, counts[p], starts[p]) for p in range(DIMENSIONS)]
-    return of_loose(sections) if number == LOOSE_VERTEX else of_cells(sections, number)
+    return of_loose(sections) if number == LOOSE_NODE else of_cells(sections, number)

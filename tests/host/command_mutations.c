@@ -272,7 +272,7 @@ static void hold_report(const struct text *text) {
     if (refusal == FILDWUK_DONE ? ran.status != STATUS_DONE || ran.out_length < 2 || memcmp(ran.out, "H ", 2) != 0
                                 : ran.status != STATUS_REFUSED || ran.out_length != strlen(due) || memcmp(ran.out, due, ran.out_length) != 0)
         fail(text, "report differs from the proved calls");
-    if (refusal == FILDWUK_VERTEX_LOOSE && !says(&ran, " in no edge: "))
+    if (refusal == FILDWUK_LOOSE_NODE && !says(&ran, " in no edge: "))
         fail(text, "18 does not say where");
     release(ran);
 }
@@ -281,7 +281,7 @@ static void hold_report(const struct text *text) {
 static void hold_swept(const struct text *text, const struct text *swept) {
     uint32_t refusal = refusal_of(text);
     int is_same = swept->length == text->length && memcmp(swept->bytes, text->bytes, text->length) == 0;
-    if (refusal_of(swept) != FILDWUK_DONE || refusal != (is_same ? FILDWUK_DONE : FILDWUK_VERTEX_LOOSE))
+    if (refusal_of(swept) != FILDWUK_DONE || refusal != (is_same ? FILDWUK_DONE : FILDWUK_LOOSE_NODE))
         fail(text, "a swept sheet is refused, or is another where nothing is to be dropped");
     swept_total++;
     dropped_total += !is_same;

@@ -136,7 +136,7 @@ static void miswrite(const struct asked *a, size_t length) {
 static uint32_t sweep(const struct asked *a, size_t length) {
     const uint8_t first = a->swept_len > 0 ? a->swept[0] : 0;
     if (is("tells 18") && length < a->sheet_len)
-        return FILDWUK_VERTEX_LOOSE;
+        return FILDWUK_LOOSE_NODE;
     if ((is("asks for the room of the given sheet") && a->swept_len < a->sheet_len) || (is("asks for a byte more") && a->swept_len == length))
         return FILDWUK_SHEET_TOO_LONG;
     if (is("takes a byte less") && a->swept_len + 1 == length)
@@ -185,14 +185,14 @@ static uint32_t faulty(sweep_call call, size_t limit, const uint8_t *sheet, size
 
 /* The report's answer with a fault in refusal 18, where the true answer is `number`. */
 static uint32_t misjudge(const uint8_t *sheet, uint32_t number) {
-    if (is("the report never tells 18") && number == FILDWUK_VERTEX_LOOSE)
+    if (is("the report never tells 18") && number == FILDWUK_LOOSE_NODE)
         return FILDWUK_DIMENSION_EXCEEDS_TOP;
     if (is("the report tells 18 without edges") && number == FILDWUK_DIMENSION_EXCEEDS_TOP && fildwuk_cell_count(sheet, 0) > 0 &&
         fildwuk_cell_count(sheet, 1) == 0)
-        return FILDWUK_VERTEX_LOOSE;
+        return FILDWUK_LOOSE_NODE;
     for (size_t i = 0; is("the report tells 18 before 7") && number == FILDWUK_FACE_MISSING && i < fildwuk_cell_count(sheet, 0); i++)
         if (!in_cell(sheet, 1, ANY, fildwuk_cell_vertex(sheet, 0, i, 0), 0xffff))
-            return FILDWUK_VERTEX_LOOSE;
+            return FILDWUK_LOOSE_NODE;
     return number;
 }
 

@@ -49,7 +49,7 @@ static int check_sweep(void) {
     static const uint8_t loose[36] = {4, 0, 16, 0, 3, 0, 24, 0, 0, 0, 36, 0, 0, 0, 36, 0, 0, 0, 1, 0, 2, 0, 9, 0, 0, 0, 1, 0, 0, 0, 2, 0, 1, 0, 2, 0};
     static uint8_t swept[sizeof SHEET + 1];
     swept[sizeof SHEET] = 7;
-    if (fildwuk_report(loose, sizeof loose, 4, swept, 0) != FILDWUK_VERTEX_LOOSE)
+    if (fildwuk_report(loose, sizeof loose, 4, swept, 0) != FILDWUK_LOOSE_NODE)
         return 18;
     if (fildwuk_sweep(loose, sizeof loose, swept, sizeof SHEET - 1) != FILDWUK_SHEET_TOO_LONG || swept[0] != 0)
         return 19;

@@ -1,6 +1,6 @@
 """Sheets for Note 7 of 02: with loose nodes in every place, at the limits, and without edges, where no vertex is loose."""
 
-from model.sheet import LOOSE_VERTEX, closure, layout
+from model.sheet import LOOSE_NODE, closure, layout
 from model.sheet_cases import EDGE_NUMBERS, first_cells
 
 TRIANGLE = (10, 20, 30)
@@ -53,5 +53,5 @@ def above_limit(limit):
 
 def sheets(limit):
     """Sheets by name with the refusal due at the limit."""
-    due = [(without_edges(limit), 0), (beside_cells(), LOOSE_VERTEX), (at_limit(limit), LOOSE_VERTEX), (above_limit(limit), 2)]
+    due = [(without_edges(limit), 0), (beside_cells(), LOOSE_NODE), (at_limit(limit), LOOSE_NODE), (above_limit(limit), 2)]
     return {name: (layout(closure(facets)), number) for named, number in due for name, facets in named.items()}

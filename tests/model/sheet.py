@@ -9,10 +9,10 @@ DIMENSIONS = 4
 LIBRARY_COUNT_LIMIT = 256
 PROGRAM_COUNT_LIMIT = 48
 VERTEX_LIMIT = 65535
-LOOSE_VERTEX = 18
+LOOSE_NODE = 18
 
 # The order in which the refusals of a call on a sheet are tried.
-TRIAL = (*range(1, 8), LOOSE_VERTEX, *range(8, 14), 17)
+TRIAL = (*range(1, 8), LOOSE_NODE, *range(8, 14), 17)
 
 
 class Refused(Exception):
@@ -123,7 +123,7 @@ def parse(data, count_limit):
     """The accepted sheet in the bytes; raises Refused 1 to 7 and then 18."""
     sheet = read_cells(data, count_limit)
     if loose_vertices(sheet.sections):
-        raise Refused(LOOSE_VERTEX)
+        raise Refused(LOOSE_NODE)
     return sheet
 
 

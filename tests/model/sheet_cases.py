@@ -4,7 +4,7 @@ from dataclasses import dataclass, field
 from itertools import combinations, islice
 from math import comb
 
-from model.sheet import DIMENSIONS, LOOSE_VERTEX, VERTEX_LIMIT, closure, first_tried, layout, section_starts
+from model.sheet import DIMENSIONS, LOOSE_NODE, VERTEX_LIMIT, closure, first_tried, layout, section_starts
 
 # The last cell of each section above 0 is a face of no other, so that a fault in it is the only one.
 BASE_FACETS = [(1, 2, 3, 4), (2, 3, 4, 5), (6, 7, 8), (10, 11)]
@@ -124,7 +124,7 @@ def faults(count_limit):
     for cell in ((3,), (5,), (2, 4), (4, 5), (1, 3, 4), (3, 4, 5), (6, 8), (11,)):
         edits[f"face {'-'.join(map(str, cell))} missing"] = (7, drop_face(cell))
     for vertices in LOOSE:
-        edits[f"vertices {', '.join(map(str, vertices))} loose"] = (LOOSE_VERTEX, add_loose(vertices))
+        edits[f"vertices {', '.join(map(str, vertices))} loose"] = (LOOSE_NODE, add_loose(vertices))
     return edits
 
 

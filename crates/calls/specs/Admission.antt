@@ -25,7 +25,7 @@ spaceFor Report n = n .cells * (2 * n .cells + max (n .rows) (n .columns))
 spaceFor (Coordinates many) n = n .cells * (2 * n .cells + max (n .rows) (n .columns))
 spaceFor Surface n = n .cells * (2 * n .cells + max (n .rows) (n .columns)) + n .columns * n .columns
 
--- the first of the checks 1 to 9 that applies, 0 for none
+-- the first of the checks 1 to 7, 18, 8 and 9 that applies, 0 for none
 abbrev pub admission : ℕ → Question → Request → ℕ → ℕ → ℕ
 admission limit q request output work =
     let n = cellCountsIn (sectionsOf (q .sheet)) (q .dimension) in

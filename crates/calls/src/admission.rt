@@ -1,4 +1,4 @@
-// The checks 1 to 9, which come before the work of every call on a dimension.
+// The checks 1 to 7, 18, 8 and 9, which come before the work of every call on a dimension.
 ghost use mathlib.Core.Path.{_≡_};
 ghost use Prim.Native.Nat.{_<_};
 ghost use lib.Dec.{ltb};
@@ -53,7 +53,7 @@ impl Request {
     }
 }
 
-// The cell counts of the dimension, or the first of the checks 1 to 9 that applies; `output` and `work` are the lengths of the slices lent.
+// The cell counts of the dimension, or the first of these checks that applies; `output` and `work` are the lengths of the slices lent.
 pub fn admit(
     sheet: Sheet,
     s: &[u8],

@@ -7,25 +7,47 @@ use native.Mathlib.Omega.{arith}
 use lib.ListN.{length}
 use lib.IntN.{ℤ}
 use Rattle.limits.specs.Limits.{coefficientLimit}
-use Rattle.trials.specs.Trial.{firstRefusal, done, numberTold, Called}
+use Rattle.trials.specs.Trial.{firstRefusal, done, refused, numberTold, Called}
+use Rattle.lists.specs.Splice.{splices}
+use Rattle.sheet_format.specs.Check.{refusal}
 use Rattle.sheet_format.specs.Sheet.{Bytes}
 use Rattle.reports.specs.Reductions.{noTransforms}
 use Rattle.reports.specs.Report.{Counts, coordinateList}
-use Rattle.requests.specs.Question.{Question, cells, cellCount}
+use Rattle.requests.specs.Question.{Question, cells, cellCount, two}
 use Rattle.requests.specs.Chains.{chainAt, chainChecks, cyclesChecks, chainsChecks, FirstFault}
 use Rattle.requests.proofs.ChainsLaws.{length-chainAt, fault, cycles-told, chains-sized, chains-zero}
-use Rattle.requests.specs.Call.{coordinates, lists, workSlots, earlyChecks, call}
-use Rattle.requests.proofs.CheckLaws.{call-passed}
-use Rattle.requests.proofs.CallLaws.{early-iff}
+use Rattle.requests.specs.Call.{coordinates, lists, listCount, listSlots, transformsOf, numbersOf, requestChecks, endChecks, workSlots, workSlotsFor, callChecks, earlyChecks, call}
+use Rattle.requests.proofs.CheckLaws.{sheet-told, call-told, call-passed}
+use Rattle.requests.proofs.CallLaws.{with-early, early-iff}
 use Rattle.integers.specs.Slot.{slot}
 use Rattle.answers.proofs.ChainChecks.{chain-told, not-a-cycle-iff}
 use Rattle.answers.proofs.Behind.{Behind, same-behind}
 use Rattle.answers.proofs.CallRight.{Answered, done-number, call-outcome, call-earlier, counts-behind, answered, passed-done, list-reads}
 use Rattle.answers.proofs.ListLaws.{coordinates-width}
-use Rattle.demands.specs.Calls.{Calls, NotACycle, FirstFaultyChain, ListsSingle}
+use Rattle.demands.specs.Calls.{Calls, SheetsTold, NotACycle, FirstFaultyChain, ListsSingle}
 
 pub calls : Calls
 calls = call-outcome
+
+pub sheetsTold : SheetsTold
+unfolding call earlyChecks
+sheetsTold limit q request output work d =
+    with-early (firstRefusal (earlyChecks limit q request (length output) (length work))) (endChecks q request) (two q (transformsOf request))
+    (λ s r x. splices (listSlots q request) (numbersOf q request s r x) (listCount request) output) output work (λ z. d (sym told ∙ z))
+    ∙ ap (λ (k : ℕ). record { answer = refused k; output = output; work = work }) told
+  where
+    slots : ℕ
+    slots = listCount request * listSlots q request
+
+    space : ℕ
+    space = workSlotsFor (transformsOf request) (cells q) (q .dimension)
+
+    sheet : firstRefusal (callChecks limit q (listCount request * listSlots q request) (workSlotsFor (transformsOf request) (cells q) (q .dimension)) (length output) (length work))
+        ≡ refusal limit (q .sheet)
+    sheet = sheet-told limit q slots space (length output) (length work) d
+
+    told : firstRefusal (earlyChecks limit q request (length output) (length work)) ≡ refusal limit (q .sheet)
+    told = call-told limit q slots space (length output) (length work) (requestChecks q request) (λ z. d (sym sheet ∙ z)) ∙ sheet
 
 pub notACycle : NotACycle
 notACycle = not-a-cycle-iff

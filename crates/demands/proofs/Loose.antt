@@ -14,7 +14,7 @@ use Rattle.complexes.specs.Loose.{InEdge}
 use Rattle.sheet_format.specs.Layout.{top, start}
 use Rattle.sheet_format.specs.Check.{countField, offsetField, cellOf, cellsOf, sectionsOf, some, verticesDoNotRise, cellsDoNotRise, faceMissing, complexRefusal, refusal}
 use Rattle.sheet_format.specs.Sheet.{Bytes}
-use Rattle.sheet_format.specs.OrderCases.{faceAndLooseNode, edgeAndNode, edgeAlone, edgeAloneSections}
+use Rattle.sheet_format.specs.OrderCases.{faceAndLooseNode, twoVertices, edgeAndNode, edgeAlone, edgeAloneSections}
 use Rattle.sheet_format.proofs.Accept.{laid-complex, accepted-complex}
 use Rattle.sweeps.specs.Swept.{StaysIn, IsSwept}
 use Rattle.demands.proofs.Hollow.{numbers-below}
@@ -26,6 +26,10 @@ loose-bytes = record { small = numbers-below 256 (omega arith) edgeAndNode tt }
 pub alone-bytes : Bytes edgeAlone
 unfolding every
 alone-bytes = record { small = numbers-below 256 (omega arith) edgeAlone tt }
+
+pub two-bytes : Bytes twoVertices
+unfolding every
+two-bytes = record { small = numbers-below 256 (omega arith) twoVertices tt }
 
 pub face-bytes : Bytes faceAndLooseNode
 unfolding every
@@ -40,6 +44,10 @@ loose-sections = refl
 
 pub loose-laid : (limit : ℕ) → complexRefusal limit edgeAndNode ≡ 0 → Complex top limit looseCells
 loose-laid limit e = rw loose-sections at (laid-complex limit edgeAndNode loose-bytes e)
+
+pub laid-256 : complexRefusal 256 edgeAndNode ≡ 0
+unfolding complexRefusal countField offsetField cellOf cellsOf sectionsOf some verticesDoNotRise cellsDoNotRise faceMissing without same rises precedes listed start tabulate
+laid-256 = refl
 
 pub laid-48 : complexRefusal 48 edgeAndNode ≡ 0
 unfolding complexRefusal countField offsetField cellOf cellsOf sectionsOf some verticesDoNotRise cellsDoNotRise faceMissing without same rises precedes listed start tabulate
@@ -102,12 +110,17 @@ alone-is = fewer-vertices looseCells edgeAloneSections (λ p. refl) (λ c. (λ h
     from c (suc (suc zero)) l e n = record { place = 1; below = omega arith; is = e }
     from c (suc (suc (suc i))) l e n = absurd (omega (arith, l))
 
-pub alone-complex : Complex top 48 edgeAloneSections
+pub alone-48 : refusal 48 edgeAlone ≡ 0
 unfolding refusal countField offsetField cellOf cellsOf sectionsOf some verticesDoNotRise cellsDoNotRise faceMissing without same rises precedes listed start tabulate
-alone-complex = rw alone-sections at (accepted-complex 48 edgeAlone alone-bytes alone-accepted)
-  where
-    alone-sections : sectionsOf edgeAlone ≡ edgeAloneSections
-    alone-sections = refl
+alone-48 = refl
 
-    alone-accepted : refusal 48 edgeAlone ≡ 0
-    alone-accepted = refl
+pub alone-256 : refusal 256 edgeAlone ≡ 0
+unfolding refusal countField offsetField cellOf cellsOf sectionsOf some verticesDoNotRise cellsDoNotRise faceMissing without same rises precedes listed start tabulate
+alone-256 = refl
+
+alone-sections : sectionsOf edgeAlone ≡ edgeAloneSections
+unfolding sectionsOf cellsOf cellOf countField start tabulate
+alone-sections = refl
+
+pub alone-complex : (limit : ℕ) → refusal limit edgeAlone ≡ 0 → Complex top limit edgeAloneSections
+alone-complex limit e = rw alone-sections at (accepted-complex limit edgeAlone alone-bytes e)

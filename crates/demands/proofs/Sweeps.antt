@@ -4,8 +4,8 @@ use Rattle.sheet_format.proofs.Accept.{laid-iff}
 use Rattle.sheet_format.proofs.LooseLaws.{refusal-edgeless}
 use Rattle.sweeps.specs.Sweep.{swept}
 use Rattle.sweeps.proofs.SweptLaws.{swept-is, swept-complex, swept-unique}
-use Rattle.sweeps.proofs.SweepLaws.{sweep-told, sweep-short, sweep-done, sweep-left, sweep-sheet, sweep-number, sweep-same, sweep-twice}
-use Rattle.demands.specs.Sweeps.{Layouts, SweepRefused, SweptCells, SweptUnique, SweepTooShort, SweepDone, SweepLeft, SweepSheet, HostSweepSheet, EdgelessSheets, SweepUnchanged, SweepTwice}
+use Rattle.sweeps.proofs.SweepLaws.{sweep-told, sweep-short, sweep-done, sweep-fits, sweep-left, sweep-sheet, sweep-number, sweep-same, sweep-twice}
+use Rattle.demands.specs.Sweeps.{Layouts, SweepRefused, SweptCells, SweptUnique, SweepTooShort, SweepDone, SweepFits, SweepLeft, SweepSheet, HostSweepSheet, EdgelessSheets, SweepUnchanged, SweepTwice}
 
 pub layouts : Layouts
 layouts = laid-iff
@@ -24,6 +24,9 @@ sweepTooShort = sweep-short
 
 pub sweepDone : SweepDone
 sweepDone = sweep-done
+
+pub sweepFits : SweepFits
+sweepFits = sweep-fits
 
 pub sweepLeft : SweepLeft
 sweepLeft = sweep-left

@@ -17,8 +17,9 @@ use Rattle.trials.proofs.TrialLaws.{refused≢done}
 use Rattle.complexes.specs.Cell.{without, same, rises, precedes, listed}
 use Rattle.complexes.specs.Boundary.{sign, coefficient, countBelow, boundary}
 use Rattle.sheet_format.specs.Layout.{start}
-use Rattle.sheet_format.specs.Check.{countField, offsetField, cellOf, cellsOf, sectionsOf, some, verticesDoNotRise, cellsDoNotRise, faceMissing}
+use Rattle.sheet_format.specs.Check.{countField, offsetField, cellOf, cellsOf, sectionsOf, some, verticesDoNotRise, cellsDoNotRise, faceMissing, refusal}
 use Rattle.sheet_format.specs.Sheet.{Bytes}
+use Rattle.sheet_format.specs.OrderCases.{edgeAndNode}
 use Rattle.sheet_format.specs.Starred.{hollowTriangle}
 use Rattle.reduction_steps.specs.State.{State}
 use Rattle.integers.specs.Slot.{slot}
@@ -31,7 +32,7 @@ use Rattle.answers.specs.Outcome as outcome
 use Rattle.answers.specs.Homology.{IsBoundary}
 use Rattle.answers.specs.Outcome.{Outcome, TooWide, Bounds, Ends}
 use Rattle.answers.proofs.Behind.{ends-two}
-use Rattle.demands.specs.Calls.{Calls}
+use Rattle.demands.specs.Calls.{Calls, SheetsTold}
 use Rattle.demands.proofs.Hollow.{hollow, hollow-bytes, hollow-chains, hollow-left, hollow-reduced, hollow-narrow, nines, minus}
 
 -- what a call on the hollow triangle leaves where it is done, by what its reductions come to
@@ -226,3 +227,10 @@ module _ (calls : Calls) where
       of (outcome.Outcome.too-wide none wide is) = absurd (refused≢done (sym (ap answer-of is) ∙ answered))
       of (outcome.Outcome.bounds-nothing none narrow nothing is) = absurd (refused≢done (sym (ap answer-of is) ∙ answered))
       of (outcome.Outcome.is-done none narrow bounds s r x ends is) = bounds
+
+-- ---- refused for its sheet: 18 before the dimension and the slices
+
+refused-18 : SheetsTold → (request : Request) (output work : List ℤ) →
+    call 48 (asked edgeAndNode 4) request output work ≡ record { answer = refused 18; output = output; work = work }
+unfolding refusal countField offsetField cellOf cellsOf sectionsOf some verticesDoNotRise cellsDoNotRise faceMissing without same rises precedes listed start tabulate
+refused-18 sheetsTold request output work = sheetsTold 48 (asked edgeAndNode 4) request output work (λ e. omega (arith, e))

@@ -2,23 +2,20 @@
 -- beside a point, whose node is loose.
 use mathlib.Core.Path.{_≡_, refl, sym, ap, _∙_, subst}
 use mathlib.Core.Bool.{true, false≢true}
-use mathlib.Core.List.{List, [], _∷_, _++_}
-use Prim.Native.Nat.{ℕ, zero, suc, _≤_, _<_}
+use mathlib.Core.List.{List, [], _∷_}
+use Prim.Native.Nat.{ℕ, _≤_}
 use native.Mathlib.Omega.{arith}
-use lib.Dec.{T, ltb}
-use lib.ListN.{length, getD, take, drop}
+use lib.ListN.{length, take, drop}
 use Rattle.limits.specs.Limits.{libraryLimit, hostLimit}
-use Rattle.trials.specs.Trial.{done, numberTold}
+use Rattle.trials.specs.Trial.{numberTold}
 use Rattle.lists.specs.Tabulate.{tabulate}
 use Rattle.lists.specs.Same.{every, sameList}
-use Rattle.complexes.specs.Cell.{Cell, without, same, rises, precedes, listed, Listed, Vertex, Subset}
-use Rattle.complexes.specs.Complex.{Sections, section, Complex}
-use Rattle.complexes.specs.Loose.{InEdge}
-use Rattle.sheet_format.specs.Layout.{top, cellBytes, sectionBytes, sectionsBytes, start, headerBytes, layout}
-use Rattle.sheet_format.specs.Check.{countField, offsetField, cellOf, cellsOf, sectionsOf, some, verticesDoNotRise, cellsDoNotRise, faceMissing, refusal}
+use Rattle.complexes.specs.Cell.{without, precedes, Listed}
+use Rattle.complexes.specs.Complex.{Sections, section}
+use Rattle.sheet_format.specs.Layout.{cellBytes, sectionBytes, sectionsBytes, start, headerBytes, layout}
+use Rattle.sheet_format.specs.Check.{sectionsOf, some, refusal}
 use Rattle.sheet_format.specs.Sheet.{Bytes}
 use Rattle.sheet_format.specs.Written.{headerGives}
-use Rattle.sheet_format.specs.Starred.{filledTriangle, filledTriangleSections}
 use Rattle.closures.specs.Insert.{insert, insertAll}
 use Rattle.closures.specs.Closure.{elementTop, member, repeats, ofDimension, facesOf, closedSection, closure}
 use Rattle.closures.specs.Form.{IsClosure}
@@ -30,15 +27,12 @@ use Rattle.mesh_format.proofs.Accept.{mesh-iff}
 use Rattle.imports.specs.Import.{nodesOfKind, faulty, noneFaulty, elementsRight, nodeLists, complexOf, meshIn, isMalformed, tooLong, meshChecks, importCall}
 use Rattle.trials.specs.Write.{answerWith}
 use Rattle.imports.proofs.ImportLaws.{mesh-cells}
-use Rattle.sweeps.specs.Swept.{IsSwept}
+use Rattle.sweeps.specs.Sweep.{sweepCall}
 use Rattle.imports.specs.Sheet.{ImportedSheet}
 use Rattle.sweeps.specs.Cases.{lent}
 use Rattle.imports.specs.Examples.{shown, line, textOf, hollow, filledAndPoint, twice, hollowMesh, hollow-text, hollow-right, hollow-done, hollow-host-done}
-use Rattle.demands.specs.Meshes.{ImportMalformed, MeshesUnique, ImportFaulty, MeshCells, MeshCellsUnique, ImportTooLong, ImportDone, ImportLeft, ImportSheet, HostImportSheet}
-use Rattle.sheet_format.proofs.Accept.{accepted-complex}
-use Rattle.demands.proofs.Hollow.{numbers-below, hollowCells}
-use Rattle.demands.proofs.Filled.{filled-bytes}
-use Rattle.demands.proofs.Loose.{one-of, fewer-vertices}
+use Rattle.demands.specs.Meshes.{ImportMalformed, MeshesUnique, ImportFaulty, MeshCells, MeshCellsUnique, ImportTooLong, ImportDone, ImportSweeps, ImportLeft, ImportSheet, HostImportSheet}
+use Rattle.demands.proofs.Hollow.{hollowCells}
 
 -- ---- 14
 
@@ -140,77 +134,19 @@ pointCells = complexOf (pointMesh .elements)
 point-closure : IsClosure elementTop (nodeLists (pointMesh .elements)) pointCells
 point-closure = mesh-cells pointMesh point-right
 
-abbrev pointSections : Sections
-pointSections =
-    ((0 ∷ []) ∷ (1 ∷ []) ∷ (2 ∷ []) ∷ (3 ∷ []) ∷ []) ∷ ((0 ∷ 1 ∷ []) ∷ (0 ∷ 2 ∷ []) ∷ (1 ∷ 2 ∷ []) ∷ []) ∷ ((0 ∷ 1 ∷ 2 ∷ []) ∷ []) ∷ [] ∷ []
-
-point-cells : pointCells ≡ pointSections
-unfolding insert insertAll ofDimension facesOf closedSection closure tabulate without precedes
-point-cells = refl
-
--- no edge has the vertex 3
-no-three : InEdge pointSections (3 ∷ []) → ⊥
-unfolding every
-no-three n = go (n .edge) (n .below) (n .subset)
-  where
-    end : (c : Cell) → T (every (λ v. ltb v 3) c) → Vertex 3 c → ⊥
-    end c t x = omega (arith, numbers-below 3 (omega arith) c t (x .place), x .is)
-
-    go : (k : ℕ) → k < 3 → Subset (3 ∷ []) (getD ((0 ∷ 1 ∷ []) ∷ (0 ∷ 2 ∷ []) ∷ (1 ∷ 2 ∷ []) ∷ []) k []) → ⊥
-    go zero l s = end (0 ∷ 1 ∷ []) tt (s 3 (record { place = 0; below = omega arith; is = refl }))
-    go (suc zero) l s = end (0 ∷ 2 ∷ []) tt (s 3 (record { place = 0; below = omega arith; is = refl }))
-    go (suc (suc zero)) l s = end (1 ∷ 2 ∷ []) tt (s 3 (record { place = 0; below = omega arith; is = refl }))
-    go (suc (suc (suc k))) l s = omega (arith, l)
-
--- what the sweep leaves is the filled triangle: its vertices stand in edges
-point-is : IsSwept pointCells filledTriangleSections
-point-is =
-    rw point-cells
-    (fewer-vertices pointSections filledTriangleSections (λ p. refl)
-    (λ c. (λ h. to c (h .place) (h .below) (h .is), λ h. from c (h .0 .place) (h .0 .below) (h .0 .is) (h .1))))
-  where
-    in-edge : (v : ℕ) → Vertex v (0 ∷ 1 ∷ []) → InEdge pointSections (v ∷ [])
-    in-edge v x = record { edge = 0; below = omega arith; subset = one-of v (0 ∷ 1 ∷ []) x }
-
-    two : InEdge pointSections (2 ∷ [])
-    two = record { edge = 1; below = omega arith; subset = one-of 2 (0 ∷ 2 ∷ []) (record { place = 1; below = omega arith; is = refl }) }
-
-    to : (c : Cell) (i : ℕ) → i < 3 → getD ((0 ∷ []) ∷ (1 ∷ []) ∷ (2 ∷ []) ∷ []) i [] ≡ c → Listed c (section pointSections 0) × (0 < 3 → InEdge pointSections c)
-    to c zero l e =
-        (record { place = 0; below = omega arith; is = e }, λ _. subst (InEdge pointSections) e (in-edge 0 (record { place = 0; below = omega arith; is = refl })))
-    to c (suc zero) l e =
-        (record { place = 1; below = omega arith; is = e }, λ _. subst (InEdge pointSections) e (in-edge 1 (record { place = 1; below = omega arith; is = refl })))
-    to c (suc (suc zero)) l e = (record { place = 2; below = omega arith; is = e }, λ _. subst (InEdge pointSections) e two)
-    to c (suc (suc (suc i))) l e = absurd (omega (arith, l))
-
-    from : (c : Cell) (i : ℕ) → i < 4 → getD ((0 ∷ []) ∷ (1 ∷ []) ∷ (2 ∷ []) ∷ (3 ∷ []) ∷ []) i [] ≡ c → (0 < 3 → InEdge pointSections c)
-        → Listed c (section filledTriangleSections 0)
-    from c zero l e n = record { place = 0; below = omega arith; is = e }
-    from c (suc zero) l e n = record { place = 1; below = omega arith; is = e }
-    from c (suc (suc zero)) l e n = record { place = 2; below = omega arith; is = e }
-    from c (suc (suc (suc zero))) l e n = absurd (no-three (subst (InEdge pointSections) (sym e) (n (omega arith))))
-    from c (suc (suc (suc (suc i)))) l e n = absurd (omega (arith, l))
-
-triangle-complex : Complex top 4 filledTriangleSections
-unfolding refusal countField offsetField cellOf cellsOf sectionsOf some verticesDoNotRise cellsDoNotRise faceMissing without same rises precedes listed start tabulate
-triangle-complex = rw sections-are at (accepted-complex 4 filledTriangle filled-bytes accepted)
-  where
-    sections-are : sectionsOf filledTriangle ≡ filledTriangleSections
-    sections-are = refl
-
-    accepted : refusal 4 filledTriangle ≡ 0
-    accepted = refl
-
 -- 16 is about the sheet before the sweep, of 42 bytes; the one that is written has 40
 point-short : ImportTooLong → numberTold (importCall 4 filledAndPoint (lent 41) .answer) ≡ 16
 unfolding tooLong some insert insertAll ofDimension facesOf closedSection closure tabulate without precedes layout headerBytes start sectionsBytes sectionBytes cellBytes
 point-short importTooLong = importTooLong 4 filledAndPoint (lent 41) pointMesh point-text point-right pointCells point-closure .1 refl
 
-imported : ImportDone → importCall 4 filledAndPoint (lent 42) ≡ record { answer = done 40; output = filledTriangle ++ lent 2 }
+imported : ImportDone → numberTold (importCall 4 filledAndPoint (lent 42) .answer) ≡ 0
 unfolding tooLong some insert insertAll ofDimension facesOf closedSection closure tabulate without precedes layout headerBytes start sectionsBytes sectionBytes cellBytes
-imported importDone =
-    importDone 4 filledAndPoint (lent 42) pointMesh point-text point-right pointCells point-closure refl filledTriangleSections
-    triangle-complex point-is
+imported importDone = importDone 4 filledAndPoint (lent 42) pointMesh point-text point-right pointCells point-closure refl
+
+-- the answer and the slice are the sweep's, at the largest limit there is
+imported-swept : ImportSweeps → importCall 256 filledAndPoint (lent 42) ≡ sweepCall 256 (layout pointCells) (lent 42)
+unfolding tooLong some insert insertAll ofDimension facesOf closedSection closure tabulate without precedes layout headerBytes start sectionsBytes sectionBytes cellBytes
+imported-swept importSweeps = importSweeps 256 (omega arith) filledAndPoint (lent 42) pointMesh point-text point-right pointCells point-closure refl
 
 -- ---- the sheet that is written
 

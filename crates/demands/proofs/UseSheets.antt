@@ -2,20 +2,20 @@
 -- is refused with 18.
 use mathlib.Core.Path.{_≡_, refl, sym, _∙_, subst}
 use mathlib.Core.List.{List, [], _∷_}
-use Prim.Native.Nat.{ℕ}
+use Prim.Native.Nat.{ℕ, _<_}
 use native.Mathlib.Omega.{arith}
 use Rattle.lists.specs.Tabulate.{tabulate}
 use Rattle.complexes.specs.Cell.{without, same, rises, precedes, listed}
-use Rattle.complexes.specs.Complex.{Complex}
+use Rattle.complexes.specs.Complex.{count, cell, Complex}
 use Rattle.complexes.specs.Loose.{InEdge, NoLooseNodes}
-use Rattle.sheet_format.specs.Layout.{start, layout, top}
+use Rattle.sheet_format.specs.Layout.{cellBytes, sectionBytes, sectionsBytes, headerBytes, start, layout, top}
 use Rattle.sheet_format.specs.Check.{countField, offsetField, cellOf, cellsOf, sectionsOf, some, verticesDoNotRise, cellsDoNotRise, faceMissing, complexRefusal, refusal}
 use Rattle.sheet_format.specs.Sheet.{Bytes, IsSheet}
 use Rattle.sheet_format.specs.Starred.{hollowTriangle}
-use Rattle.sheet_format.specs.OrderCases.{edgeAndNode}
-use Rattle.demands.specs.Sheets.{Acceptance, SheetCells, LooseRefused}
+use Rattle.sheet_format.specs.OrderCases.{faceAndLooseNode, edgeAndNode}
+use Rattle.demands.specs.Sheets.{Acceptance, SheetCells, LooseSheet, LooseRefused, EarlierRefused}
 use Rattle.demands.proofs.Hollow.{hollow-bytes, hollowCells}
-use Rattle.demands.proofs.Loose.{loose-bytes, loose-node}
+use Rattle.demands.proofs.Loose.{loose-bytes, looseCells, loose-laid, laid-256, loose-node}
 
 module _ (acceptance : Acceptance) where
   is-sheet : IsSheet 3 hollowTriangle
@@ -25,11 +25,11 @@ module _ (acceptance : Acceptance) where
   complex : Complex top 3 (is-sheet .laid .cells)
   complex = is-sheet .laid .complex
 
-  -- the vertex 0 stands in an edge
-  used : SheetCells → InEdge hollowCells (0 ∷ [])
+  -- the last vertex stands in an edge
+  used : SheetCells → InEdge hollowCells (2 ∷ [])
   unfolding sectionsOf cellsOf cellOf countField start tabulate
   used sheetCells =
-      subst NoLooseNodes (sheetCells 3 (omega arith) hollowTriangle (is-sheet .laid)) (is-sheet .used) .used (omega arith) 0 (omega arith)
+      subst NoLooseNodes (sheetCells 3 (omega arith) hollowTriangle (is-sheet .laid)) (is-sheet .used) .used (omega arith) 2 (omega arith)
 
   bytes : layout (is-sheet .laid .cells) ≡ hollowTriangle
   bytes = is-sheet .laid .bytes
@@ -54,14 +54,35 @@ module _ (acceptance : Acceptance) where
 -- ---- loose nodes
 
 module _ (looseRefused : LooseRefused) where
-  -- no edge has the vertex 1
-  loose-told : refusal 48 edgeAndNode ≡ 18
-  unfolding complexRefusal countField offsetField cellOf cellsOf sectionsOf some verticesDoNotRise cellsDoNotRise faceMissing without same rises precedes listed start tabulate
-  loose-told = looseRefused 48 edgeAndNode loose-bytes .1 (refl, λ none. loose-node (none .used (omega arith) 1 (omega arith)))
+  -- no edge has the vertex 1, at the largest limit there is
+  loose-told : refusal 256 edgeAndNode ≡ 18
+  unfolding layout headerBytes start sectionsBytes sectionBytes cellBytes
+  loose-told = looseRefused 256 (omega arith) edgeAndNode loose-bytes .1 (record {
+    laid = record { cells = looseCells; complex = loose-laid 256 laid-256; bytes = bytes };
+    node = record { edges = omega arith; place = 1; below = omega arith; alone = loose-node };
+  })
+    where
+      bytes : layout looseCells ≡ edgeAndNode
+      bytes = refl
 
-  -- where 18 is told, the sheet passes the earlier checks, and not all its nodes stand in edges
-  told-laid : (b : List ℕ) → Bytes b → refusal 48 b ≡ 18 → complexRefusal 48 b ≡ 0
-  told-laid b bytes e = looseRefused 48 b bytes .0 e .0
+  -- where 18 is told, the sheet holds a complex with an edge, and some vertex of it stands in none
+  loose-sheet : (b : List ℕ) → Bytes b → refusal 48 b ≡ 18 → LooseSheet 48 b
+  loose-sheet b bytes e = looseRefused 48 (omega arith) b bytes .0 e
 
-  not-used : NoLooseNodes (sectionsOf edgeAndNode) → ⊥
-  not-used = looseRefused 48 edgeAndNode loose-bytes .0 loose-told .1
+  module _ (b : List ℕ) (bytes : Bytes b) (e : refusal 48 b ≡ 18) where
+    told-layout : layout (loose-sheet b bytes e .laid .cells) ≡ b
+    told-layout = loose-sheet b bytes e .laid .bytes
+
+    told-edge : 0 < count (loose-sheet b bytes e .laid .cells) 1
+    told-edge = loose-sheet b bytes e .node .edges
+
+    told-vertex : loose-sheet b bytes e .node .place < count (loose-sheet b bytes e .laid .cells) 0
+    told-vertex = loose-sheet b bytes e .node .below
+
+    told-alone : InEdge (loose-sheet b bytes e .laid .cells) (cell (loose-sheet b bytes e .laid .cells) 0 (loose-sheet b bytes e .node .place)) → ⊥
+    told-alone = loose-sheet b bytes e .node .alone
+
+-- 7 and 18 in one sheet
+earlier : EarlierRefused → refusal 48 faceAndLooseNode ≡ 7
+unfolding complexRefusal countField offsetField cellOf cellsOf sectionsOf some verticesDoNotRise cellsDoNotRise faceMissing without same rises precedes listed start tabulate
+earlier earlierRefused = earlierRefused 48 faceAndLooseNode (λ e. omega (arith, e))

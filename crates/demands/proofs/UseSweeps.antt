@@ -20,15 +20,15 @@ use Rattle.sweeps.specs.Swept.{IsSwept, SweptSheet}
 use Rattle.sweeps.specs.Cases.{lent}
 use Rattle.sweeps.specs.Examples.{loose-done, loose-host-done}
 use Rattle.demands.specs.Sheets.{SheetCells}
-use Rattle.demands.specs.Sweeps.{Layouts, SweepRefused, SweptCells, SweptUnique, SweepTooShort, SweepDone, SweepLeft, SweepSheet, HostSweepSheet, EdgelessSheets, SweepUnchanged, SweepTwice}
-use Rattle.demands.proofs.Loose.{loose-bytes, alone-bytes, face-bytes, looseCells, loose-sections, loose-laid, laid-48, alone-is, alone-complex, loose-node, edge-node}
+use Rattle.demands.specs.Sweeps.{Layouts, SweepRefused, SweptCells, SweptUnique, SweepTooShort, SweepDone, SweepFits, SweepLeft, SweepSheet, HostSweepSheet, EdgelessSheets, SweepUnchanged, SweepTwice}
+use Rattle.demands.proofs.Loose.{loose-bytes, alone-bytes, face-bytes, looseCells, loose-sections, loose-laid, laid-48, laid-256, alone-is, alone-48, alone-256, alone-complex, two-bytes, loose-node, edge-node}
 
 -- ---- 1 to 7
 
 module _ (layouts : Layouts) where
-  loose-layout : IsLayout 48 edgeAndNode
+  loose-layout : IsLayout 256 edgeAndNode
   unfolding complexRefusal countField offsetField cellOf cellsOf sectionsOf some verticesDoNotRise cellsDoNotRise faceMissing without same rises precedes listed start tabulate
-  loose-layout = layouts 48 (omega arith) edgeAndNode loose-bytes .0 refl
+  loose-layout = layouts 256 (omega arith) edgeAndNode loose-bytes .0 refl
 
   -- a face is missing: told 7
   no-layout : IsLayout 48 faceAndLooseNode → ⊥
@@ -41,7 +41,7 @@ module _ (layouts : Layouts) where
   -- the cells of the layout are the edge's, its vertices and the loose one
   loose-cells : SheetCells → loose-layout .cells ≡ looseCells
   unfolding sectionsOf cellsOf cellOf countField start tabulate
-  loose-cells sheetCells = sheetCells 48 (omega arith) edgeAndNode loose-layout
+  loose-cells sheetCells = sheetCells 256 (omega arith) edgeAndNode loose-layout
 
 told-7 : SweepRefused → (slice : List ℕ) → numberTold (sweepCall 48 faceAndLooseNode slice .answer) ≡ 7
 unfolding complexRefusal countField offsetField cellOf cellsOf sectionsOf some verticesDoNotRise cellsDoNotRise faceMissing without same rises precedes listed start tabulate
@@ -53,7 +53,7 @@ module _ (sweptUnique : SweptUnique) where
   has-cells : (sweptCells : SweptCells) → sweptCells 48 looseCells (loose-laid 48 laid-48) .cells ≡ edgeAloneSections
   has-cells sweptCells =
       let has = sweptCells 48 looseCells (loose-laid 48 laid-48) in
-      sweptUnique 48 looseCells (has .cells) edgeAloneSections (loose-laid 48 laid-48) (has .complex) (has .are) alone-complex alone-is
+      sweptUnique 48 looseCells (has .cells) edgeAloneSections (loose-laid 48 laid-48) (has .complex) (has .are) (alone-complex 48 alone-48) alone-is
 
 -- ---- 16, and done
 
@@ -63,22 +63,31 @@ swept-sections = rw loose-sections alone-is
 module _ (sweepTooShort : SweepTooShort) where
   short : numberTold (sweepCall 48 edgeAndNode (lent 23) .answer) ≡ 16
   unfolding layout headerBytes start sectionsBytes sectionBytes cellBytes
-  short = sweepTooShort 48 edgeAndNode (lent 23) (omega arith) loose-bytes laid-48 edgeAloneSections alone-complex swept-sections .1 (omega arith)
+  short = sweepTooShort 48 edgeAndNode (lent 23) (omega arith) loose-bytes laid-48 edgeAloneSections (alone-complex 48 alone-48) swept-sections .1 (omega arith)
 
-  -- at the length of the swept sheet
-  not-16 : numberTold (sweepCall 48 edgeAndNode (lent 24) .answer) ≡ 16 → ⊥
+  -- at the length of the swept sheet, at the largest limit there is
+  not-16 : numberTold (sweepCall 256 edgeAndNode (lent 24) .answer) ≡ 16 → ⊥
   unfolding layout headerBytes start sectionsBytes sectionBytes cellBytes
   not-16 told =
-      omega (arith, sweepTooShort 48 edgeAndNode (lent 24) (omega arith) loose-bytes laid-48 edgeAloneSections alone-complex swept-sections .0 told)
+      omega (arith, sweepTooShort 256 edgeAndNode (lent 24) (omega arith) loose-bytes laid-256 edgeAloneSections (alone-complex 256 alone-256) swept-sections .0 told)
 
   module _ (sweepLeft : SweepLeft) where
     kept : sweepCall 48 edgeAndNode (lent 23) .output ≡ lent 23
     kept = sweepLeft 48 edgeAndNode (lent 23) (λ none. let sixteen : _≡_ {A = ℕ} 16 0 = sym short ∙ none in absurd (omega (arith, sixteen)))
 
-swept : SweepDone → sweepCall 48 edgeAndNode (lent 30) ≡ record { answer = done 24; output = edgeAlone ++ lent 6 }
-unfolding layout headerBytes start sectionsBytes sectionBytes cellBytes
-swept sweepDone =
-    sweepDone 48 edgeAndNode (lent 30) (omega arith) loose-bytes laid-48 edgeAloneSections alone-complex swept-sections (omega arith)
+module _ (sweepDone : SweepDone) where
+  swept : sweepCall 48 edgeAndNode (lent 30) ≡ record { answer = done 24; output = edgeAlone ++ lent 6 }
+  unfolding layout headerBytes start sectionsBytes sectionBytes cellBytes
+  swept = sweepDone 48 edgeAndNode (lent 30) (omega arith) loose-bytes laid-48 edgeAloneSections (alone-complex 48 alone-48) swept-sections (omega arith)
+
+  -- in a slice of exactly its length, at the largest limit there is
+  exact : sweepCall 256 edgeAndNode (lent 24) ≡ record { answer = done 24; output = edgeAlone ++ [] }
+  unfolding layout headerBytes start sectionsBytes sectionBytes cellBytes
+  exact = sweepDone 256 edgeAndNode (lent 24) (omega arith) loose-bytes laid-256 edgeAloneSections (alone-complex 256 alone-256) swept-sections (omega arith)
+
+-- a slice as long as the sheet that is given, at the largest limit there is
+fits : SweepFits → numberTold (sweepCall 256 edgeAndNode (lent 26) .answer) ≡ 0
+fits sweepFits = sweepFits 256 edgeAndNode (lent 26) (omega arith) loose-bytes laid-256 (omega arith)
 
 -- ---- the sheet that is written
 
@@ -128,10 +137,21 @@ edgeless : EdgelessSheets → refusal 48 twoVertices ≡ 0
 unfolding complexRefusal countField offsetField cellOf cellsOf sectionsOf some verticesDoNotRise cellsDoNotRise faceMissing without same rises precedes listed start tabulate
 edgeless edgelessSheets = edgelessSheets 48 twoVertices refl
 
-unchanged : SweepUnchanged → sweepCall 48 edgeAlone (lent 30) ≡ record { answer = done 24; output = edgeAlone ++ lent 6 }
-unfolding refusal countField offsetField cellOf cellsOf sectionsOf some verticesDoNotRise cellsDoNotRise faceMissing without same rises precedes listed start tabulate
-unchanged sweepUnchanged = sweepUnchanged 48 (omega arith) edgeAlone (lent 30) alone-bytes refl (omega arith)
+module _ (sweepUnchanged : SweepUnchanged) where
+  unchanged : sweepCall 48 edgeAlone (lent 30) ≡ record { answer = done 24; output = edgeAlone ++ lent 6 }
+  unfolding refusal countField offsetField cellOf cellsOf sectionsOf some verticesDoNotRise cellsDoNotRise faceMissing without same rises precedes listed start tabulate
+  unchanged = sweepUnchanged 48 (omega arith) edgeAlone (lent 30) alone-bytes refl (omega arith)
 
-twice : SweepTwice → sweepCall libraryLimit (take 24 (sweepCall libraryLimit edgeAndNode (lent 30) .output)) (lent 26)
-    ≡ record { answer = done 24; output = take 24 (sweepCall libraryLimit edgeAndNode (lent 30) .output) ++ lent 2 }
-twice sweepTwice = sweepTwice libraryLimit (omega arith) edgeAndNode (lent 30) (lent 26) loose-bytes 24 (ap (λ c. c .answer) loose-done) (omega arith)
+  -- in a slice of exactly its length, at the largest limit there is
+  unchanged-exact : sweepCall 256 edgeAlone (lent 24) ≡ record { answer = done 24; output = edgeAlone ++ [] }
+  unfolding refusal countField offsetField cellOf cellsOf sectionsOf some verticesDoNotRise cellsDoNotRise faceMissing without same rises precedes listed start tabulate
+  unchanged-exact = sweepUnchanged 256 (omega arith) edgeAlone (lent 24) alone-bytes refl (omega arith)
+
+  -- .. and a sheet without edges, by what it is told
+  unchanged-edgeless : EdgelessSheets → sweepCall 48 twoVertices (lent 20) ≡ record { answer = done 20; output = twoVertices ++ [] }
+  unchanged-edgeless edgelessSheets = sweepUnchanged 48 (omega arith) twoVertices (lent 20) two-bytes (edgeless edgelessSheets) (omega arith)
+
+module _ (sweepTwice : SweepTwice) where
+  twice : (slice : List ℕ) → 24 ≤ length slice → sweepCall libraryLimit (take 24 (sweepCall libraryLimit edgeAndNode (lent 30) .output)) slice
+      ≡ record { answer = done 24; output = take 24 (sweepCall libraryLimit edgeAndNode (lent 30) .output) ++ drop 24 slice }
+  twice slice l = sweepTwice libraryLimit (omega arith) edgeAndNode (lent 30) slice loose-bytes 24 (ap (λ c. c .answer) loose-done) l

@@ -9,8 +9,9 @@ use Prim.Native.Nat.{ℕ, _+_, _*_, _≤_, _<_}
 use lib.ListN.{length}
 use lib.IntN.{ℤ}
 use Rattle.limits.specs.Limits.{coefficientLimit}
-use Rattle.trials.specs.Trial.{firstRefusal, done, numberTold}
+use Rattle.trials.specs.Trial.{firstRefusal, done, refused, numberTold}
 use Rattle.complexes.specs.Complex.{Sections}
+use Rattle.sheet_format.specs.Check.{refusal}
 use Rattle.sheet_format.specs.Sheet.{Bytes}
 use Rattle.reports.specs.Report.{Counts}
 use Rattle.requests.specs.Question.{Question, cells, cellCount}
@@ -30,12 +31,18 @@ Calls =
     (limit : ℕ) (q : Question) (request : Request) (output work : List ℤ) → Bytes (q .sheet) →
     Outcome limit q request output work (call limit q request output work)
 
+-- what is told of a sheet, 1 to 7 or 18, is told by every call, before all that is told of the rest
+abbrev pub SheetsTold : Type 0
+SheetsTold =
+    (limit : ℕ) (q : Question) (request : Request) (output work : List ℤ) → refusal limit (q .sheet) ≢ 0 →
+    call limit q request output work ≡ record { answer = refused (refusal limit (q .sheet)); output = output; work = work }
+
 -- 01, "12. The chain has a nonzero boundary": among 10 to 12 it is told exactly when 10 and 11 do not apply and the chain is no cycle,
 -- whatever the coefficient limit
 abbrev pub NotACycle : Type 0
 NotACycle = (limit : ℕ) (K : Sections) (p : ℕ) (z : List ℤ) → (firstRefusal (chainChecks limit K p z) ≡ 12) ↔ NoCycle limit K p z
 
--- 02, Note 1, "The first faulty chain decides between 11 and 12": where none of 1 to 10 applies, a number other than 13 is answered exactly when it is
+-- 02, Note 1, "The first faulty chain decides between 11 and 12": where none of 1 to 10 and 18 applies, a number other than 13 is answered exactly when it is
 -- the first that the checks of a single call tell of a chain
 abbrev pub FirstFaultyChain : Type 0
 FirstFaultyChain =

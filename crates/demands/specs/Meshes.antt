@@ -2,23 +2,23 @@
 use mathlib.Core.Path.{_≡_}
 use mathlib.Core.Logic.{_↔_, _≢_}
 use mathlib.Core.Bool.{true, false}
-use mathlib.Core.List.{List, _++_}
+use mathlib.Core.List.{List}
 use Prim.Native.Nat.{ℕ, _≤_}
-use lib.ListN.{length, drop}
+use lib.ListN.{length}
 use Rattle.limits.specs.Limits.{libraryLimit}
-use Rattle.complexes.specs.Complex.{Sections, Complex}
-use Rattle.sheet_format.specs.Layout.{top, layout}
+use Rattle.complexes.specs.Complex.{Sections}
+use Rattle.sheet_format.specs.Layout.{layout}
 use Rattle.sheet_format.specs.Written.{headerGives}
 use Rattle.closures.specs.Closure.{elementTop}
 use Rattle.closures.specs.Form.{IsClosure}
-use Rattle.sweeps.specs.Swept.{IsSwept}
+use Rattle.sweeps.specs.Sweep.{sweepCall}
 use Rattle.mesh_format.specs.Mesh.{Mesh}
 use Rattle.mesh_format.specs.Form.{MeshText}
 use Rattle.trials.specs.Trial.{done, numberTold}
 use Rattle.imports.specs.Import.{elementsRight, nodeLists, tooLong, importCall}
 use Rattle.imports.specs.Sheet.{ImportedSheet}
 
--- 02, Note 3. The contracts of `importer::import::import` and `fildwuk_import` say that these calls answer and leave what `importCall` says, at the
+-- 02, Note 3. The contracts of `importer::import::import`, `fildwuk_library_import` and `fildwuk_import` say that these calls answer and leave what `importCall` says, at the
 -- limits of the library and of the host calls. "New numbers: 14, the text is not of that form or a node number exceeds 65535":
 abbrev pub ImportMalformed : Type 0
 ImportMalformed =
@@ -52,13 +52,18 @@ ImportTooLong =
     (limit : ℕ) (text sheet : List ℕ) (m : Mesh) → MeshText m text → elementsRight m ≡ true → (K : Sections) → IsClosure elementTop (nodeLists (m .elements)) K →
     (numberTold (importCall limit text sheet .answer) ≡ 16) ↔ (tooLong limit (length sheet) K ≡ true)
 
--- demand 3, "A call answers done whenever no numbered refusal applies to it"; "A call that writes a sheet answers done with its length in bytes"; 01,
--- "untouched past what the call writes"; Note 7, "its cells are the earlier ones less those the sweep drops"
+-- demand 3, "A call answers done whenever no numbered refusal applies to it"
 abbrev pub ImportDone : Type 0
 ImportDone =
     (limit : ℕ) (text sheet : List ℕ) (m : Mesh) → MeshText m text → elementsRight m ≡ true → (K : Sections) → IsClosure elementTop (nodeLists (m .elements)) K →
-    tooLong limit (length sheet) K ≡ false → (L : Sections) → Complex top limit L → IsSwept K L →
-    importCall limit text sheet ≡ record { answer = done (length (layout L)); output = layout L ++ drop (length (layout L)) sheet }
+    tooLong limit (length sheet) K ≡ false → numberTold (importCall limit text sheet .answer) ≡ 0
+
+-- .. and then Note 7, "writes only what the sweep makes of its sheet": the answer and the slice are those of the sweep of the sheet of these cells
+abbrev pub ImportSweeps : Type 0
+ImportSweeps =
+    (limit : ℕ) → limit ≤ libraryLimit → (text sheet : List ℕ) (m : Mesh) → MeshText m text → elementsRight m ≡ true →
+    (K : Sections) → IsClosure elementTop (nodeLists (m .elements)) K → tooLong limit (length sheet) K ≡ false →
+    importCall limit text sheet ≡ sweepCall limit (layout K) sheet
 
 -- 01, "Every other slice that a call writes is untouched by a refusal"
 abbrev pub ImportLeft : Type 0

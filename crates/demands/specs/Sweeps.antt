@@ -50,6 +50,12 @@ SweepDone =
     (L : Sections) → Complex top limit L → IsSwept (sectionsOf b) L → length (layout L) ≤ length slice →
     sweepCall limit b slice ≡ record { answer = done (length (layout L)); output = layout L ++ drop (length (layout L)) slice }
 
+-- .. so that a slice as long as the sheet that is given is long enough
+abbrev pub SweepFits : Type 0
+SweepFits =
+    (limit : ℕ) (b slice : List ℕ) → limit ≤ libraryLimit → Bytes b → complexRefusal limit b ≡ 0 → length b ≤ length slice →
+    numberTold (sweepCall limit b slice .answer) ≡ 0
+
 -- 01, "Every other slice that a call writes is untouched by a refusal"
 abbrev pub SweepLeft : Type 0
 SweepLeft = (limit : ℕ) (b slice : List ℕ) → numberTold (sweepCall limit b slice .answer) ≢ 0 → sweepCall limit b slice .output ≡ slice

@@ -1,4 +1,4 @@
--- Imports that compute: texts with the answer and the sheet that document 02, Note 3, gives them. One joint theorem over a table.
+-- Imports that compute: texts with the answer and the sheet that document 02, Notes 3 and 7, gives them. One joint theorem over a table.
 --     import-examples                          every line of the table is right
 --     hollow-text, hollow-right     a text and its mesh
 --     hollow-done, hollow-host-done, point-done, point-host-done     imports that are done, the latter with a loose node

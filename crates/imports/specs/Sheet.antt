@@ -3,9 +3,9 @@ use mathlib.Core.List.{List}
 use Prim.Native.Nat.{ℕ}
 use lib.ListN.{take}
 use Rattle.complexes.specs.Complex.{Sections}
-use Rattle.sheet_format.specs.Layout.{top}
 use Rattle.sheet_format.specs.Check.{sectionsOf}
 use Rattle.sheet_format.specs.Written.{WrittenSheet}
+use Rattle.closures.specs.Closure.{elementTop}
 use Rattle.closures.specs.Form.{IsClosure}
 use Rattle.sweeps.specs.Swept.{IsSwept}
 use Rattle.mesh_format.specs.Mesh.{Mesh}
@@ -19,5 +19,5 @@ pub record ImportedSheet (limit : ℕ) (text before after : List ℕ) (n : ℕ) 
   pub is-text : MeshText mesh text
   pub sheet : WrittenSheet limit before after n
   pub unswept : Sections
-  pub elements : IsClosure top (nodeLists (mesh .elements)) unswept
+  pub elements : IsClosure elementTop (nodeLists (mesh .elements)) unswept
   pub cells : IsSwept unswept (sectionsOf (take n after))

@@ -21,7 +21,7 @@ or-false : (s t : Bool) → s || t ≡ false → (s ≡ false) × (t ≡ false)
 or-false true t e = (e, absurd (true≢false e))
 or-false false t e = (refl, e)
 
--- what the checks 1 to 9 ask
+-- what the checks 1 to 7, 18, 8 and 9 ask
 pub record Passed (limit : ℕ) (q : Question) (slots space output work : ℕ) : Type 0 where
   pub accepted : refusal limit (q .sheet) ≡ 0
   pub dimension : q .dimension ≤ top

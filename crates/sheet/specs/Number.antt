@@ -10,7 +10,7 @@ use Rattle.refusal.specs.Number.{numberOf}
 use Rattle.sheet.specs.declared.reader.Reading.{Reading}
 use Rattle.sheet.specs.declared.reader.Reading.the-variants.{Accepted, Refused}
 
--- 0 for an accepted sheet, else the number of the refusal
+-- 0 where no check that was tried tells a fault, else the number of the refusal
 abbrev pub readingNumber : Reading → ℕ
 readingNumber Accepted = 0
 readingNumber (Refused r) = numberOf r

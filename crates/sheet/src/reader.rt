@@ -18,6 +18,7 @@ pub struct Sheet {
     pub limit: usize,
 }
 
+// Accepted where none of the checks that were tried tells a fault.
 pub enum Reading {
     Accepted,
     Refused(Refusal),

@@ -171,7 +171,7 @@ layout-laid limit small b h e =
 pub layout-sections : (limit : ℕ) → limit ≤ libraryLimit → (b : List ℕ) → Bytes b → refusal limit b ≡ 0 → layout (sectionsOf b) ≡ b
 layout-sections limit small b h e = layout-laid limit small b h (refusal-zero limit b .0 e .0)
 
-abbrev is-laid : (limit : ℕ) → limit ≤ libraryLimit → (b : List ℕ) → Bytes b → complexRefusal limit b ≡ 0 → IsLayout limit b
+abbrev pub is-laid : (limit : ℕ) → limit ≤ libraryLimit → (b : List ℕ) → Bytes b → complexRefusal limit b ≡ 0 → IsLayout limit b
 is-laid limit small b h e = record { cells = sectionsOf b; complex = laid-complex limit b h e; bytes = layout-laid limit small b h e }
 
 pub laid-iff : (limit : ℕ) → limit ≤ libraryLimit → (b : List ℕ) → Bytes b → (complexRefusal limit b ≡ 0) ↔ IsLayout limit b

@@ -1,23 +1,27 @@
 -- Loose nodes of a complex.
 --     loose-false        a vertex is not loose exactly when it stands in an edge or there is none
 --     looseNode-false    no vertex is loose exactly when there is no edge or each stands in one
+--     looseNode-true     some vertex is exactly when there is a loose node
 --     refusal-18         18 is told exactly where none of the checks 1 to 7 applies and a vertex is loose
+--     refusal-earlier    1 to 7 are told before 18
 --     refusal-edgeless   a sheet without edges is refused as by the checks 1 to 7 alone
-use mathlib.Core.Path.{_≡_, refl, _∙_, ap}
-use mathlib.Core.Logic.{_↔_, _⊎_, inl, inr}
+use mathlib.Core.Path.{_≡_, refl, sym, _∙_, ap}
+use mathlib.Core.Logic.{_↔_, _⊎_, inl, inr, _≢_}
+use mathlib.Mathlib.Data.Bool.Basic.{eq-true-of-not-eq-false}
 use mathlib.Core.List.{List, [], _∷_}
-use mathlib.Core.Bool.{Bool, true, false, not, _&&_, _||_, or-true}
+use mathlib.Core.Bool.{Bool, true, false, not, _&&_, _||_, or-true, true≢false}
 use Prim.Native.Nat.{ℕ, zero, suc, _<_}
+use native.Mathlib.Decide.{decLt}
 use native.Mathlib.Omega.{arith}
 use lib.Dec.{eqb, ltb}
 use lib.ListN.{length, getD}
 use borrow.Author.Tests.{lt-ltb, le-ltb, ltb-true, eqb-true, eq-eqb, not-false}
 use Rattle.complexes.specs.Cell.{Cell, Vertex, Subset}
 use Rattle.complexes.specs.Complex.{Sections, count, cell, Complex}
-use Rattle.complexes.specs.Loose.{InEdge, NoLooseNodes}
+use Rattle.complexes.specs.Loose.{InEdge, LooseNode, NoLooseNodes}
 use Rattle.sheet_format.specs.Layout.{top}
 use Rattle.trials.specs.Trial.{firstRefusal}
-use Rattle.trials.proofs.FirstLaws.{orElse, first-append, first-append-absent, first-append-passed}
+use Rattle.trials.proofs.FirstLaws.{orElse, first-append, first-append-absent, first-append-told, first-append-passed}
 use Rattle.sheet_format.specs.Check.{sectionsOf, some, onEdge, loose, looseNode, complexChecks, complexRefusal, refusal}
 use Rattle.sheet_format.specs.CheckLaws.{Found, or-cases, some-true, some-false}
 
@@ -85,6 +89,23 @@ module _ {limit : ℕ} {K : Sections} (complex : Complex top limit K) where
         λ n. each .1 (λ i l. loose-false i l .1 (λ h. n .used h i l)),
       )
 
+  loose-true : (i : ℕ) → i < count K 0 → loose K i ≡ true → (0 < count K 1) × (InEdge K (cell K 0 i) → ⊥)
+  loose-true i l e = (edges (decLt 0 (count K 1)), λ n. true≢false (sym e ∙ loose-false i l .1 (λ _. n)))
+    where
+      edges : Dec (0 < count K 1) → 0 < count K 1
+      edges (yes h) = h
+      edges (no h) = absurd (true≢false (sym e ∙ loose-false i l .1 (λ k. absurd (h k))))
+
+  pub looseNode-true : (looseNode K ≡ true) ↔ LooseNode K
+  looseNode-true = (
+    λ e.
+        let f = some-true (count K 0) (loose K) .0 e in let k = loose-true (f .place) (f .below) (f .passes) in
+        record { edges = k .0; place = f .place; below = f .below; alone = k .1 },
+    λ n.
+        some-true (count K 0) (loose K) .1
+        (record { place = n .place; below = n .below; passes = eq-true-of-not-eq-false (λ e. n .alone (loose-false (n .place) (n .below) .0 e (n .edges))) }),
+  )
+
 -- ---- 18
 
 last-18 : (fault : Bool) → firstRefusal ((18, fault) ∷ []) ≡ 18 → fault ≡ true
@@ -100,6 +121,10 @@ module _ (limit : ℕ) (b : List ℕ) where
         (parts .0, last-18 (looseNode (sectionsOf b)) (parts .1)),
     λ h. first-append-passed (complexChecks limit b) ((18, looseNode (sectionsOf b)) ∷ []) refl (h .0) ∙ rw (h .1) refl,
   )
+
+  pub refusal-earlier : complexRefusal limit b ≢ 0 → refusal limit b ≡ complexRefusal limit b
+  unfolding refusal complexRefusal
+  refusal-earlier d = first-append-told (complexChecks limit b) ((18, looseNode (sectionsOf b)) ∷ []) refl d
 
   no-edge : count (sectionsOf b) 1 ≡ 0 → looseNode (sectionsOf b) ≡ false
   no-edge e =

@@ -91,7 +91,7 @@ looseNode K = some (count K 0) (loose K)
 
 -- ---- the order of trial
 
--- the checks of the sheet b at the count limit: those that the sweep tries ..
+-- the checks of the sheet b at the count limit: 1 to 7, which the sweep tries first ..
 abbrev pub complexChecks : ℕ → List ℕ → List (ℕ × Bool)
 complexChecks limit b =
     (1, tooShort b)
@@ -102,11 +102,11 @@ complexChecks limit b =
     ∷ (6, cellsDoNotRise (sectionsOf b))
     ∷ (7, faceMissing (sectionsOf b)) ∷ []
 
--- .. and all of them, which every other call tries
+-- .. and all of them, which every other call on a sheet tries
 abbrev pub sheetChecks : ℕ → List ℕ → List (ℕ × Bool)
 sheetChecks limit b = complexChecks limit b ++ ((18, looseNode (sectionsOf b)) ∷ [])
 
--- the number of the first refusal of the sweep's that applies to the sheet b at the count limit, 0 for none
+-- the number of the first of 1 to 7 that applies to the sheet b at the count limit, 0 for none
 unfoldable pub complexRefusal : ℕ → List ℕ → ℕ
 complexRefusal limit b = firstRefusal (complexChecks limit b)
 

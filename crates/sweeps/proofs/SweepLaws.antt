@@ -1,6 +1,7 @@
 -- Laws of the sweep call.
 --     sweep-told                    1 to 7 are told as by the checks of the sheet
 --     sweep-short, sweep-done       16 exactly where the slice is too short for the sheet that is written; done where it is not
+--     sweep-fits                    done where the slice is as long as the sheet that is given
 --     sweep-left                    a refusal leaves the slice alone
 --     sweep-sheet, sweep-number     what is written where the call is done
 --     sweep-same, sweep-twice       an accepted sheet is written unchanged, and so is what the sweep wrote
@@ -29,7 +30,7 @@ use Rattle.sheet_format.proofs.Accept.{laid-complex, accepted-used, layout-laid
 use Rattle.sheet_format.proofs.WrittenLaws.{front-sections, written-layout}
 use Rattle.sweeps.specs.Sweep.{swept, sweptSheet, sweepChecks, sweepCall}
 use Rattle.sweeps.specs.Swept.{IsSwept, SweptSheet}
-use Rattle.sweeps.proofs.SweptLaws.{swept-is, swept-complex, swept-used, swept-same, swept-unique}
+use Rattle.sweeps.proofs.SweptLaws.{swept-is, swept-complex, swept-used, swept-same, swept-unique, swept-fits}
 
 -- 16 is told exactly where the room is too short
 sixteen : (room n : ℕ) → _≡_ {A = ℕ} (cond (ltb room n) 16 0) 16 ↔ (room < n)
@@ -89,6 +90,12 @@ module _ (limit : ℕ) (b slice : List ℕ) where
           rw same
           (answer-done (firstRefusal (sweepChecks limit (length slice) b)) (sweptSheet (sectionsOf b)) slice
           (last-is laid ∙ ap (λ (t : Bool). cond t 16 0) (le-ltb (length slice) (length (sweptSheet (sectionsOf b))) (rw same at l))))
+
+    -- the sheet itself is as long or longer
+    pub sweep-fits : length b ≤ length slice → numberTold (sweepCall limit b slice .answer) ≡ 0
+    sweep-fits l =
+        number-is ∙ (last-is laid ∙ ap (λ (t : Bool). cond t 16 0) (le-ltb (length slice) (length (sweptSheet (sectionsOf b)))
+        (omega (arith, swept-fits (sectionsOf b) (complex .dimensions) (complex .sized), ap length (layout-laid limit small b bytes laid)))))
 
   -- ---- where the call is done
   module _ (small : limit ≤ libraryLimit) (bytes : Bytes b) (z : numberTold (sweepCall limit b slice .answer) ≡ 0) where
