@@ -20,6 +20,7 @@ mod UseLists
 mod UseWords
 mod UseHost
 mod UseSurfaces
+mod UseWritten
 mod UseSweeps
 mod UseMeshes
 mod UseProgram

@@ -2,10 +2,10 @@
 -- not (loose-node); what is left of it (alone-is). fewer-vertices: when cells are those that a sweep leaves.
 use mathlib.Core.Path.{_≡_, refl, sym, subst}
 use mathlib.Core.Logic.{_↔_}
-use mathlib.Core.List.{List, [], _∷_}
+use mathlib.Core.List.{[], _∷_}
 use Prim.Native.Nat.{ℕ, zero, suc, _<_}
 use native.Mathlib.Omega.{arith}
-use lib.ListN.{length, getD}
+use lib.ListN.{getD}
 use Rattle.lists.specs.Tabulate.{tabulate}
 use Rattle.lists.specs.Same.{every}
 use Rattle.complexes.specs.Cell.{without, same, rises, precedes, listed, Cell, Listed, Vertex, Subset}

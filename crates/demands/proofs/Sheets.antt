@@ -1,8 +1,5 @@
 -- The claims on acceptance.
 use mathlib.Core.Path.{sym, _∙_, ap, subst}
-use mathlib.Core.List.{List}
-use Prim.Native.Nat.{ℕ}
-use Rattle.complexes.specs.Complex.{Sections}
 use Rattle.complexes.specs.Loose.{LooseNode}
 use Rattle.sheet_format.specs.Check.{sectionsOf}
 use Rattle.sheet_format.proofs.Accept.{accepted-iff, is-laid, laid-iff, laid-complex, sections-layout}

@@ -3,9 +3,9 @@
 use mathlib.Core.Path.{_≡_, refl, sym, ap, _∙_, subst}
 use mathlib.Core.Bool.{true, false≢true}
 use mathlib.Core.List.{List, [], _∷_}
-use Prim.Native.Nat.{ℕ, _≤_}
+use Prim.Native.Nat.{ℕ}
 use native.Mathlib.Omega.{arith}
-use lib.ListN.{length, take, drop}
+use lib.ListN.{take}
 use Rattle.limits.specs.Limits.{libraryLimit, hostLimit}
 use Rattle.trials.specs.Trial.{numberTold}
 use Rattle.lists.specs.Tabulate.{tabulate}
@@ -13,8 +13,7 @@ use Rattle.lists.specs.Same.{every, sameList}
 use Rattle.complexes.specs.Cell.{without, precedes, Listed}
 use Rattle.complexes.specs.Complex.{Sections, section}
 use Rattle.sheet_format.specs.Layout.{cellBytes, sectionBytes, sectionsBytes, start, headerBytes, layout}
-use Rattle.sheet_format.specs.Check.{sectionsOf, some, refusal}
-use Rattle.sheet_format.specs.Sheet.{Bytes}
+use Rattle.sheet_format.specs.Check.{sectionsOf, some}
 use Rattle.sheet_format.specs.Written.{headerGives}
 use Rattle.closures.specs.Insert.{insert, insertAll}
 use Rattle.closures.specs.Closure.{elementTop, member, repeats, ofDimension, facesOf, closedSection, closure}
@@ -30,9 +29,10 @@ use Rattle.imports.proofs.ImportLaws.{mesh-cells}
 use Rattle.sweeps.specs.Sweep.{sweepCall}
 use Rattle.imports.specs.Sheet.{ImportedSheet}
 use Rattle.sweeps.specs.Cases.{lent}
-use Rattle.imports.specs.Examples.{shown, line, textOf, hollow, filledAndPoint, twice, hollowMesh, hollow-text, hollow-right, hollow-done, hollow-host-done}
+use Rattle.imports.specs.Examples.{shown, line, textOf, hollow, filledAndPoint, twice, hollowMesh, hollow-text, hollow-right, done-imports}
 use Rattle.demands.specs.Meshes.{ImportMalformed, MeshesUnique, ImportFaulty, MeshCells, MeshCellsUnique, ImportTooLong, ImportDone, ImportSweeps, ImportLeft, ImportSheet, HostImportSheet}
 use Rattle.demands.proofs.Hollow.{hollowCells}
+use Rattle.demands.proofs.UseWritten.{Parts, parts-of}
 
 -- ---- 14
 
@@ -167,23 +167,11 @@ module _ (after : List ℕ) (limit : ℕ) (n : ℕ) (sheet : ImportedSheet limit
         used = λ one. absurd (omega (arith, one));
       })
 
-  inside : n ≤ length after
-  inside = sheet .sheet .within
-
-  bytes : Bytes (take n after)
-  bytes = sheet .sheet .bytes
-
-  accepted : refusal limit (take n after) ≡ 0
-  accepted = sheet .sheet .accepted
-
-  header : headerGives after ≡ n
-  header = sheet .sheet .in-header
-
-  past : drop n after ≡ drop n (lent 40)
-  past = sheet .sheet .past
+  parts : Parts limit (lent 40) after n
+  parts = parts-of (sheet .sheet)
 
 library-sheet : ImportSheet → ImportedSheet libraryLimit hollow (lent 40) (importCall libraryLimit hollow (lent 40) .output) 34
-library-sheet importSheet = importSheet libraryLimit (omega arith) hollow (lent 40) 34 (ap (λ c. c .answer) hollow-done)
+library-sheet importSheet = importSheet libraryLimit (omega arith) hollow (lent 40) 34 (ap (λ c. c .answer) (done-imports .hollow-done))
 
 host-sheet : HostImportSheet → ImportedSheet hostLimit hollow (lent 40) (importCall hostLimit hollow (lent 40) .output) (headerGives (importCall hostLimit hollow (lent 40) .output))
-host-sheet hostImportSheet = hostImportSheet hostLimit (omega arith) hollow (lent 40) (ap (λ c. numberTold (c .answer)) hollow-host-done)
+host-sheet hostImportSheet = hostImportSheet hostLimit (omega arith) hollow (lent 40) (ap (λ c. numberTold (c .answer)) (done-imports .hollow-host-done))

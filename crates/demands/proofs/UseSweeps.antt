@@ -1,6 +1,5 @@
 -- Uses of the claims on the sweep: the edge 02 with the loose node 1, its sweep in a slice of 30 bytes, and sheets and slices that are refused.
 use mathlib.Core.Path.{_≡_, refl, sym, ap, _∙_}
-use mathlib.Core.Logic.{_≢_}
 use mathlib.Core.List.{List, [], _∷_, _++_}
 use Prim.Native.Nat.{ℕ, _≤_}
 use native.Mathlib.Omega.{arith}
@@ -9,18 +8,19 @@ use Rattle.limits.specs.Limits.{libraryLimit, hostLimit}
 use Rattle.trials.specs.Trial.{done, numberTold}
 use Rattle.lists.specs.Tabulate.{tabulate}
 use Rattle.complexes.specs.Cell.{without, same, rises, precedes, listed, Listed}
-use Rattle.complexes.specs.Complex.{Sections, section, Complex}
-use Rattle.sheet_format.specs.Layout.{top, cellBytes, sectionBytes, sectionsBytes, start, headerBytes, layout}
+use Rattle.complexes.specs.Complex.{section}
+use Rattle.sheet_format.specs.Layout.{cellBytes, sectionBytes, sectionsBytes, start, headerBytes, layout}
 use Rattle.sheet_format.specs.Check.{countField, offsetField, cellOf, cellsOf, sectionsOf, some, verticesDoNotRise, cellsDoNotRise, faceMissing, complexRefusal, refusal}
-use Rattle.sheet_format.specs.Sheet.{Bytes, IsLayout}
+use Rattle.sheet_format.specs.Sheet.{IsLayout}
 use Rattle.sheet_format.specs.Written.{headerGives}
 use Rattle.sheet_format.specs.OrderCases.{faceAndLooseNode, twoVertices, edgeAndNode, edgeAlone, edgeAloneSections}
 use Rattle.sweeps.specs.Sweep.{sweepCall}
 use Rattle.sweeps.specs.Swept.{IsSwept, SweptSheet}
 use Rattle.sweeps.specs.Cases.{lent}
-use Rattle.sweeps.specs.Examples.{loose-done, loose-host-done}
+use Rattle.sweeps.specs.Examples.{sweeps}
 use Rattle.demands.specs.Sheets.{SheetCells}
 use Rattle.demands.specs.Sweeps.{Layouts, SweepRefused, SweptCells, SweptUnique, SweepTooShort, SweepDone, SweepFits, SweepLeft, SweepSheet, HostSweepSheet, EdgelessSheets, SweepUnchanged, SweepTwice}
+use Rattle.demands.proofs.UseWritten.{Parts, parts-of}
 use Rattle.demands.proofs.Loose.{loose-bytes, alone-bytes, face-bytes, looseCells, loose-sections, loose-laid, laid-48, laid-256, alone-is, alone-48, alone-256, alone-complex, two-bytes, loose-node, edge-node}
 
 -- ---- 1 to 7
@@ -109,26 +109,14 @@ module _ (after : List ℕ) (limit : ℕ) (n : ℕ) (sheet : SweptSheet limit ed
   old : (p : ℕ) (c : List ℕ) → Listed c (section (sectionsOf (take n after)) p) → Listed c (section looseCells p)
   old p c h = cells .exactly p c .0 h .listed
 
-  inside : n ≤ length after
-  inside = sheet .sheet .within
-
-  bytes : Bytes (take n after)
-  bytes = sheet .sheet .bytes
-
-  accepted : refusal limit (take n after) ≡ 0
-  accepted = sheet .sheet .accepted
-
-  header : headerGives after ≡ n
-  header = sheet .sheet .in-header
-
-  past : drop n after ≡ drop n (lent 30)
-  past = sheet .sheet .past
+  parts : Parts limit (lent 30) after n
+  parts = parts-of (sheet .sheet)
 
 library-sheet : SweepSheet → SweptSheet libraryLimit edgeAndNode (lent 30) (sweepCall libraryLimit edgeAndNode (lent 30) .output) 24
-library-sheet sweepSheet = sweepSheet libraryLimit edgeAndNode (lent 30) (omega arith) loose-bytes 24 (ap (λ c. c .answer) loose-done)
+library-sheet sweepSheet = sweepSheet libraryLimit edgeAndNode (lent 30) (omega arith) loose-bytes 24 (ap (λ c. c .answer) (sweeps .loose-done))
 
 host-sheet : HostSweepSheet → SweptSheet hostLimit edgeAndNode (lent 30) (sweepCall hostLimit edgeAndNode (lent 30) .output) (headerGives (sweepCall hostLimit edgeAndNode (lent 30) .output))
-host-sheet hostSweepSheet = hostSweepSheet hostLimit edgeAndNode (lent 30) (omega arith) loose-bytes (ap (λ c. numberTold (c .answer)) loose-host-done)
+host-sheet hostSweepSheet = hostSweepSheet hostLimit edgeAndNode (lent 30) (omega arith) loose-bytes (ap (λ c. numberTold (c .answer)) (sweeps .loose-host-done))
 
 -- ---- written unchanged
 
@@ -154,4 +142,4 @@ module _ (sweepUnchanged : SweepUnchanged) where
 module _ (sweepTwice : SweepTwice) where
   twice : (slice : List ℕ) → 24 ≤ length slice → sweepCall libraryLimit (take 24 (sweepCall libraryLimit edgeAndNode (lent 30) .output)) slice
       ≡ record { answer = done 24; output = take 24 (sweepCall libraryLimit edgeAndNode (lent 30) .output) ++ drop 24 slice }
-  twice slice l = sweepTwice libraryLimit (omega arith) edgeAndNode (lent 30) slice loose-bytes 24 (ap (λ c. c .answer) loose-done) l
+  twice slice l = sweepTwice libraryLimit (omega arith) edgeAndNode (lent 30) slice loose-bytes 24 (ap (λ c. c .answer) (sweeps .loose-done)) l

@@ -14,7 +14,7 @@ use Prim.Native.Nat.{ℕ, zero, suc, _<_}
 use native.Mathlib.Decide.{decLt}
 use native.Mathlib.Omega.{arith}
 use lib.Dec.{eqb, ltb}
-use lib.ListN.{length, getD}
+use lib.ListN.{getD}
 use borrow.Author.Tests.{lt-ltb, le-ltb, ltb-true, eqb-true, eq-eqb, not-false}
 use Rattle.complexes.specs.Cell.{Cell, Vertex, Subset}
 use Rattle.complexes.specs.Complex.{Sections, count, cell, Complex}

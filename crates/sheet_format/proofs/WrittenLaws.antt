@@ -11,7 +11,7 @@ use Rattle.limits.specs.Limits.{libraryLimit}
 use Rattle.complexes.specs.Complex.{Sections, count, Complex}
 use Rattle.complexes.specs.Loose.{NoLooseNodes}
 use Rattle.sheet_format.specs.Layout.{top, headerLength, start, layout}
-use Rattle.sheet_format.specs.Check.{fieldAt, countField, offsetField, sectionsOf, refusal}
+use Rattle.sheet_format.specs.Check.{fieldAt, offsetField, sectionsOf, refusal}
 use Rattle.sheet_format.specs.Sheet.{Bytes}
 use Rattle.sheet_format.specs.Written.{headerGives, WrittenSheet}
 use Rattle.sheet_format.specs.SheetLaws.{countField-in, start-mono}

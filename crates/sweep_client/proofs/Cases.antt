@@ -1,6 +1,6 @@
 -- The sheets and slices written out: used, from the number and the output of a call.
 use mathlib.Core.Path.{_≡_, ap, ap₂, sym, _∙_}
-use mathlib.Core.List.{List, _++_}
+use mathlib.Core.List.{List}
 use Prim.Native.Nat.{ℕ}
 use native.Mathlib.Omega.{arith}
 use Rattle.trials.specs.Trial.{done, refused, numberTold}

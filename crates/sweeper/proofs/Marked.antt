@@ -1,7 +1,7 @@
 -- Where exactly the loose nodes are marked, the unmarked cells are those that the sweep leaves: marked-swept.
 --     no-marks, marks-room     marks of zeros, and room for all cells
-use mathlib.Core.Path.{_≡_, refl, ap, _∙_}
-use mathlib.Core.Bool.{Bool, true, not}
+use mathlib.Core.Path.{_≡_, ap, _∙_}
+use mathlib.Core.Bool.{not}
 use mathlib.Core.List.{List}
 use Prim.Native.Nat.{ℕ, zero, suc, _+_, _*_, _≤_, _<_}
 use native.Mathlib.Nat.{zero-add}
@@ -11,7 +11,7 @@ use lib.ListN.{length, getD, replicate, length-replicate, getD-replicate}
 use Rattle.limits.specs.Limits.{libraryLimit}
 use Rattle.complexes.specs.Complex.{count}
 use Rattle.sheet_format.specs.Layout.{top}
-use Rattle.sheet_format.specs.Check.{countField, sectionsOf, loose}
+use Rattle.sheet_format.specs.Check.{countField, sectionsOf}
 use Rattle.sheet_format.specs.SheetLaws.{count-sectionsOf, countField-below}
 use Rattle.closures.specs.Keep.{keep, cellsBelow, unmarked}
 use Rattle.closures.proofs.KeepCount.{cellsBelow-within}

@@ -6,7 +6,7 @@
 --     swept-fits      their sheet is no longer than that of all the cells
 use mathlib.Core.Path.{_≡_, refl, sym, ap, _∙_, subst}
 use mathlib.Core.Logic.{_↔_}
-use mathlib.Core.Bool.{Bool, true, false, not}
+use mathlib.Core.Bool.{true, not}
 use mathlib.Core.List.{List, []}
 use Prim.Native.Nat.{ℕ, zero, suc, _≤_, _<_}
 use native.Mathlib.Omega.{arith}
@@ -23,7 +23,6 @@ use Rattle.sheet_format.specs.Check.{loose}
 use Rattle.sheet_format.specs.SheetLaws.{start-fewer}
 use Rattle.sheet_format.proofs.LooseLaws.{loose-false}
 use Rattle.sheet_format.proofs.LayoutLaws.{length-sized}
-use Rattle.closures.specs.Keep.{kept, keep}
 use Rattle.closures.proofs.RisingLaws.{rising-unique, cells-order, listed-stands}
 use Rattle.closures.proofs.KeepCount.{length-keep, section-keep, count-keep, sized-keep}
 use Rattle.closures.proofs.KeepLaws.{KeptAt, kept-whole, keep-listed, keep-whole, keep-complex}

@@ -1,8 +1,6 @@
 -- Sweeps that compute: sheets with the answer and the sheet that document 02, Note 7, gives them. One joint theorem over a table.
 --     sweep-examples    every line of the table is right
---     loose-done, loose-host-done      a sheet with a loose node, swept
---     loose-short, loose-host-short    .. with a slice that is too short
---     face-told, face-host-told        a sheet where a face is missing
+--     sweeps            sweeps that the claims are used on
 use mathlib.Core.Path.{_≡_, refl}
 use mathlib.Core.List.{List, [], _∷_, _++_}
 use Prim.Native.Nat.{ℕ}
@@ -71,36 +69,24 @@ sweep-examples = tt
 
 -- ---- the hypotheses of the claims are met
 
-pub loose-done : sweepCall 256 edgeAndNode (lent 30) ≡ record { answer = done 24; output = edgeAlone ++ lent 6 }
-unfolding sweepCall answerWith
+-- a sheet with a loose node, swept, also into a slice that is too short, and one where a face is missing, at the limits of the library and of the host calls
+pub record Sweeps : Type 0 where
+  pub loose-done : sweepCall 256 edgeAndNode (lent 30) ≡ record { answer = done 24; output = edgeAlone ++ lent 6 }
+  pub loose-host-done : sweepCall 48 edgeAndNode (lent 30) ≡ record { answer = done 24; output = edgeAlone ++ lent 6 }
+  pub loose-short : sweepCall 256 edgeAndNode (lent 23) ≡ record { answer = refused 16; output = lent 23 }
+  pub loose-host-short : sweepCall 48 edgeAndNode (lent 23) ≡ record { answer = refused 16; output = lent 23 }
+  pub face-told : complexRefusal 256 faceAndLooseNode ≡ 7
+  pub face-host-told : complexRefusal 48 faceAndLooseNode ≡ 7
+
+pub sweeps : Sweeps
+unfolding sweepCall complexRefusal answerWith
     countField offsetField tabulate cellOf cellsOf sectionsOf some verticesDoNotRise cellsDoNotRise faceMissing without same rises precedes listed
     kept keep layout headerBytes start sectionsBytes sectionBytes cellBytes
-loose-done = refl
-
-pub loose-host-done : sweepCall 48 edgeAndNode (lent 30) ≡ record { answer = done 24; output = edgeAlone ++ lent 6 }
-unfolding sweepCall answerWith
-    countField offsetField tabulate cellOf cellsOf sectionsOf some verticesDoNotRise cellsDoNotRise faceMissing without same rises precedes listed
-    kept keep layout headerBytes start sectionsBytes sectionBytes cellBytes
-loose-host-done = refl
-
-pub loose-short : sweepCall 256 edgeAndNode (lent 23) ≡ record { answer = refused 16; output = lent 23 }
-unfolding sweepCall answerWith
-    countField offsetField tabulate cellOf cellsOf sectionsOf some verticesDoNotRise cellsDoNotRise faceMissing without same rises precedes listed
-    kept keep layout headerBytes start sectionsBytes sectionBytes cellBytes
-loose-short = refl
-
-pub loose-host-short : sweepCall 48 edgeAndNode (lent 23) ≡ record { answer = refused 16; output = lent 23 }
-unfolding sweepCall answerWith
-    countField offsetField tabulate cellOf cellsOf sectionsOf some verticesDoNotRise cellsDoNotRise faceMissing without same rises precedes listed
-    kept keep layout headerBytes start sectionsBytes sectionBytes cellBytes
-loose-host-short = refl
-
-pub face-told : complexRefusal 256 faceAndLooseNode ≡ 7
-unfolding complexRefusal
-    countField offsetField tabulate cellOf cellsOf sectionsOf some verticesDoNotRise cellsDoNotRise faceMissing without same rises precedes listed start
-face-told = refl
-
-pub face-host-told : complexRefusal 48 faceAndLooseNode ≡ 7
-unfolding complexRefusal
-    countField offsetField tabulate cellOf cellsOf sectionsOf some verticesDoNotRise cellsDoNotRise faceMissing without same rises precedes listed start
-face-host-told = refl
+sweeps = record {
+  loose-done = refl;
+  loose-host-done = refl;
+  loose-short = refl;
+  loose-host-short = refl;
+  face-told = refl;
+  face-host-told = refl;
+}

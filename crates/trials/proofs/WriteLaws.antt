@@ -2,13 +2,13 @@
 --     answer-number     the number told is the refusal's
 --     answer-left       a refusal leaves the slice alone
 --     answer-done       what is answered and written where none applies
-use mathlib.Core.Path.{_≡_, refl, ap, _∙_, sym}
+use mathlib.Core.Path.{_≡_, refl, ap, _∙_}
 use mathlib.Core.Logic.{_≢_}
 use mathlib.Core.List.{List, _++_}
 use Prim.Native.Nat.{ℕ, zero, suc}
 use lib.ListN.{length, drop}
 use Rattle.trials.specs.Trial.{Answer, done, refused, numberTold}
-use Rattle.trials.specs.Write.{WriteCalled, answerWith}
+use Rattle.trials.specs.Write.{answerWith}
 
 module _ (n : ℕ) (bytes slice : List ℕ) where
   pub answer-number : numberTold (answerWith n bytes slice .answer) ≡ n

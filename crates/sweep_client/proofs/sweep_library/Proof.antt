@@ -6,7 +6,7 @@ use borrow.Author.Needs.{needs}
 use Rattle.limits.specs.Limits.{libraryLimit}
 use Rattle.trials.specs.Trial.{numberTold}
 use Rattle.sweeps.specs.Sweep.{sweepCall}
-use Rattle.sweeps.specs.Examples.{loose-done, loose-short, face-told}
+use Rattle.sweeps.specs.Examples.{sweeps}
 use Rattle.refusal.specs.Written.{WriteAnswers}
 use Rattle.refusal.specs.declared.written.Written.{Written}
 use Rattle.sweep_client.specs.Used.{LibraryUsed}
@@ -16,8 +16,8 @@ use Rattle.sweep_client.proofs.sweep_library.Tie as tie
 
 library-used : {sheet before after : List ℕ} {r : Written} → WriteAnswers (sweepCall libraryLimit sheet before) r after → LibraryUsed sheet before r after
 library-used a = record {
-  length-told = λ t b. a .answer ∙ ap₂ (λ (x y : List ℕ). sweepCall libraryLimit x y .answer) t b ∙ ap (λ c. c .answer) loose-done;
-  used = used libraryLimit loose-done loose-short face-told (ap numberTold (a .answer)) (a .output-is);
+  length-told = λ t b. a .answer ∙ ap₂ (λ (x y : List ℕ). sweepCall libraryLimit x y .answer) t b ∙ ap (λ c. c .answer) (sweeps .loose-done);
+  used = used libraryLimit (sweeps .loose-done) (sweeps .loose-short) (sweeps .face-told) (ap numberTold (a .answer)) (a .output-is);
 }
 
 returns : tie.Need-returns
