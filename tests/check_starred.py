@@ -21,8 +21,8 @@ FIFTEEN = NO_CELLS[:15]
 WITHOUT_VERTEX = layout([[(0,)], [(0, 1)], [], []])
 REVERSED = layout([[(0,), (1,)], [(1, 0)], [], []])
 TWO_VERTICES = from_facets([(3,), (5,)])
-LOOSE_NODE = from_facets([(0, 2), (1,)])
-LOOSE_NODE_SWEPT = from_facets([(0, 2)])
+EDGE_AND_NODE = from_facets([(0, 2), (1,)])
+EDGE_AND_NODE_SWEPT = from_facets([(0, 2)])
 WITHOUT_VERTEX_LOOSE_NODE = layout([[(0,), (2,)], [(0, 1)], [], []])
 
 REPORT = ("report",)
@@ -110,11 +110,11 @@ BESIDE = [
       (TETRAHEDRON, 3, surface(1), 2, 6)]),
     ("Sheets with no edges keep their acceptance", [(TWO_VERTICES, 0, REPORT, 8, 8)]),
     ("18, after 7 and before 8, for such a sheet",
-     [(LOOSE_NODE, 0, REPORT, 14, 21), (LOOSE_NODE, 4, REPORT, 14, 21), (LOOSE_NODE, 0, chain(4, 3, 2), 3, 21), (LOOSE_NODE, 0, many(0), 0, 21),
-      (LOOSE_NODE, 0, surface(-1, 0, 1), 1, 22), (WITHOUT_VERTEX_LOOSE_NODE, 4, REPORT, 8, 10)]),
+     [(EDGE_AND_NODE, 0, REPORT, 14, 21), (EDGE_AND_NODE, 4, REPORT, 14, 21), (EDGE_AND_NODE, 0, chain(4, 3, 2), 3, 21), (EDGE_AND_NODE, 0, many(0), 0, 21),
+      (EDGE_AND_NODE, 0, surface(-1, 0, 1), 1, 22), (WITHOUT_VERTEX_LOOSE_NODE, 4, REPORT, 8, 10)]),
 ]
 # The sheets of the starred items and of Note 7 in 02, as crate sheet_format has them in its table.
-SHEETS = [NO_CELLS, ONE_VERTEX, EDGE, HOLLOW, FILLED, FIFTEEN, REVERSED, WITHOUT_VERTEX, TWO_VERTICES, LOOSE_NODE, LOOSE_NODE_SWEPT,
+SHEETS = [NO_CELLS, ONE_VERTEX, EDGE, HOLLOW, FILLED, FIFTEEN, REVERSED, WITHOUT_VERTEX, TWO_VERTICES, EDGE_AND_NODE, EDGE_AND_NODE_SWEPT,
           WITHOUT_VERTEX_LOOSE_NODE]
 
 
