@@ -10,7 +10,7 @@ use two_reductions::cell_counts::{CellCounts, cell_counts_of};
 use two_reductions::workspaces::work_slots;
 
 // What a call asks of a dimension: its report, the coordinates of a number of chains, or the surface that a chain bounds.
-#[derive(Drop)]
+#[derive(Clone, Copy)]
 pub enum Request {
     Report,
     Coordinates(usize),
@@ -18,7 +18,7 @@ pub enum Request {
 }
 
 // The dimension may be worked on, or the call is refused.
-#[derive(Drop)]
+#[derive(Clone, Copy)]
 pub enum Admission {
     Admitted(CellCounts),
     Refused(Refusal),

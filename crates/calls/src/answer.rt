@@ -3,7 +3,7 @@ use refusal::Refusal;
 use writers::counts::Counts;
 
 // Done, with the report's counts, or refused.
-#[derive(Drop)]
+#[derive(Clone, Copy)]
 pub enum Answer {
     Done(Counts),
     Refused(Refusal),

@@ -1,4 +1,6 @@
 // The library's calls: the report of a dimension, the coordinates of one chain or of many, and the surface that a chain bounds.
+#![tactic(auto)]
+
 pub mod admission;
 pub mod answer;
 pub mod coordinates;

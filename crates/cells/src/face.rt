@@ -13,7 +13,7 @@ use fields::field::TOP;
 // A cell has at most this many faces.
 pub const FACES: usize = TOP + 1;
 
-#[derive(Drop)]
+#[derive(Clone, Copy)]
 pub enum Found {
     At(usize),
     Nothing,

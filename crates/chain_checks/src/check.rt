@@ -15,7 +15,7 @@ use refusal::Refusal;
 use sheet::reader::Sheet;
 
 // Every check passed, or one applies.
-#[derive(Drop)]
+#[derive(Clone, Copy)]
 pub enum Check {
     Passed,
     Refused(Refusal),

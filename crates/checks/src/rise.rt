@@ -11,7 +11,7 @@ use cells::word::pack;
 use fields::field::{TOP, count, start};
 
 // What must rise strictly: the vertices of each cell, or the cells of each section.
-#[derive(Drop)]
+#[derive(Clone, Copy)]
 pub enum Rise {
     Vertices,
     Cells,

@@ -1,5 +1,7 @@
 // Clients of the public calls but the import: each calls one and nothing else, and its contract says what the call's own contract gives on the hollow
 // triangle, of the surface calls on the filled one too, written out.
+#![tactic(auto)]
+
 ghost use Rattle.calls.specs.CallAnswers.{answered};
 ghost use Rattle.clients.specs.Used.{Gives, Numbers, ReportUsed, CoordinatesUsed, ListsUsed, SurfaceUsed, HostReportUsed, HostCoordinatesUsed, HostListsUsed, HostSurfaceUsed, HeadroomUsed, PrintUsed};
 

@@ -4,7 +4,7 @@ ghost use Rattle.matrices.specs.Operation as theory;
 ghost use Rattle.elementary_operations.specs.Operations.{operation_of, FactorWithin};
 
 // `Subtract(i, k, q)` takes q times line k from line i, `Swap(i, k)` exchanges lines i and k, `Negate(k)` negates line k.
-#[derive(Drop)]
+#[derive(Clone, Copy)]
 pub enum Operation {
     Subtract(usize, usize, i64),
     Swap(usize, usize),

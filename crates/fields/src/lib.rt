@@ -1,2 +1,4 @@
 // Numbers read from the bytes of a sheet. Every function reads a slice of bytes of any length and content.
+#![tactic(auto)]
+
 pub mod field;

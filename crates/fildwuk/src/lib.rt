@@ -1,5 +1,7 @@
 // The host calls for a solver written in C. Each has its own work arrays, carries numbers as bytes, low byte first, and answers 0 for done or the
 // number of the refusal.
+#![tactic(auto)]
+
 ghost use Rattle.std.specs.Prelude.{◌≡◌, length};
 ghost use Rattle.requests.specs.Question.{asked};
 ghost use Rattle.requests.specs.Call as requests;

@@ -1,4 +1,6 @@
 // Reads one sheet from standard input and prints its homology.
+#![tactic(auto)]
+
 use libc::{STDERR_FILENO, STDIN_FILENO, STDOUT_FILENO};
 use printer::room::{INPUT_ROOM, TEXT_ROOM};
 

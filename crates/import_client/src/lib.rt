@@ -1,4 +1,6 @@
 // Clients of the import: each calls it and nothing else, and its contract says what the import's own contract gives on texts and slices written out.
+#![tactic(auto)]
+
 ghost use Rattle.import_client.specs.Used.{Used, LibraryUsed};
 
 use fildwuk::fildwuk_import;

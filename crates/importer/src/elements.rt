@@ -15,7 +15,7 @@ use mesh_reader::title::the_title;
 use mesh_words::answer::{Cursor, Number, Skipped};
 
 // The outcome of gathering their cells, and where they end.
-#[derive(Drop)]
+#[derive(Clone, Copy)]
 pub enum Elements {
     Malformed,
     Read(Outcome, Cursor),

@@ -8,7 +8,7 @@ use mesh_elements::element::{Checked, check_element};
 use mesh_lines::answer::Element;
 
 // The cells of all elements so far are gathered; or some element is faulty; or a dimension has too many cells.
-#[derive(Drop)]
+#[derive(Clone, Copy)]
 pub enum Outcome {
     Gathered,
     Faulty,

@@ -1,4 +1,6 @@
 // The library's calls for C, at its count limit of 256, with a work slice that the caller lends. They answer 0 for done or the number of the refusal.
+#![tactic(auto)]
+
 ghost use Rattle.std.specs.Prelude.{◌≡◌};
 ghost use Rattle.trials.specs.Trial.{number_told};
 ghost use Rattle.requests.specs.Question.{asked};

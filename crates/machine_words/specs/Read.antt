@@ -49,7 +49,7 @@ pub cast_fits : (z : ℤ) → SFits w32 z → SFits w64 (read w32 z)
 cast_fits z f = rw (to_z-of_z f) (sfits_widen tt f)
 
 pub cast_is : (z : ℤ) → SFits w32 z → read w64 (read w32 z) ≡ z
-cast_is z f = ap (read w64) (to_z-of_z f) ∙ to_z-of_z (sfits_widen tt f)
+cast_is z f = ap (read w64) (to_z-of_z f) ∙ to_z-of_z {w = w64} {z = z} (sfits_widen {w = w32} {w' = w64} {z = z} tt f)
 
 -- ---- the bits
 

@@ -9,7 +9,7 @@ use crate::zero::{BLOCK, is_same_block, is_zero_block};
 use numbers::absolute::{absolute, larger};
 
 // What an operation answers: the largest absolute value that it wrote, or that an entry would lie beyond the limit.
-#[derive(Drop)]
+#[derive(Clone, Copy)]
 pub enum Effect {
     Done(u64),
     TooWide,

@@ -3,7 +3,7 @@ ghost use Rattle.std.specs.Prelude.{◌≡◌, ◌+◌, ◌*◌, ◌^◌, ◌<�
 ghost use Rattle.matrix_lines.specs.Slice.{line_at};
 ghost use Rattle.matrix_lines.specs.Matrices.{Held, contents};
 
-#[derive(Drop)]
+#[derive(Clone, Copy)]
 pub struct Matrix {
     pub at: usize,
     pub lines: usize,

@@ -10,7 +10,7 @@ use mesh_lines::answer::Element;
 use refusal::Refusal;
 
 // The dimension and the word of the element's cell, or the refusal.
-#[derive(Drop)]
+#[derive(Clone, Copy)]
 pub enum Checked {
     Cell(usize, u64),
     Refused(Refusal),

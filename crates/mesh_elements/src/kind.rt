@@ -4,13 +4,13 @@ ghost use Rattle.mesh_elements.specs.Kind.{IsKind};
 use refusal::Refusal;
 
 // The vertices and the dimension of a simplex.
-#[derive(Drop)]
+#[derive(Clone, Copy)]
 pub struct Simplex {
     pub vertices: usize,
     pub dimension: usize,
 }
 
-#[derive(Drop)]
+#[derive(Clone, Copy)]
 pub enum Kind {
     Known(Simplex),
     Refused(Refusal),

@@ -8,7 +8,7 @@ use mesh_lines::answer::{ElementLine, Title};
 use mesh_lines::line::{count_at, element_at, format_at, node_at, title_at};
 use mesh_words::answer::{Cursor, Number, Skipped};
 
-#[derive(Drop)]
+#[derive(Clone, Copy)]
 pub struct Reader<'a> {
     pub text: &'a [u8],
     pub cursor: Cursor,

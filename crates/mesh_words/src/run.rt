@@ -4,7 +4,7 @@ ghost use Rattle.mesh_format.specs.Parse.{run};
 ghost use Rattle.mesh_words.specs.Class.{in_class, stands_at};
 
 // Classes of bytes. The last two are those of a word, and all but a line feed.
-#[derive(Drop)]
+#[derive(Clone, Copy)]
 pub enum Class {
     Space,
     CarriageReturn,

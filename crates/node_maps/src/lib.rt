@@ -1,2 +1,4 @@
 // Sets of vertex numbers.
+#![tactic(auto)]
+
 pub mod map;

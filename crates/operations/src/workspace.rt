@@ -12,7 +12,7 @@ use matrix_lines::line::Effect;
 use matrix_lines::matrix::Matrix;
 
 // The companions undergo the row operations, by rows, their inverses, by columns, the column operations, by columns, and their inverses, by rows.
-#[derive(Drop)]
+#[derive(Clone, Copy)]
 pub struct Workspace {
     pub matrix: Matrix,
     pub row_inverse: Matrix,

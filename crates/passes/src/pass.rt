@@ -11,7 +11,7 @@ use numbers::quotient::quotient;
 use operations::workspace::Workspace;
 use refusal::Refusal;
 
-#[derive(Drop)]
+#[derive(Clone, Copy)]
 pub enum Pass {
     Made(u64),
     Refused(Refusal),

@@ -10,7 +10,7 @@ use operations::workspace::Workspace;
 use refusal::Refusal;
 
 // Done with the rank and the peak, or refused.
-#[derive(Drop)]
+#[derive(Clone, Copy)]
 pub enum Reduction {
     Done(usize, u64),
     Refused(Refusal),

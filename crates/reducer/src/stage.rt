@@ -22,7 +22,7 @@ pub const ROUNDS: usize = 8;
 
 // Cleared: the stage is over and k rises by one. Exhausted: there is no pivot, and the rank is k. Again: no round is left, and the stage goes on from
 // its choice. Each holds the peak.
-#[derive(Drop)]
+#[derive(Clone, Copy)]
 pub enum Stage {
     Cleared(u64),
     Exhausted(u64),

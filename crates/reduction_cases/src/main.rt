@@ -1,6 +1,8 @@
 // Reads matrices from standard input and writes what the reduction makes of each, or `T` where it goes too wide. A matrix is one byte each for its
 // rows, its columns and the companions asked for, then its entries row by row, each in four bytes. tests/pack_matrices.py makes the input and, by an
 // independent implementation of document 01, the output that is due.
+#![tactic(auto)]
+
 mod entries;
 mod print;
 mod workspace;

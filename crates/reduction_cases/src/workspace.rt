@@ -11,7 +11,7 @@ pub const SIDE: usize = 8;
 pub const SLOTS: usize = 320;
 
 // The companions asked for.
-#[derive(Drop)]
+#[derive(Clone, Copy)]
 pub struct Asked {
     pub row_follower: bool,
     pub row_inverse: bool,

@@ -1,10 +1,12 @@
 // The refusals of documents 01 and 02, and what a call that writes a sheet answers.
+#![tactic(auto)]
+
 ghost use Rattle.std.specs.Prelude.{◌≡◌};
 ghost use Rattle.refusal.specs.Number.{number_of};
 
 pub mod written;
 
-#[derive(Drop)]
+#[derive(Clone, Copy)]
 pub enum Refusal {
     SheetTooShort,
     CountExceedsLimit,

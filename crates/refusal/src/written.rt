@@ -6,7 +6,7 @@ ghost use Rattle.refusal.specs.Written.{answered};
 use crate::Refusal;
 
 // Done, with the sheet's length in bytes, or refused.
-#[derive(Drop)]
+#[derive(Clone, Copy)]
 pub enum Written {
     Done(usize),
     Refused(Refusal),

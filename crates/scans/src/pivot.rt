@@ -11,7 +11,7 @@ use matrix_lines::zero::first_nonzero;
 use numbers::absolute::absolute;
 
 // The entry chosen so far: its absolute value, 0 where there is none, and its place.
-#[derive(Drop)]
+#[derive(Clone, Copy)]
 pub struct Best {
     pub size: u64,
     pub row: usize,
@@ -31,7 +31,7 @@ impl Best {
     }
 }
 
-#[derive(Drop)]
+#[derive(Clone, Copy)]
 pub enum Pivot {
     At(usize, usize),
     Nothing,

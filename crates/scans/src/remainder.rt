@@ -37,7 +37,7 @@ pub fn row_keeps(m: Matrix, w: &[i32], k: usize) -> bool
     first_nonzero(w, m.line(k), k + 1, m.width) < m.width
 }
 
-#[derive(Drop)]
+#[derive(Clone, Copy)]
 pub enum Indivisible {
     Row(usize),
     Nothing,

@@ -11,13 +11,13 @@ use loose_nodes::loose::loose_node;
 use refusal::Refusal;
 
 // A sheet is read at a limit for its counts.
-#[derive(Drop)]
+#[derive(Clone, Copy)]
 pub struct Sheet {
     pub limit: usize,
 }
 
 // Accepted where none of the checks that were tried tells a fault.
-#[derive(Drop)]
+#[derive(Clone, Copy)]
 pub enum Reading {
     Accepted,
     Refused(Refusal),

@@ -1,6 +1,8 @@
 // Reads sheets from standard input, each after its length as a field of two bytes, and writes a line for each: the refusal at the library's
 // count limit and the one at the limit of the program and the host calls, 0 where the sheet is accepted. tests/pack_sheets.py makes the input and,
 // by an independent implementation of document 01, the output that is due.
+#![tactic(auto)]
+
 use fields::field::field;
 use libc::{STDIN_FILENO, STDOUT_FILENO};
 use sheet::reader::{Reading, Sheet};

@@ -1,2 +1,4 @@
 // The sheet of a set of cells.
+#![tactic(auto)]
+
 pub mod write;

@@ -1,4 +1,6 @@
 // Clients of the sweep: each calls it and nothing else, and its contract says what the sweep's own contract gives on sheets and slices written out.
+#![tactic(auto)]
+
 ghost use Rattle.sweep_client.specs.Used.{Used, LibraryUsed};
 
 use fildwuk::fildwuk_sweep;

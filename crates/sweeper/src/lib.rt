@@ -1,2 +1,4 @@
 // The sweep of a sheet: document 02, Note 7.
+#![tactic(auto)]
+
 pub mod sweep;

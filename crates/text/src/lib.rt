@@ -1,3 +1,5 @@
 // Writing the text of a report.
+#![tactic(auto)]
+
 pub mod decimal;
 pub mod line;

@@ -9,7 +9,7 @@ ghost use Rattle.two_reductions.specs.CellCounts.{CellCountsRead};
 use fields::field::count;
 
 // The counts that a dimension p works with: n_p cells, n_(p-1) rows of its boundary matrix, n_(p+1) columns of the next.
-#[derive(Drop)]
+#[derive(Clone, Copy)]
 pub struct CellCounts {
     pub cells: usize,
     pub rows: usize,

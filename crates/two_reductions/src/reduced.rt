@@ -3,7 +3,7 @@ use operations::workspace::Workspace;
 
 // Where the matrices of the second reduction stand in the work slice, its rank, and the peak: the largest absolute value that an entry of the two has
 // had.
-#[derive(Drop)]
+#[derive(Clone, Copy)]
 pub struct Reduced {
     pub workspace: Workspace,
     pub rank: usize,

@@ -25,7 +25,7 @@ use operations::workspace::Workspace;
 use reducer::reduction::{Reduction, reduce_matrix};
 use refusal::Refusal;
 
-#[derive(Drop)]
+#[derive(Clone, Copy)]
 pub enum Reductions {
     Done(Reduced),
     Refused(Refusal),

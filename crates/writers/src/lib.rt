@@ -1,4 +1,6 @@
 // Writing the report, the coordinates and the surface from what the two reductions leave.
+#![tactic(auto)]
+
 pub mod coordinates;
 pub mod counts;
 pub mod headroom;
