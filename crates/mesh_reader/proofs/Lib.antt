@@ -1,9 +1,4 @@
--- The walks of the functions over a reader, each once, and the laws behind the sections that are passed over.
-mod Line
-mod Lines
-mod Passed
-mod NextWalk
-mod ReadWalk
+-- The laws behind the sections that are passed over, and the words that are compared.
 mod Parts
 mod Closing
 mod Sections

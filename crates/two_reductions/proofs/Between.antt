@@ -20,13 +20,12 @@ use Rattle.reduction_steps.specs.State.{State, largest}
 use Rattle.reduction_laws.specs.Tables.{entry-table, table-ext, table_largest-table, table_within-table, table_within-false}
 use Rattle.reduction_laws.specs.Shape.{Shaped}
 use Rattle.reports.specs.Reductions.{Transforms, second_columns_only, no_transforms, transform, width, first_sizes, second_sizes, second_start, product, absent}
-use Rattle.requests.specs.Call.{work_slots, work_slots_for}
+use Rattle.requests.specs.Call.{work_slots_for}
 use Rattle.limits.specs.Limits.{entry_limit}
 use Rattle.answers.proofs.Starts.{second-shaped, entry-drop}
 use Rattle.matrix_lines.specs.Slice.{line_at, Under}
 use Rattle.matrix_lines.specs.Matrices.{contents, everywhere, EntryOf, Holds, Exceeds}
 use Rattle.matrix_lines.proofs.Peaks.{under-covered}
-use Rattle.matrix_lines.specs.declared.matrix.Matrix.{Matrix}
 use Rattle.operations.specs.Laid.{Laid, lines_of, state_of}
 use Rattle.operations.proofs.Regions.{lines-off, lines-on}
 use Rattle.operations.proofs.Operate.{largest-under}

@@ -3,7 +3,7 @@
 use mathlib.Core.Path.{◌≡◌, refl, sym, ◌∙◌, ap, subst}
 use mathlib.Core.Bool.{Bool, true, false}
 use mathlib.Core.List.{List}
-use Prim.Native.Nat.{ℕ, suc, ◌+◌, ◌*◌, ◌-◌, ◌≤◌, ◌<◌, max}
+use Prim.Native.Nat.{ℕ, suc, ◌+◌, ◌*◌, ◌≤◌, ◌<◌, max}
 use native.Mathlib.Nat.{mul_comm, mul-add, le_refl, le_trans, le-max_left, le-max_right, max-le, min-le_right}
 use native.Mathlib.Omega.{arith}
 use lib.IntN.{ℤ}
@@ -14,7 +14,7 @@ use Rattle.complexes.specs.Boundary.{count_below}
 use Rattle.complexes.proofs.ChainComplex.{ChainComplex}
 use Rattle.reduction_steps.specs.Table.{table}
 use Rattle.reduction_steps.specs.Pivot.{Rule, IsRule}
-use Rattle.reduction_steps.specs.Step.{done, reduce}
+use Rattle.reduction_steps.specs.Step.{done}
 use Rattle.reduction_laws.specs.Shape.{Shaped}
 use Rattle.reduction_laws.specs.Tables.{table-ext}
 use Rattle.reduction_laws.proofs.SmithForm as machine
@@ -31,7 +31,7 @@ use Rattle.operations.proofs.Regions.{Disjoint, entry-inside, contents-apart}
 use Rattle.reducer.specs.StageAnswers.{ReductionDone}
 use Rattle.boundaries.specs.Filled.{MatrixFilled}
 use Rattle.boundaries.proofs.Filled.{filled-under}
-use Rattle.two_reductions.specs.Workspaces.{first_workspace, second_workspace}
+use Rattle.two_reductions.specs.Workspaces.{second_workspace}
 use Rattle.two_reductions.specs.Slices.{first_workspace_of, second_workspace_of, first_reduction, start_peak, ZeroFrom}
 use Rattle.two_reductions.proofs.Places.{first-laid, held-column-follower}
 use Rattle.two_reductions.proofs.Filling.{state-is, identity-small, start-one, start-limit}

@@ -34,7 +34,6 @@ use Rattle.passes.specs.PassAnswers.{Cleared, StillUnder}
 use Rattle.reducer.specs.StageAnswers.{Reduces, ReductionDone, ReductionRefused, reduction_of}
 use Rattle.reducer.specs.declared.reduction.Reduction.{Reduction}
 use Rattle.reducer.specs.declared.reduction.Reduction.TheVariants as reduction
-use Rattle.two_reductions.specs.declared.reduced.Reduced.{Reduced}
 use Rattle.two_reductions.specs.Workspaces.{first_workspace, second_workspace}
 use Rattle.two_reductions.specs.Slices.{first_workspace_of, second_workspace_of, first_reduction, start_peak, Filled, TwiceReduced}
 use Rattle.two_reductions.specs.declared.reductions.Reductions.TheVariants.{Done, Refused}
