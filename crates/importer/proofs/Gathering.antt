@@ -126,9 +126,9 @@ module _ (limit : ℕ) (is_listed : ℕ → Bool) (x : answer.Element) (cells co
 
 pub ready : (limit : ℕ) (is_listed : ℕ → Bool) (es : List Element) (o : Outcome) (cells counts : List ℕ) → Gathers limit is_listed es o cells counts
     → Ready limit cells counts o
-ready limit is_listed es Gathered cells counts g = record { complex = own_cells es; holds = g.1 }
-ready limit is_listed es Faulty cells counts g = tt
-ready limit is_listed es TooMany cells counts g = tt
+ready limit is_listed es Gathered _ _ g = record { complex = own_cells es; holds = g.1 }
+ready limit is_listed es Faulty _ _ g = tt
+ready limit is_listed es TooMany _ _ g = tt
 
 -- of n lines from position `start` on, i are read up to position `at`, and their cells gathered
 pub record Gathering (limit : ℕ) (is_listed : ℕ → Bool) (s : List ℕ) (n start i at : ℕ) (o : Outcome) (room : ℕ) (cells counts : List ℕ) : Type 0 where

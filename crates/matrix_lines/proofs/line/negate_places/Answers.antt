@@ -17,7 +17,7 @@ use Rattle.matrix_lines.proofs.Casts.{widened-fits, widened-below, widened-size}
 use Rattle.machine_words.specs.Read.{read, entry-fits, read-entry}
 use Rattle.matrix_lines.proofs.line.negate_places.Invariants.{Invariant, negated}
 use Rattle.matrix_lines.proofs.line.negate_places.Goals as goal
-use Rattle.matrix_lines.proofs.line.negate_places.Goals.{At-loop-t, After-x-1}
+use Rattle.matrix_lines.proofs.line.negate_places.Goals.{At-loop-t, In-loop-t}
 
 module _ {w₀ : List ℤ} {start width before largest t : ℕ} {w : List ℤ} (inv : Invariant w₀ start width before largest t w) (more : t < width) where
   -- what the machine computes
@@ -67,9 +67,9 @@ loop-t-init c = record {
 pub overflow_sub-x : goal.overflow_sub-x
 overflow_sub-x c = fits c.loop-t.invariant c.loop-t-test.true
 
-module _ (c : After-x-1) where
+module _ (c : In-loop-t) where
   abbrev head : At-loop-t
-  head = (goal.at.After-x-1 c).At-loop-t
+  head = (goal.at.In-loop-t c).At-loop-t
 
   more : head.loop-t.t < head.args.width
   more = c.loop-t-test.true
@@ -81,14 +81,14 @@ module _ (c : After-x-1) where
   value-small = computed-small head.loop-t.invariant more
 
 pub overflow_cast-x : goal.overflow_cast-x
-overflow_cast-x c = widened-fits (value c) (value-small c)
+overflow_cast-x c = let x = (goal.at.overflow_cast-x c).In-loop-t in widened-fits (value x) (value-small x)
 
 pub absolute-requires : goal.absolute-requires
-absolute-requires c = widened-below (value c) (value-small c)
+absolute-requires c = let x = (goal.at.absolute-requires c).In-loop-t in widened-below (value x) (value-small x)
 
 pub loop-t-preserved : goal.loop-t-preserved
 loop-t-preserved c =
-    let x = (goal.at.loop-t-preserved c).After-x-1 in
+    let x = (goal.at.loop-t-preserved c).In-loop-t in
     again (head x).loop-t.invariant (more x)
     (raised (head x).loop-t.invariant (more x)
     (c.larger-largest.ensures ∙ ap (λ (m : ℕ). max (head x).loop-t.largest m) (widened-size (value x) (value-small x) c.absolute.ensures)))

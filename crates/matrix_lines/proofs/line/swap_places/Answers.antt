@@ -13,7 +13,7 @@ use Rattle.matrix_lines.proofs.Casts.{widened-fits, widened-below, widened-size}
 use Rattle.machine_words.specs.Read.{read, read-entry}
 use Rattle.matrix_lines.proofs.line.swap_places.Invariants.{Invariant}
 use Rattle.matrix_lines.proofs.line.swap_places.Goals as goal
-use Rattle.matrix_lines.proofs.line.swap_places.Goals.{At-loop-t, After-y-1, After-larger-largest}
+use Rattle.matrix_lines.proofs.line.swap_places.Goals.{At-loop-t, In-loop-t, After-larger-largest}
 
 module _ {w₀ : List ℤ} {first second width before largest t : ℕ} {w : List ℤ} (inv : Invariant w₀ first second width before largest t w) where
   -- a turn of the loop
@@ -46,9 +46,9 @@ bounds-w-second c = simp length-set (omega arith)
 
 -- ---- after both entries are read
 
-module _ (c : After-y-1) where
+module _ (c : In-loop-t) where
   abbrev head : At-loop-t
-  head = (goal.at.After-y-1 c).At-loop-t
+  head = (goal.at.In-loop-t c).At-loop-t
 
   more : head.loop-t.t < head.args.width
   more = c.loop-t-test.true
@@ -66,22 +66,22 @@ module _ (c : After-y-1) where
   second-small = head.loop-t.invariant.swapped.bounded.bound (head.args.second + head.loop-t.t)
 
 pub overflow_cast-x : goal.overflow_cast-x
-overflow_cast-x c = widened-fits (first c) (first_small c)
+overflow_cast-x c = let y = (goal.at.overflow_cast-x c).In-loop-t in widened-fits (first y) (first_small y)
 
 pub absolute-requires : goal.absolute-requires
-absolute-requires c = widened-below (first c) (first_small c)
+absolute-requires c = let y = (goal.at.absolute-requires c).In-loop-t in widened-below (first y) (first_small y)
 
 pub overflow_cast-y : goal.overflow_cast-y
-overflow_cast-y c = widened-fits (second (goal.at.overflow_cast-y c).After-y-1) (second-small (goal.at.overflow_cast-y c).After-y-1)
+overflow_cast-y c = widened-fits (second (goal.at.overflow_cast-y c).In-loop-t) (second-small (goal.at.overflow_cast-y c).In-loop-t)
 
 pub absolute-requires-in-loop-t : goal.absolute-requires-in-loop-t
-absolute-requires-in-loop-t c = widened-below (second (goal.at.absolute-requires-in-loop-t c).After-y-1) (second-small (goal.at.absolute-requires-in-loop-t c).After-y-1)
+absolute-requires-in-loop-t c = widened-below (second (goal.at.absolute-requires-in-loop-t c).In-loop-t) (second-small (goal.at.absolute-requires-in-loop-t c).In-loop-t)
 
 -- the largest so far
-raised : (c : After-larger-largest) → let y = (goal.at.After-larger-largest c).After-y-1 in
+raised : (c : After-larger-largest) → let y = (goal.at.After-larger-largest c).In-loop-t in
     RaisedTwice (head y).loop-t.largest (first y) (second y) c.larger-largest.result
 raised c =
-    let y = (goal.at.After-larger-largest c).After-y-1 in
+    let y = (goal.at.After-larger-largest c).In-loop-t in
     raised-twice (first y) (second y)
     (c.larger-largest.ensures
     ∙ ap (λ (m : ℕ). max (head y).loop-t.largest m)
@@ -91,7 +91,7 @@ raised c =
     (head y).loop-t.invariant.swapped.bounded.limit (first_small y) (second-small y)
 
 pub loop-t-preserved : goal.loop-t-preserved
-loop-t-preserved c = let y = (goal.at.loop-t-preserved c).After-y-1 in again (head y).loop-t.invariant (more y) (raised c)
+loop-t-preserved c = let y = (goal.at.loop-t-preserved c).In-loop-t in again (head y).loop-t.invariant (more y) (raised c)
 
 pub returns : goal.returns
 returns c = ended c.loop-t.invariant c.loop-t-test.false

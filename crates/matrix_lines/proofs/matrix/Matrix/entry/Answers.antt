@@ -25,10 +25,10 @@ bounds-w-at c = omega (arith, place_inside c)
 
 pub overflow_cast-result : goal.overflow_cast-result
 overflow_cast-result c =
-    cast_fits (slot c.args.w.now (c.line.result + c.args.j)) (record { sfits = c.result-1.given })
+    cast_fits (slot c.args.w.now (c.line.result + c.args.j)) (record { sfits = omega arith })
 
 pub returns : goal.returns
 returns c =
     let w = c.args.w.now in let j = c.args.j in
-    cast_is (slot w (c.line.result + j)) (record { sfits = c.result-1.given })
+    cast_is (slot w (c.line.result + j)) (record { sfits = omega arith })
     ∙ ap (λ (p : ℕ). slot w (p + j)) c.line.ensures
