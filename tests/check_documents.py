@@ -64,13 +64,13 @@ def claims():
 
 
 def claim_faults():
-    """Claims that are not proved in the file of the same name, that no use takes as a hypothesis, or that docs/DEMANDS.md does not name."""
+    """Claims that are not proved under their name in the file of the same name, that no use takes as a hypothesis, or that docs/DEMANDS.md does not name."""
     proofs = CRATES / "demands/proofs"
     uses = "\n".join(line for path in sorted(proofs.glob("Use*.antt")) for line in read(path).split("\n") if not line.startswith(("use ", "--")))
     ticked = set(TICKED.findall(read(ROOT / DEMANDS)))
     for name, file in claims():
-        proof = rf"^(?:pub )?{name[0].lower() + name[1:]} : {name}$"
-        if not (proofs / file).exists() or not re.search(proof, read(proofs / file), re.M):
+        found = re.findall(rf"^(?:pub )?(\w+) : {name}$", read(proofs / file), re.M) if (proofs / file).exists() else []
+        if name.lower() not in [proof.replace("_", "") for proof in map(str.lower, found)]:
             yield f"the claim {name} is not proved in crates/demands/proofs/{file}"
         if not re.search(rf": {name}\b", uses):
             yield f"the claim {name} is a hypothesis of no use"

@@ -143,7 +143,9 @@ class Tables:
 
     def applied(self, part, arguments, bound):
         """A name applied to values."""
-        name = part[0]
+        name, _, field = part[0].partition(".")
+        if field:
+            return self.applied([name], arguments, bound)[field]
         if name in bound:
             return bound[name]
         home = self.home(name)
