@@ -13,7 +13,7 @@ crate `demands` is checked without the proofs of the claims, and an error is wan
     contract NAME           a public contract says less and its proof follows; crate `clients` or `sweep_client`, which call the public functions, is checked
     control NAME            no weakening: the copy of another crate's record is as good as the record itself, so that no use is refused
 WORD: only the weakenings whose name has it. --list: the names. Took 21 minutes for all beside other work, 19 of them of the
-processors; ends with 1 if one goes unseen.
+processors, with an older kit; ends with 1 if one goes unseen.
 """
 import os
 import re
