@@ -196,7 +196,7 @@ def run_faults():
 
 def calls_of(crate):
     """The parameters and the clauses of the calls of a crate, by their names."""
-    return {name: " ".join(text.split()) for name, text in CALL.findall(read(CRATES / crate / "src/lib.rt"))}
+    return {name: re.sub(r"[\s,]+", " ", text).replace("( ", "(").replace(" )", ")") for name, text in CALL.findall(read(CRATES / crate / "src/lib.rt"))}
 
 
 def export_faults():
