@@ -2,7 +2,7 @@
 --     skipped-malformed, skipped-to, number-malformed, number_read     the reading, from the answer
 --     skipped-fails, skipped-goes, number-fails, number-goes           the answer, from the reading
 use mathlib.Core.Path.{◌≡◌, refl, ap}
-use Prim.Native.Nat.{ℕ, ◌-◌}
+use Prim.Native.Nat.{ℕ}
 use native.Mathlib.Omega.{arith}
 use Rattle.mesh_format.specs.Parse.{Parsed, malformed, parsed}
 use Rattle.mesh_words.specs.Tells.{tell_skipped, tell_number}

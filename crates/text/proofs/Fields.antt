@@ -59,7 +59,7 @@ module _ {numbers : List ℤ} {from to : ℕ} {out₀ : List ℕ} {at : ℕ} whe
       }
     where
       field : PutsWithin number_room (decimal (get_or numbers i (pos 0))) r out' r' out''
-      field = subst (λ (z : ℤ). PutsWithin number_room (decimal z) r out' r' out'') (to_z-of_z (record { sfits = f })) b
+      field = subst (λ (z : ℤ). PutsWithin number_room (decimal z) r out' r' out'') (to_z-of_z {w = w64} (record { sfits = f })) b
 
       more : i + 1 - from ≡ suc (i - from)
       more = omega arith

@@ -1,0 +1,31 @@
+-- `list` meets its contract: only the byte of the node changes, and of it only the node's bit.
+use mathlib.Core.Path.{◌≡◌, sym, ap, ◌∙◌}
+use mathlib.Core.Logic.{◌≢◌}
+use mathlib.Core.List.{List}
+use Prim.Native.Nat.{ℕ, ◌/◌, ◌%◌, ◌<◌}
+use native.Mathlib.Decide.{ℕ_discrete}
+use native.Mathlib.Omega.{arith}
+use lib.ListN.{length, get_or, set, length-set}
+use lib.Seq.{get_or-set_same, get_or-set_other}
+use Rattle.node_maps.specs.Map.{bit_of, in_map, SetsBit, Lists}
+use Rattle.node_maps.proofs.map.list.Goals as goal
+
+lists : (map : List ℕ) (v y : ℕ) → v / 8 < length map → SetsBit (v % 8) (get_or map (v / 8) 0) y → Lists v map (set map (v / 8) y)
+lists map v y l h = record {
+  sized = length-set map (v / 8) y;
+  here = ap (λ (b : ℕ). bit_of b (v % 8)) (get_or-set_same map (v / 8) y 0 l) ∙ h.here;
+  elsewhere = λ u d. at u d (ℕ_discrete (u / 8) (v / 8));
+}
+  where
+    at : (u : ℕ) → u ≢ v → Dec (u / 8 ≡ v / 8) → in_map (set map (v / 8) y) u ≡ in_map map u
+    at u d (yes e) =
+        ap (λ (i : ℕ). bit_of (get_or (set map (v / 8) y) i 0) (u % 8)) e
+        ∙ ap (λ (b : ℕ). bit_of b (u % 8)) (get_or-set_same map (v / 8) y 0 l)
+        ∙ h.elsewhere (u % 8) (omega arith) (λ r. d (omega (arith, r, e)))
+        ∙ ap (λ (i : ℕ). bit_of (get_or map i 0) (u % 8)) (sym e)
+    at u d (no n) = ap (λ (b : ℕ). bit_of b (u % 8)) (get_or-set_other map (v / 8) (u / 8) y 0 n)
+
+pub returns : goal.returns
+returns c =
+    let a = c.args in
+    lists a.map.now a.node c.with_bit.result (omega arith) c.with_bit.ensures

@@ -1,0 +1,16 @@
+-- `scans::remainder::row_keeps` meets its contract: the row keeps a nonzero entry exactly where its first one stands before its end.
+use native.Mathlib.Omega.{arith}
+use Rattle.matrix_lines.proofs.Spans.{line-span, span-inside}
+use Rattle.scans.proofs.Tests.{row_keeps-first}
+use Rattle.scans.proofs.remainder.row_keeps.Goals as goal
+use Rattle.scans.proofs.remainder.row_keeps.Goals.{Start}
+
+pub first_nonzero-requires : goal.first_nonzero-requires
+first_nonzero-requires c =
+    let s = (goal.at.first_nonzero-requires c).Start in
+    (span-inside (line-span s.args.m c.line.result s.args.k c.line.ensures s.requires.k_lt_lines.0) s.requires.held.0, omega arith, s.requires.held.1)
+
+pub returns : goal.returns
+returns c =
+    let s = (goal.at.returns c).Start in
+    row_keeps-first s.args.m s.args.w.now s.args.k c.line.result c.first_nonzero.result s.requires.k_lt_lines.1 c.line.ensures c.first_nonzero.ensures
