@@ -446,7 +446,7 @@ def main():
             edit(room)
             contract = label.startswith("contract ")
             crate = ("sweep_client" if "WriteTold" in label else "clients") if contract else "demands"
-            folder = crate + "/proofs/"
+            folder = crate + ("/" if contract else "/proofs/")
             done = subprocess.run(["rt", "check"], cwd=os.path.join(room, "crates", crate), stdout=subprocess.PIPE, stderr=subprocess.STDOUT, text=True)
             files = wrong_files(done.stdout, crate)
             broken = sorted({f for f in files if not f.startswith(folder)})
