@@ -8,7 +8,8 @@ The figures of tests/reading.py in README.md, and in docs/DECISIONS.md where it 
 part, `a core of N lines` and `N lines in all`.
 The counts of edits, examples and claims are those of tests/counts.txt. A number below one that the file had in an earlier commit has a line in
 docs/DECISIONS.md with both: `` `edits` from 9 to 7``.
-Every edit is of a text that is there, so is every weakening of tests/weaken.py, and every test is run by tests/run.
+Every edit is of a text that is there, so is every weakening of tests/weaken.py, and every test is run by tests/run. Each call that crate fildwuk_c exports
+for C has the parameters and the clauses of the call of its name in fildwuk or library_host.
 """
 import re
 import subprocess
@@ -36,6 +37,7 @@ TABLE = re.compile(r"^\s*(?:pub )?\S+ : (?:T \(every (?:\(.*\)|\S+) (\S+)\)|Righ
 RECORD = re.compile(r"^(?:pub )?\S*(?:examples|calls) : (\w+)$", re.M)
 PART = re.compile(r"^(\S.*): (\d+) lines$", re.M)
 TOTAL = re.compile(r"^in all: (\d+) lines", re.M)
+CALL = re.compile(r'^pub (?:extern "C" )?fn (fildwuk_\w+)(\([^)]*\) -> u32\n(?: +.*\n)+?)\{$', re.M)
 FALL = re.compile(r"`(\w+)` from (\d+) to (\d+)")
 
 
@@ -64,13 +66,13 @@ def claims():
 
 
 def claim_faults():
-    """Claims that are not proved in the file of the same name, that no use takes as a hypothesis, or that docs/DEMANDS.md does not name."""
+    """Claims that are not proved under their name in the file of the same name, that no use takes as a hypothesis, or that docs/DEMANDS.md does not name."""
     proofs = CRATES / "demands/proofs"
     uses = "\n".join(line for path in sorted(proofs.glob("Use*.antt")) for line in read(path).split("\n") if not line.startswith(("use ", "--")))
     ticked = set(TICKED.findall(read(ROOT / DEMANDS)))
     for name, file in claims():
-        proof = rf"^(?:pub )?{name[0].lower() + name[1:]} : {name}$"
-        if not (proofs / file).exists() or not re.search(proof, read(proofs / file), re.M):
+        found = re.findall(rf"^(?:pub )?(\w+) : {name}$", read(proofs / file), re.M) if (proofs / file).exists() else []
+        if name.lower() not in [proof.replace("_", "") for proof in map(str.lower, found)]:
             yield f"the claim {name} is not proved in crates/demands/proofs/{file}"
         if not re.search(rf": {name}\b", uses):
             yield f"the claim {name} is a hypothesis of no use"
@@ -192,6 +194,19 @@ def run_faults():
                 yield f"tests/run: {path.name} is not run"
 
 
+def calls_of(crate):
+    """The parameters and the clauses of the calls of a crate, by their names."""
+    return {name: re.sub(r"[\s,]+", " ", text).replace("( ", "(").replace(" )", ")") for name, text in CALL.findall(read(CRATES / crate / "src/lib.rt"))}
+
+
+def export_faults():
+    """Calls whose export for C has other parameters or clauses, or is missing."""
+    calls, exports = {**calls_of("fildwuk"), **calls_of("library_host")}, calls_of("fildwuk_c")
+    for name in sorted(set(calls) | set(exports)):
+        if calls.get(name) != exports.get(name):
+            yield f"crates/fildwuk_c: {name} is not exported as it stands in its crate"
+
+
 def weakening_faults():
     """Texts that tests/weaken.py would replace and that are gone."""
     for file, text in stale():
@@ -202,7 +217,7 @@ def main():
     """Exits with 1 where something differs."""
     history = earlier()
     names = Names()
-    faults = list(name_faults(names)) + list(path_faults(names)) + list(claim_faults()) + list(edit_faults()) + list(figure_faults()) + list(count_faults(history)) + list(run_faults()) + list(weakening_faults())
+    faults = list(name_faults(names)) + list(path_faults(names)) + list(claim_faults()) + list(edit_faults()) + list(figure_faults()) + list(count_faults(history)) + list(run_faults()) + list(export_faults()) + list(weakening_faults())
     for fault in faults:
         print(fault)
     print(f"{len(set(TICKED.findall(read(ROOT / DEMANDS))))} names, {counted()}, {len(history)} earlier counts, {len(faults)} faults")

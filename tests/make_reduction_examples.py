@@ -16,7 +16,7 @@ from model.matrices import identity, multiply, transpose
 from model.matrix_cases import COMPANIONS, WIDE_AT_SMALL
 from model.reduction import Followers, Reduction, TooWide, copy_columns, copy_rows, reduce
 
-FIELDS = dict(zip(COMPANIONS, ("rowFollower", "rowInverse", "columnFollower", "columnInverse")))
+FIELDS = dict(zip(COMPANIONS, ("row_follower", "row_inverse", "column_follower", "column_inverse")))
 SPOKEN = dict(zip(COMPANIONS, ("row follower", "inverse of the row follower",
                                "column follower", "inverse of the column follower")))
 NOTED = ["matrix"] + list(SPOKEN.values())
@@ -366,12 +366,11 @@ EDITS = {
 WRITTEN_BY = ("Written by tests/make_reduction_examples.py: the expected outcomes are those of the Python "
               "model of document 01, tests/model/reduction.py.")
 IMPORTS = """\
-use mathlib.Core.List.{List, [], _∷_}
-use lib.IntN.{pos}
-use Rattle·reduction_steps.specs.Step.{%s}
+use Rattle.std.specs.Prelude.{List, [], ◌∷◌, pos}
+use Rattle.reduction_steps.specs.Step.{%s}
 """
-WIDTH = 140
-FORMS = ["minus", "withAll", "withRows", "withColumns", "alone", "fromIdentities", "bare"]
+WIDTH = 150
+FORMS = ["minus", "with_all", "with_rows", "with_columns", "alone", "from_identities", "bare"]
 
 
 def header(about, text):
@@ -379,7 +378,7 @@ def header(about, text):
     forms = ", ".join(["Case"] + [name for name in FORMS if f"{name} " in text])
     ends = ", ".join(["done"] + ["wide"] * ("wide\n" in text))
     return (f"-- {about}\n-- {WRITTEN_BY}\n{IMPORTS % ends}"
-            f"use Rattle·reduction_examples·specs.specs.Case.{{{forms}}}\n\n")
+            f"use Rattle.reduction_examples.specs.Case.{{{forms}}}\n\n")
 
 
 def numbers(row):
@@ -420,7 +419,7 @@ def state(one, matrix, companions, peak):
     return "record {\n" + parts + "}"
 
 
-SHORT = {(): "alone", ROWS: "withRows", COLUMNS: "withColumns", COMPANIONS: "withAll"}
+SHORT = {(): "alone", ROWS: "with_rows", COLUMNS: "with_columns", COMPANIONS: "with_all"}
 
 
 def sizes(one):
@@ -448,7 +447,7 @@ def record(one):
     if one.from_identities():
         told = expected(one)
         told = told if told == "wide" else f"({told})"
-        parts = [f"fromIdentities {one.limit} ({sizes(one)})", f"({table(one.matrix)})", told]
+        parts = [f"from_identities {one.limit} ({sizes(one)})", f"({table(one.matrix)})", told]
         wide = len(" ".join(parts).split("\n")[0]) > WIDTH
         return ("\n" if wide else " ").join(parts)
     parts = [f"limit = {one.limit};", f"sizes = {sizes(one)};",

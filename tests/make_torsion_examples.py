@@ -23,14 +23,12 @@ DIMENSION = 1
 SECTIONS = ("vertices", "edges", "triangles", "tetrahedra")
 HEADER = """\
 -- Written by tests/make_torsion_examples.py: the numbers are those of the Python model of document 01, tests/model.
-use mathlib.Core.List.{List, [], _∷_}
-use Prim.Native.Nat.{ℕ}
-use lib.IntN.{ℤ, pos, negℤ}
-use Rattle·complexes.specs.Complex.{Sections}
-use Rattle·reduction_steps.specs.State.{State}
+use Rattle.std.specs.Prelude.{List, [], ◌∷◌, ℕ, ℤ, pos, neg_ℤ}
+use Rattle.complexes.specs.Complex.{Sections}
+use Rattle.reduction_steps.specs.State.{State}
 
 abbrev minus : ℕ → ℤ
-minus n = negℤ (pos n)
+minus n = neg_ℤ (pos n)
 """
 
 
@@ -115,10 +113,10 @@ def state(found, columns, peak):
     absent = table([[] for _ in range(columns)])
     return ("record {\n"
             f"      matrix ={tall(matrix)};\n"
-            f"      rowFollower ={tall(found.rows)};\n"
-            f"      rowInverse ={tall(found.generators)};\n"
-            f"      columnFollower = {absent};\n"
-            f"      columnInverse = {absent};\n"
+            f"      row_follower ={tall(found.rows)};\n"
+            f"      row_inverse ={tall(found.generators)};\n"
+            f"      column_follower = {absent};\n"
+            f"      column_inverse = {absent};\n"
             f"      peak = {peak};\n"
             "    }")
 
@@ -162,11 +160,11 @@ def surfaces(example, data, loop):
     assert library_surface(data, DIMENSION, loop, lent, work)[0] == BOUNDS_NOTHING, example.text
     found = homology.classes(sheet, DIMENSION, tracked=True)
     yield definition("what it leaves where the transform of its columns is kept", "tracked", "State", "record {\n"
-                     "      matrix = left .matrix;\n"
-                     "      rowFollower = left .rowFollower;\n"
-                     "      rowInverse = left .rowInverse;\n"
-                     f"      columnFollower ={tall(transpose(found.second.column, above))};\n"
-                     "      columnInverse = left .columnInverse;\n"
+                     "      matrix = left.matrix;\n"
+                     "      row_follower = left.row_follower;\n"
+                     "      row_inverse = left.row_inverse;\n"
+                     f"      column_follower ={tall(transpose(found.second.column, above))};\n"
+                     "      column_inverse = left.column_inverse;\n"
                      f"      peak = {peak_of(sheet, ('column',))};\n"
                      "    }")
     yield definition(f"the surface that {example.bounding.text} bounds", "surface", "List ℤ", numbers(surface))

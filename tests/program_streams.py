@@ -3,7 +3,6 @@
 
 import argparse
 import os
-import signal
 import subprocess
 import time
 from pathlib import Path
@@ -70,7 +69,7 @@ def cases(program):
     yield "non-blocking, whole", from_pipe(program, [data], False, True), (0, text, b"")
     yield "full output", through_shell(program, f"<{SHEET} >/dev/full"), (0, b"", NO_OUTPUT)
     yield "closed output", through_shell(program, f"<{SHEET} >&-"), (0, b"", NO_OUTPUT)
-    yield "unread pipe", unread_pipe(program, ""), (-signal.SIGPIPE, b"", b"")
+    yield "unread pipe", unread_pipe(program, ""), (0, b"", NO_OUTPUT)
     yield "unread pipe, signal ignored", unread_pipe(program, 'trap "" PIPE; '), (0, b"", NO_OUTPUT)
 
 

@@ -12,7 +12,7 @@ import re
 import sys
 
 ROOT = os.path.join(os.path.dirname(os.path.abspath(__file__)), "..", "crates")
-COMPUTED = {"call", "hostCall", "sweepCall", "importCall", "programText"}
+COMPUTED = {"call", "host_call", "sweep_call", "import_call", "program_text"}
 CLAIMS = [
     ("the sheet", "Sheets"),
     ("the answers are right", "Answers"),
@@ -43,8 +43,8 @@ PUBLIC = [
 ]
 TOKEN = re.compile(r"[^\s(){}\[\];,λ⟦⟧⌜⌝]+")
 USE = re.compile(r"^(?:ghost |pub )?use (\S+?)(?:\.\{([^}]*)\}| as (\S+?))?;?\s*$", re.M)
-PATH = re.compile(r"Rattle·(\w+?)(?:·(?:specs|proofs))?\.(specs|proofs)\.(?:(?:specs|proofs)\.)?(\w+)$")
-FUNCTION = re.compile(r'^ *(?:pub )?(?:extern "C" )?fn (\w+)', re.M)
+PATH = re.compile(r"Rattle\.(\w+)\.(specs|proofs)\.(\w+)$")
+FUNCTION = re.compile(r"^ *(?:pub )?fn (\w+)", re.M)
 
 
 def module_of(path):
@@ -139,7 +139,7 @@ def closure(todo, done):
             for part in {token, token.strip("."), token.split(".")[-1]}:
                 if "." in token and token.split(".")[0] in here.aliases:
                     todo.append((here.aliases[token.split(".")[0]], token.split(".")[-1]))
-                for item in (part, "_" + part + "_"):
+                for item in (part, "◌" + part + "◌"):
                     if item in here.imports:
                         todo.append((here.imports[item], item))
                     elif item in here.home:

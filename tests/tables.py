@@ -7,13 +7,13 @@ import re
 from pathlib import Path
 
 CRATES = Path(__file__).resolve().parent.parent / "crates"
-USE = re.compile(r"^use Rattle·(\w+?)(?:·specs)?\.specs\.(?:specs\.)?(\w+)\.\{([^}]*)\}", re.M)
+USE = re.compile(r"^use Rattle\.(\w+)\.specs\.(\w+)\.\{([^}]*)\}", re.M)
 CLAUSE = re.compile(r"^([^\s(){}:]+)((?: [^\s(){}:=]+)*) =(?:\s|$)")
 TOKEN = re.compile(r"[(){};]|[^\s(){};]+")
 OPENING, CLOSING = ("(", "{"), (")", "}")
 BUILT_IN = {
     "pos": lambda n: n,
-    "negℤ": lambda n: -n,
+    "neg_ℤ": lambda n: -n,
     "replicate": lambda n, x: [x] * n,
     "take": lambda n, xs: xs[:n],
     "report": lambda: ("report",),
@@ -143,7 +143,9 @@ class Tables:
 
     def applied(self, part, arguments, bound):
         """A name applied to values."""
-        name = part[0]
+        name, _, field = part[0].partition(".")
+        if field:
+            return self.applied([name], arguments, bound)[field]
         if name in bound:
             return bound[name]
         home = self.home(name)

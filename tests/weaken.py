@@ -13,7 +13,7 @@ crate `demands` is checked without the proofs of the claims, and an error is wan
     contract NAME           a public contract says less and its proof follows; crate `clients` or `sweep_client`, which call the public functions, is checked
     control NAME            no weakening: the copy of another crate's record is as good as the record itself, so that no use is refused
 WORD: only the weakenings whose name has it. --list: the names. Took 21 minutes for all beside other work, 19 of them of the
-processors; ends with 1 if one goes unseen.
+processors, with an older kit; ends with 1 if one goes unseen.
 """
 import os
 import re
@@ -25,7 +25,8 @@ import tempfile
 ROOT = os.path.join(os.path.dirname(os.path.abspath(__file__)), "..")
 SPECS = "crates/demands/specs/"
 PROOFS = "crates/demands/proofs/"
-WEAK = "Rattle·demands·specs.specs.Weak"
+WEAK = "Rattle.demands.specs.Weak"
+PRELUDE = "use Rattle.std.specs.Prelude.{"
 
 # records of other crates that claims conclude with, each with the definitions between it and the claims: all are copied
 SHADOWS = {
@@ -58,51 +59,51 @@ WAYS = {"ReportOf": "Answers", "CoordinatesOf": "Answers", "SurfaceOf": "Surface
 
 # a file of `demands`, or the name of a shadow: a text, and one that says less
 LESS = [
-    ("Sheets", "limit ≤ libraryLimit → (b : List ℕ) → Bytes b → (refusal limit b ≡ 0)", "limit < libraryLimit → (b : List ℕ) → Bytes b → (refusal limit b ≡ 0)"),
-    ("Sheets", "limit ≤ libraryLimit → (b : List ℕ) (laid", "limit < libraryLimit → (b : List ℕ) (laid"),
-    ("Sweeps", "limit ≤ libraryLimit → (b : List ℕ) → Bytes b → (complexRefusal", "limit < libraryLimit → (b : List ℕ) → Bytes b → (complexRefusal"),
-    ("Sheets", "limit ≤ libraryLimit → (b : List ℕ) → Bytes b → (refusal limit b ≡ 18)", "limit < libraryLimit → (b : List ℕ) → Bytes b → (refusal limit b ≡ 18)"),
-    ("Calls", "answer = refused (refusal limit (q .sheet)); output", "answer = call limit q request output work .answer; output"),
-    ("Calls", "(refusal limit (q .sheet)); output = output; work = work }", "(refusal limit (q .sheet)); output = call limit q request output work .output; work = work }"),
-    ("Calls", "(refusal limit (q .sheet)); output = output; work = work }", "(refusal limit (q .sheet)); output = output; work = call limit q request output work .work }"),
-    ("Sweeps", "limit ≤ libraryLimit → Bytes b → complexRefusal limit b ≡ 0 →\n    (L : Sections) → Complex top limit L → IsSwept (sectionsOf b) L →\n    (numberTold", "limit < libraryLimit → Bytes b → complexRefusal limit b ≡ 0 →\n    (L : Sections) → Complex top limit L → IsSwept (sectionsOf b) L →\n    (numberTold"),
-    ("Sweeps", "limit ≤ libraryLimit → Bytes b → complexRefusal limit b ≡ 0 →\n    (L : Sections) → Complex top limit L → IsSwept (sectionsOf b) L → length", "limit < libraryLimit → Bytes b → complexRefusal limit b ≡ 0 →\n    (L : Sections) → Complex top limit L → IsSwept (sectionsOf b) L → length"),
-    ("Sweeps", "limit ≤ libraryLimit → Bytes b → complexRefusal limit b ≡ 0 → length b ≤", "limit < libraryLimit → Bytes b → complexRefusal limit b ≡ 0 → length b ≤"),
-    ("Sweeps", "complexRefusal limit b ≡ 0 → length b ≤ length slice", "complexRefusal limit b ≡ 0 → length b < length slice"),
-    ("Sweeps", "limit ≤ libraryLimit → (b slice : List ℕ) → Bytes b → refusal", "limit < libraryLimit → (b slice : List ℕ) → Bytes b → refusal"),
+    ("Sheets", "limit ≤ library_limit → (b : List ℕ) → Bytes b → (refusal limit b ≡ 0)", "limit < library_limit → (b : List ℕ) → Bytes b → (refusal limit b ≡ 0)"),
+    ("Sheets", "limit ≤ library_limit → (b : List ℕ) (laid", "limit < library_limit → (b : List ℕ) (laid"),
+    ("Sweeps", "limit ≤ library_limit → (b : List ℕ) → Bytes b → (complex_refusal", "limit < library_limit → (b : List ℕ) → Bytes b → (complex_refusal"),
+    ("Sheets", "limit ≤ library_limit → (b : List ℕ) → Bytes b → (refusal limit b ≡ 18)", "limit < library_limit → (b : List ℕ) → Bytes b → (refusal limit b ≡ 18)"),
+    ("Calls", "answer = refused (refusal limit q.sheet); output", "answer = (call limit q request output work).answer; output"),
+    ("Calls", "(refusal limit q.sheet); output = output; work = work }", "(refusal limit q.sheet); output = (call limit q request output work).output; work = work }"),
+    ("Calls", "(refusal limit q.sheet); output = output; work = work }", "(refusal limit q.sheet); output = output; work = (call limit q request output work).work }"),
+    ("Sweeps", "limit ≤ library_limit → Bytes b → complex_refusal limit b ≡ 0 →\n    (L : Sections) → Complex top limit L → IsSwept (sections_of b) L →\n    (number_told", "limit < library_limit → Bytes b → complex_refusal limit b ≡ 0 →\n    (L : Sections) → Complex top limit L → IsSwept (sections_of b) L →\n    (number_told"),
+    ("Sweeps", "limit ≤ library_limit → Bytes b → complex_refusal limit b ≡ 0 →\n    (L : Sections) → Complex top limit L → IsSwept (sections_of b) L → length", "limit < library_limit → Bytes b → complex_refusal limit b ≡ 0 →\n    (L : Sections) → Complex top limit L → IsSwept (sections_of b) L → length"),
+    ("Sweeps", "limit ≤ library_limit → Bytes b → complex_refusal limit b ≡ 0 → length b ≤", "limit < library_limit → Bytes b → complex_refusal limit b ≡ 0 → length b ≤"),
+    ("Sweeps", "complex_refusal limit b ≡ 0 → length b ≤ length slice", "complex_refusal limit b ≡ 0 → length b < length slice"),
+    ("Sweeps", "limit ≤ library_limit → (b slice : List ℕ) → Bytes b → refusal", "limit < library_limit → (b slice : List ℕ) → Bytes b → refusal"),
     ("Sweeps", "length slice < length (layout L))", "suc (length slice) < length (layout L))"),
     ("Sweeps", "length (layout L) ≤ length slice", "length (layout L) < length slice"),
-    ("Sweeps", "record { answer = done (length (layout L)); output = layout L", "record { answer = sweepCall limit b slice .answer; output = layout L"),
-    ("Sweeps", "output = layout L ++ drop (length (layout L)) slice }", "output = sweepCall limit b slice .output }"),
-    ("Sweeps", "refusal limit b ≡ 0 → length b ≤ length slice →\n    sweepCall", "refusal limit b ≡ 0 → length b < length slice →\n    sweepCall"),
-    ("Sweeps", "record { answer = done (length b); output = b ++", "record { answer = sweepCall limit b slice .answer; output = b ++"),
-    ("Sweeps", "output = b ++ drop (length b) slice }", "output = sweepCall limit b slice .output }"),
-    ("Sweeps", "→ n ≤ length slice′", "→ n < length slice′"),
-    ("Sweeps", "limit ≤ libraryLimit → Bytes b → (n : ℕ) → sweepCall", "limit < libraryLimit → Bytes b → (n : ℕ) → sweepCall"),
+    ("Sweeps", "record { answer = done (length (layout L)); output = layout L", "record { answer = (sweep_call limit b slice).answer; output = layout L"),
+    ("Sweeps", "output = layout L ++ drop (length (layout L)) slice }", "output = (sweep_call limit b slice).output }"),
+    ("Sweeps", "refusal limit b ≡ 0 → length b ≤ length slice →\n    sweep_call", "refusal limit b ≡ 0 → length b < length slice →\n    sweep_call"),
+    ("Sweeps", "record { answer = done (length b); output = b ++", "record { answer = (sweep_call limit b slice).answer; output = b ++"),
+    ("Sweeps", "output = b ++ drop (length b) slice }", "output = (sweep_call limit b slice).output }"),
+    ("Sweeps", "→ n ≤ length slice'", "→ n < length slice'"),
+    ("Sweeps", "limit ≤ library_limit → Bytes b → (n : ℕ) → (sweep_call", "limit < library_limit → Bytes b → (n : ℕ) → (sweep_call"),
     ("StaysIn", "p ≡ 0 → 0 < count K 1", "p ≡ 0 → 1 < count K 1"),
     ("NoLooseNodes", "0 < count K 1 → (i : ℕ) → i < count K 0", "0 < count K 1 → (i : ℕ) → suc i < count K 0"),
-    ("Calls", "j < counts .torsion + counts .free", "suc j < counts .torsion + counts .free"),
+    ("Calls", "j < counts.torsion + counts.free", "suc j < counts.torsion + counts.free"),
     ("Calls", " i < many →", " suc i < many →"),
-    ("Calls", "cellCount q ≤ length output′", "cellCount q < length output′"),
-    ("Calls", "(q .dimension) ≤ length work′", "(q .dimension) < length work′"),
-    ("Answers", "i < reportLength (cells q)", "suc i < reportLength (cells q)"),
+    ("Calls", "cell_count q ≤ length output'", "cell_count q < length output'"),
+    ("Calls", "q.dimension ≤ length work'", "q.dimension < length work'"),
+    ("Answers", "i < report_length (cells q)", "suc i < report_length (cells q)"),
     ("Answers", "((j : ℕ) → j < t + f → c j ≡ d j)", "((j : ℕ) → suc j < t + f → c j ≡ d j)"),
-    ("Answers", "→ c ≡ d", "→ c .free ≡ d .free"),
+    ("Answers", "→ c ≡ d", "→ c.free ≡ d.free"),
     ("Answers", "j < t → NearestZero", "suc j < t → NearestZero"),
-    ("Surfaces", "i < cellCount q →\n    apply", "suc i < cellCount q →\n    apply"),
+    ("Surfaces", "i < cell_count q →\n    apply", "suc i < cell_count q →\n    apply"),
     ("Surfaces", "place < k", "place < suc k"),
-    ("Surfaces", "((i : ℕ) → i < cellCount q → y i ≡ z i)", "((i : ℕ) → i < suc (cellCount q) → y i ≡ z i)"),
+    ("Surfaces", "((i : ℕ) → i < cell_count q → y i ≡ z i)", "((i : ℕ) → i < suc (cell_count q) → y i ≡ z i)"),
     ("Surfaces", "(k ≡ 0) ⊎ (k ≡ 17) →", "k ≡ 0 →"),
-    ("Headroom", "counts .peak ≤ entryLimit", "counts .peak ≤ suc entryLimit"),
-    ("Headroom", "counts .bits ≤ 20", "counts .bits ≤ 21"),
-    ("Headroom", "counts .peak < 2 ^ counts .bits", "counts .peak ≤ 2 ^ counts .bits"),
-    ("Headroom", "≤ counts .peak)", "≤ suc (counts .peak))"),
+    ("Headroom", "counts.peak ≤ entry_limit", "counts.peak ≤ suc entry_limit"),
+    ("Headroom", "counts.bits ≤ 20", "counts.bits ≤ 21"),
+    ("Headroom", "counts.peak < 2 ^ counts.bits", "counts.peak ≤ 2 ^ counts.bits"),
+    ("Headroom", "≤ counts.peak)", "≤ suc counts.peak)"),
     ("Headroom", "1 ≤ L →", "1 < L →"),
-    ("Headroom", "same : counts .peak ≤ L", "same : counts .peak < L"),
-    ("Host", "(q .dimension) ≤ length work", "(q .dimension) < length work"),
-    ("Meshes", "limit ≤ libraryLimit", "limit < libraryLimit"),
-    ("Program", "longest hostLimit < n", "suc (longest hostLimit) < n"),
-    ("Words", "length c ≤ wordVertices", "length c < wordVertices"),
+    ("Headroom", "same : counts.peak ≤ L", "same : counts.peak < L"),
+    ("Host", "q.dimension ≤ length work", "q.dimension < length work"),
+    ("Meshes", "limit ≤ library_limit", "limit < library_limit"),
+    ("Program", "longest host_limit < n", "suc (longest host_limit) < n"),
+    ("Words", "length c ≤ word_vertices", "length c < word_vertices"),
     ("Words", "packed c < 2 ^ 64", "packed c ≤ 2 ^ 64"),
     ("Consequences", "j < t →\n", "suc j < t →\n"),
     ("Consequences", "j < t + f → e j ≡ c j", "suc j < t + f → e j ≡ c j"),
@@ -110,72 +111,72 @@ LESS = [
     ("Outcome", "(k : ℕ) → k ≢ 0 →", "(k : ℕ) → Unit {0} →"),
     ("Outcome", "k ≢ 0 → k ≢ 13 → k ≢ 17 →", "k ≢ 0 → Unit {0} → k ≢ 17 →"),
     ("Outcome", "k ≢ 0 → k ≢ 13 → k ≢ 17 →", "k ≢ 0 → k ≢ 13 → Unit {0} →"),
-    ("Outcome", "≡ k →\n      called ≡ record { answer = refused k; output = output; work = work }", "≡ k →\n      called ≡ record { answer = refused k; output = called .output; work = work }"),
-    ("Outcome", "≡ k →\n      called ≡ record { answer = refused k; output = output; work = work }", "≡ k →\n      called ≡ record { answer = refused k; output = output; work = called .work }"),
-    ("Outcome", "≡ k →\n      called ≡ record { answer = refused k; output = output; work = work }", "≡ k →\n      called ≡ record { answer = called .answer; output = output; work = work }"),
-    ("Outcome", "≡ 0 → TooWide q (transformsOf request) →", "≡ 0 → Unit {0} →"),
-    ("Outcome", "record { answer = refused 13; output = output; work = cleared work }", "record { answer = called .answer; output = output; work = cleared work }"),
-    ("Outcome", "record { answer = refused 13; output = output; work = cleared work }", "record { answer = refused 13; output = called .output; work = cleared work }"),
-    ("Outcome", "record { answer = refused 13; output = output; work = cleared work }", "record { answer = refused 13; output = output; work = called .work }"),
-    ("Outcome", "(TooWide q (transformsOf request) → ⊥) → (Bounds q request → ⊥) →", "Unit {0} → (Bounds q request → ⊥) →"),
-    ("Outcome", "(TooWide q (transformsOf request) → ⊥) → (Bounds q request → ⊥) →", "(TooWide q (transformsOf request) → ⊥) → Unit {0} →"),
-    ("Outcome", "record { answer = refused 17; output = output; work = cleared work }", "record { answer = called .answer; output = output; work = cleared work }"),
-    ("Outcome", "record { answer = refused 17; output = output; work = cleared work }", "record { answer = refused 17; output = called .output; work = cleared work }"),
-    ("Outcome", "record { answer = refused 17; output = output; work = cleared work }", "record { answer = refused 17; output = output; work = called .work }"),
-    ("Outcome", "(TooWide q (transformsOf request) → ⊥) → Bounds q request →", "Unit {0} → Bounds q request →"),
-    ("Outcome", "(TooWide q (transformsOf request) → ⊥) → Bounds q request →", "(TooWide q (transformsOf request) → ⊥) → Unit {0} →"),
-    ("Outcome", "Ends q (transformsOf request) s r x →", "Unit {0} →"),
-    ("Outcome", "answer = done (countsOf s r x);", "answer = called .answer;"),
-    ("Outcome", "output = splices (listSlots q request) (numbersOf q request s r x) (listCount request) output;", "output = called .output;"),
-    ("Outcome", "        work = cleared work;", "        work = called .work;"),
-    ("Carries", "i < listCount request → j < listWidth", "suc i < listCount request → j < listWidth"),
-    ("Carries", "j < listWidth", "suc j < listWidth"),
-    ("Carries", "(i k : ℕ) → i < listCount request", "(i k : ℕ) → suc i < listCount request"),
-    ("Carries", "(counts .torsion) ≤ k", "(counts .torsion) < k"),
-    ("Carries", "k < 8 * listSlots q request\n", "suc k < 8 * listSlots q request\n"),
-    ("Carries", "(8 * listSlots q request) ≤ k", "(8 * listSlots q request) < k"),
+    ("Outcome", "≡ k →\n      called ≡ record { answer = refused k; output = output; work = work }", "≡ k →\n      called ≡ record { answer = refused k; output = called.output; work = work }"),
+    ("Outcome", "≡ k →\n      called ≡ record { answer = refused k; output = output; work = work }", "≡ k →\n      called ≡ record { answer = refused k; output = output; work = called.work }"),
+    ("Outcome", "≡ k →\n      called ≡ record { answer = refused k; output = output; work = work }", "≡ k →\n      called ≡ record { answer = called.answer; output = output; work = work }"),
+    ("Outcome", "≡ 0 → TooWide q (transforms_of request) →", "≡ 0 → Unit {0} →"),
+    ("Outcome", "record { answer = refused 13; output = output; work = cleared work }", "record { answer = called.answer; output = output; work = cleared work }"),
+    ("Outcome", "record { answer = refused 13; output = output; work = cleared work }", "record { answer = refused 13; output = called.output; work = cleared work }"),
+    ("Outcome", "record { answer = refused 13; output = output; work = cleared work }", "record { answer = refused 13; output = output; work = called.work }"),
+    ("Outcome", "(TooWide q (transforms_of request) → ⊥) → (Bounds q request → ⊥) →", "Unit {0} → (Bounds q request → ⊥) →"),
+    ("Outcome", "(TooWide q (transforms_of request) → ⊥) → (Bounds q request → ⊥) →", "(TooWide q (transforms_of request) → ⊥) → Unit {0} →"),
+    ("Outcome", "record { answer = refused 17; output = output; work = cleared work }", "record { answer = called.answer; output = output; work = cleared work }"),
+    ("Outcome", "record { answer = refused 17; output = output; work = cleared work }", "record { answer = refused 17; output = called.output; work = cleared work }"),
+    ("Outcome", "record { answer = refused 17; output = output; work = cleared work }", "record { answer = refused 17; output = output; work = called.work }"),
+    ("Outcome", "(TooWide q (transforms_of request) → ⊥) → Bounds q request →", "Unit {0} → Bounds q request →"),
+    ("Outcome", "(TooWide q (transforms_of request) → ⊥) → Bounds q request →", "(TooWide q (transforms_of request) → ⊥) → Unit {0} →"),
+    ("Outcome", "Ends q (transforms_of request) s r x →", "Unit {0} →"),
+    ("Outcome", "answer = done (counts_of s r x);", "answer = called.answer;"),
+    ("Outcome", "output = splices (list_slots q request) (numbers_of q request s r x) (list_count request) output;", "output = called.output;"),
+    ("Outcome", "        work = cleared work;", "        work = called.work;"),
+    ("Carries", "i < list_count request → j < list_width", "suc i < list_count request → j < list_width"),
+    ("Carries", "j < list_width", "suc j < list_width"),
+    ("Carries", "(i k : ℕ) → i < list_count request", "(i k : ℕ) → suc i < list_count request"),
+    ("Carries", "counts.torsion ≤ k", "counts.torsion < k"),
+    ("Carries", "k < 8 * list_slots q request\n", "suc k < 8 * list_slots q request\n"),
+    ("Carries", "(8 * list_slots q request) ≤ k", "(8 * list_slots q request) < k"),
     ("DimensionsPrinted", "p ≤ top", "p < top"),
-    ("DimensionPrinted", "TooWide (asked b p) noTransforms → text ≡ refusalLine 13", "TooWide (asked b p) noTransforms → Unit {0}"),
-    ("DimensionPrinted", "text ≡ reportText p (cellCount (asked b p)) (counts .torsion) (counts .torsion + counts .free) (call hostLimit (asked b p) report output work .output)", "Unit {0}"),
+    ("DimensionPrinted", "TooWide (asked b p) no_transforms → text ≡ refusal_line 13", "TooWide (asked b p) no_transforms → Unit {0}"),
+    ("DimensionPrinted", "text ≡ report_text p (cell_count (asked b p)) counts.torsion (counts.torsion + counts.free) (call host_limit (asked b p) report output work).output", "Unit {0}"),
 ]
 
-NUMBER = "ap (λ (c : HostCalled). c .number) ("
+NUMBER = "ap (λ (c : HostCalled). c.number) ("
 HOST = "crates/fildwuk/"
 LIBRARY = "crates/library_host/"
 # a contract that says less, and its proof: what is replaced in which files
 CONTRACTS = {
     "HostAnswers without its output": [
-        (HOST + "specs/HostAnswers.antt", "pub is : called ≡ record { number = r; output = output }", "pub is : called .number ≡ r"),
-        (HOST + "proofs/HostAnswering.antt", "Host.{hostEarly,", "Host.{HostCalled, hostEarly,"),
+        (HOST + "specs/HostAnswers.antt", "pub is : called ≡ record { number = r; output = output }", "pub is : called.number ≡ r"),
+        (HOST + "proofs/HostAnswering.antt", "Host.{host_early,", "Host.{HostCalled, host_early,"),
         (HOST + "proofs/HostAnswering.antt", "is = host-early q request output (λ z. absurd (omega (arith, number-positive x))) ∙ ap (λ (k : ℕ). record { number = k; output = output }) e;",
          "is = " + NUMBER + "host-early q request output (λ z. absurd (omega (arith, number-positive x))) ∙ ap (λ (k : ℕ). record { number = k; output = output }) e);"),
         (HOST + "proofs/HostAnswering.antt", "is = host-wide q request output passes e }", "is = " + NUMBER + "host-wide q request output passes e) }"),
         (HOST + "proofs/HostAnswering.antt", "is = host-done q request output passes s r x e ends ∙ ap (λ (l : List ℕ). record { number = 0; output = l }) (sym o) }",
          "is = " + NUMBER + "host-done q request output passes s r x e ends ∙ ap (λ (l : List ℕ). record { number = 0; output = l }) (sym o)) }"),
-        (HOST + "proofs/Through.antt", "use Rattle·host_calls.specs.Host.{", "use Rattle·host_calls.specs.Host.{HostCalled, "),
-        (HOST + "proofs/Through.antt", "        refused-same (l", "        " + NUMBER + "refused-same (l"),
-        (HOST + "proofs/Through.antt", "output = l .output }) (sym is);", "output = l .output }) (sym is));"),
-        (HOST + "proofs/Through.antt", "            done-same (l", "            " + NUMBER + "done-same (l"),
-        (HOST + "proofs/Through.antt", "output = o }) (sym e′);", "output = o }) (sym e′));"),
-        (HOST + "proofs/SurfaceThrough.antt", "        host-is (refused-same (l", "        " + NUMBER + "host-is (refused-same (l"),
-        (HOST + "proofs/SurfaceThrough.antt", "output = l .output }) (sym is);", "output = l .output }) (sym is));"),
-        (HOST + "proofs/SurfaceThrough.antt", "          host-is (done-same (l", "          " + NUMBER + "host-is (done-same (l"),
-        (HOST + "proofs/SurfaceThrough.antt", "output = o }) (sym e′);", "output = o }) (sym e′));"),
+        (HOST + "proofs/Through.antt", "use Rattle.host_calls.specs.Host.{", "use Rattle.host_calls.specs.Host.{HostCalled, "),
+        (HOST + "proofs/Through.antt", "        refused-same l.", "        " + NUMBER + "refused-same l."),
+        (HOST + "proofs/Through.antt", "output = l.output }) (sym is);", "output = l.output }) (sym is));"),
+        (HOST + "proofs/Through.antt", "            done-same l.", "            " + NUMBER + "done-same l."),
+        (HOST + "proofs/Through.antt", "output = o }) (sym e');", "output = o }) (sym e'));"),
+        (HOST + "proofs/SurfaceThrough.antt", "        host-is (refused-same l.", "        " + NUMBER + "host-is (refused-same l."),
+        (HOST + "proofs/SurfaceThrough.antt", "output = l.output }) (sym is);", "output = l.output }) (sym is));"),
+        (HOST + "proofs/SurfaceThrough.antt", "          host-is (done-same l.", "          " + NUMBER + "host-is (done-same l."),
+        (HOST + "proofs/SurfaceThrough.antt", "output = o }) (sym e');", "output = o }) (sym e'));"),
     ],
     "LibraryAnswers without the work slice": [
         (LIBRARY + "specs/LibraryAnswers.antt", "told : Called Counts ℤ → ℕ × List ℤ × List ℤ", "told : Called Counts ℤ → ℕ × List ℤ"),
-        (LIBRARY + "specs/LibraryAnswers.antt", "(numberTold (called .answer), called .output, called .work)", "(numberTold (called .answer), called .output)"),
+        (LIBRARY + "specs/LibraryAnswers.antt", "(number_told called.answer, called.output, called.work)", "(number_told called.answer, called.output)"),
         (LIBRARY + "specs/LibraryAnswers.antt", "told called ≡ (r, output, work)", "told called ≡ (r, output)"),
         (LIBRARY + "proofs/Told.antt", "(λ i. (sym e i, output, work))", "(λ i. (sym e i, output))"),
         (LIBRARY + "proofs/Told.antt", "called-told {output = output} {work = work} a e", "called-told {output = output} a e"),
     ],
     "WriteTold without its output": [
-        ("crates/refusal/specs/Written.antt", "  pub number-is : r ≡ numberTold (called .answer)\n  pub output-is : output ≡ called .output", "  pub number-is : r ≡ numberTold (called .answer)"),
-        ("crates/refusal/proofs/Told.antt", "record { number-is = e ∙ ap numberTold (a .answer); output-is = a .output-is }", "record { number-is = e ∙ ap numberTold (a .answer) }"),
+        ("crates/refusal/specs/Written.antt", "  pub number_is : r ≡ number_told called.answer\n  pub output-is : output ≡ called.output", "  pub number_is : r ≡ number_told called.answer"),
+        ("crates/refusal/proofs/Told.antt", "record { number_is = e ∙ ap number_told a.answer; output-is = a.output-is }", "record { number_is = e ∙ ap number_told a.answer }"),
     ],
     "WriteTold without its number": [
-        ("crates/refusal/specs/Written.antt", "  pub number-is : r ≡ numberTold (called .answer)\n", ""),
-        ("crates/refusal/proofs/Told.antt", "record { number-is = e ∙ ap numberTold (a .answer); output-is = a .output-is }", "record { output-is = a .output-is }"),
+        ("crates/refusal/specs/Written.antt", "  pub number_is : r ≡ number_told called.answer\n", ""),
+        ("crates/refusal/proofs/Told.antt", "record { number_is = e ∙ ap number_told a.answer; output-is = a.output-is }", "record { output-is = a.output-is }"),
     ],
     "print_input for inputs that fit the array": [
         ("crates/printer/src/lib.rt", "((b : List ℕ) → take (length held) b", "((b : List ℕ) → length b ≤ length held → take (length held) b"),
@@ -221,7 +222,7 @@ def fields(definition):
     all_fields = parts(definition, r"  pub (\S+) :")
     for name, text in all_fields:
         others = "".join(t.split(" : ", 1)[1] for n, t in all_fields if n != name)
-        if name not in re.split(r"[\s(){}.,;]+", others.replace(" .%s" % name, " ")):
+        if name not in re.split(r"[\s(){}.,;]+", re.sub(r"\.%s(?![\w'-])" % re.escape(name), " ", others)):
             yield name, text
 
 
@@ -243,14 +244,14 @@ def shadow(room, name, change):
     imported, aliases, body, copied = [], [], "", {}
     for crate, module, names in SHADOWS[name]:
         text = read(os.path.join(room, "crates/%s/specs/%s.antt" % (crate, module)))
-        inner, outer = "Rattle·%s·specs.specs." % crate, "Rattle·%s.specs." % crate
-        used, also = uses(text.replace(inner, outer))
+        home = "Rattle.%s.specs." % crate
+        used, also = uses(text)
         imported += used
         aliases += also
         for other in re.findall(r"^(?:pub (?:record |data )?|(?:  )?(?:abbrev|unfoldable) pub )(\S+)[ :]", text, re.M):
-            imported.append((outer + module, other))
+            imported.append((home + module, other))
         for n in names:
-            copied[n] = outer + module
+            copied[n] = home + module
             body += block(text, n) + "\n"
     changed = change(body)
     if changed == body:
@@ -258,7 +259,7 @@ def shadow(room, name, change):
     tokens = set(re.split(r"[\s(){}.,;]+", changed))
     lines, seen = [], set()
     for module, n in imported:
-        if n in seen or n in copied or not (n in tokens or n.startswith("_") and n.strip("_") in tokens):
+        if n in seen or n in copied or not (n in tokens or n.startswith("◌") and n.strip("◌") in tokens):
             continue
         seen.add(n)
         lines.append("use %s.{%s}" % (module, n))
@@ -295,13 +296,21 @@ def is_use(name):
 
 
 HALVES = """
-infix 10 _↔₀_ _↔₁_
-abbrev pub _↔₀_ : Type 0 → Type 0 → Type 0
+infix 10 ◌↔₀◌ ◌↔₁◌
+abbrev pub ◌↔₀◌ : Type 0 → Type 0 → Type 0
 A ↔₀ B = (A → B) × Unit {0}
 
-abbrev pub _↔₁_ : Type 0 → Type 0 → Type 0
+abbrev pub ◌↔₁◌ : Type 0 → Type 0 → Type 0
 A ↔₁ B = Unit {0} × (B → A)
 """
+
+
+def with_words(text, names):
+    """The text with those of these words of the library that it uses and does not import."""
+    code = "\n".join(line for line in text.split("\n") if not line.startswith(("use ", "pub use ", "--")))
+    lacking = [n for n in names if re.search(r"(^|[\s(])%s[\s)]" % re.escape(n.strip("◌")), code)
+               and not re.search(r"^(?:pub )?use .*\{(?:.*, )?%s[,}]" % re.escape(n), text, re.M)]
+    return "".join(PRELUDE + n + "}\n" for n in lacking) + text
 
 
 def own_edit(module, change):
@@ -315,14 +324,8 @@ def own_edit(module, change):
             write(os.path.join(room, SPECS, "Halves.antt"), "-- one direction of an equivalence\n" + HALVES.lstrip("\n"))
             lib = os.path.join(room, SPECS, "Lib.antt")
             write(lib, "pub mod Halves\n" + read(lib))
-            changed = re.sub(r"^use ", "use Rattle·demands·specs.specs.Halves.{_↔₀_, _↔₁_}\nuse ", changed, count=1, flags=re.M)
-        if "suc " in changed and not re.search(r"use Prim.Native.Nat.\{.*\bsuc\b", changed):
-            changed = re.sub(r"use Prim.Native.Nat.\{", "use Prim.Native.Nat.{suc, ", changed, count=1)
-        if " < " in changed and not re.search(r"use Prim.Native.Nat.\{.*_<_", changed):
-            changed = re.sub(r"use Prim.Native.Nat.\{", "use Prim.Native.Nat.{_<_, ", changed, count=1)
-        if " ≤ " in changed and not re.search(r"use Prim.Native.Nat.\{.*_≤_", changed):
-            changed = re.sub(r"use Prim.Native.Nat.\{", "use Prim.Native.Nat.{_≤_, ", changed, count=1)
-        write(path, changed)
+            changed = re.sub(r"^use ", "use Rattle.demands.specs.Halves.{◌↔₀◌, ◌↔₁◌}\nuse ", changed, count=1, flags=re.M)
+        write(path, with_words(changed, ("suc", "◌<◌", "◌≤◌")))
     return apply
 
 
@@ -330,11 +333,7 @@ def shadow_edit(name, change):
     def apply(room):
         shadow(room, name, change)
         path = os.path.join(room, SPECS, "Weak.antt")
-        text = read(path)
-        for n in ("suc", "_<_", "_≤_"):
-            if re.search(r"(^|[\s(])%s[\s)]" % re.escape(n.strip("_")), text.split("\n\n", 1)[1]) and not re.search(r"\.\{.*%s" % re.escape(n), text):
-                text = "use Prim.Native.Nat.{%s}\n" % n + text
-        write(path, text)
+        write(path, with_words(read(path), ("suc", "◌<◌", "◌≤◌")))
     return apply
 
 
@@ -405,6 +404,21 @@ def stale():
                 yield file, old
 
 
+def wrong_files(said, crate):
+    """The files, from crates/ on and without their ending, in which rt tells errors or goals that are left; it names them from the folder of the crate
+    that it checks, which a later line names."""
+    found, here = [], []
+    for line in said.split("\n"):
+        m = re.match(r"(?:note: )?(\S+?)\.(?:antt|rt):\d+:\d+: (?:error|it is not proved)", line)
+        if m:
+            here.append(re.sub(r"^\./", "", m.group(1)))
+        m = re.match(r"crate (\w+): modules ", line)
+        if m:
+            found += [name.split("/crates/")[1] if "/crates/" in name else m.group(1) + "/" + name for name in here]
+            here = []
+    return found + [crate + "/" + name for name in here]
+
+
 def main():
     arguments = sys.argv[1:]
     words = [a for a in arguments if a != "--list"]
@@ -415,9 +429,10 @@ def main():
     room = tempfile.mkdtemp()
     unseen = 0
     try:
-        for d in ("crates", "target"):
-            shutil.copytree(os.path.join(ROOT, d), os.path.join(room, d), symlinks=True)
-        shutil.copy(os.path.join(ROOT, "crates.txt"), room)
+        shutil.copytree(os.path.join(ROOT, "crates"), os.path.join(room, "crates"), ignore=shutil.ignore_patterns("out", "must-fail"))
+        for name in ("crates.txt", "HANDLES"):
+            shutil.copy(os.path.join(ROOT, name), room)
+        os.mkdir(os.path.join(room, ".git"))
         proofs = os.path.join(room, PROOFS)
         for name in os.listdir(proofs):
             if not is_use(name) and name != "Lib.antt":
@@ -430,9 +445,10 @@ def main():
             shutil.copytree(kept, os.path.join(room, "crates/demands"))
             edit(room)
             contract = label.startswith("contract ")
-            folder = ("sweep_client/proofs/" if "WriteTold" in label else "clients/proofs/") if contract else "demands/proofs/"
-            done = subprocess.run(["rt", "dev", folder.split("/")[0]], cwd=room, stdout=subprocess.PIPE, stderr=subprocess.STDOUT, text=True)
-            files = re.findall(r"/crates/(\S+?)\.antt:\d+:\d+: error", done.stdout)
+            crate = ("sweep_client" if "WriteTold" in label else "clients") if contract else "demands"
+            folder = crate + ("/" if contract else "/proofs/")
+            done = subprocess.run(["rt", "check"], cwd=os.path.join(room, "crates", crate), stdout=subprocess.PIPE, stderr=subprocess.STDOUT, text=True)
+            files = wrong_files(done.stdout, crate)
             broken = sorted({f for f in files if not f.startswith(folder)})
             used = sorted({f[len(folder):] for f in files if f.startswith(folder)})
             if contract:
@@ -440,7 +456,7 @@ def main():
                     shutil.copy(os.path.join(ROOT, file), os.path.join(room, file))
             control = label.startswith("control ")
             if broken or (control and used):
-                word = "BROKEN in " + ", ".join(broken + used) + ": " + re.search(r": error: (.*)", done.stdout).group(1)[:200]
+                word = "BROKEN in " + ", ".join(broken + used) + ": " + re.search(r": (?:error|it is not proved)(.*)", done.stdout).group(1)[:200]
             elif used or control:
                 word = "refused in " + ", ".join(used) if used else "as it stands: no use is refused"
             else:

@@ -51,8 +51,7 @@ fn report_through(
 }
 
 // The report of a dimension.
-#[unsafe(no_mangle)]
-pub extern "C" fn fildwuk_report(sheet: &[u8], dimension: u32, report: &mut [u8]) -> u32
+pub fn fildwuk_report(sheet: &[u8], dimension: u32, report: &mut [u8]) -> u32
     ensures { let left = report.new in HostAnswers (host_call (asked sheet.now dimension) requests.report report.old) result left }
 {
     let mut work = [0i32; WORK_SLOTS];
@@ -61,8 +60,7 @@ pub extern "C" fn fildwuk_report(sheet: &[u8], dimension: u32, report: &mut [u8]
 }
 
 // The coordinate lists of `many` chains.
-#[unsafe(no_mangle)]
-pub extern "C" fn fildwuk_coordinate_lists(
+pub fn fildwuk_coordinate_lists(
     sheet: &[u8],
     dimension: u32,
     many: u32,
@@ -84,8 +82,7 @@ pub extern "C" fn fildwuk_coordinate_lists(
 }
 
 // The coordinates of a chain.
-#[unsafe(no_mangle)]
-pub extern "C" fn fildwuk_coordinates(
+pub fn fildwuk_coordinates(
     sheet: &[u8],
     dimension: u32,
     chain: &[u8],
@@ -98,13 +95,7 @@ pub extern "C" fn fildwuk_coordinates(
 }
 
 // The surface that a chain bounds.
-#[unsafe(no_mangle)]
-pub extern "C" fn fildwuk_surface(
-    sheet: &[u8],
-    dimension: u32,
-    chain: &[u8],
-    surface: &mut [u8],
-) -> u32
+pub fn fildwuk_surface(sheet: &[u8], dimension: u32, chain: &[u8], surface: &mut [u8]) -> u32
     ensures { let left = surface.new in
         let q = asked sheet.now dimension in HostAnswers (host_call q (surface_in q chain.now) surface.old) result left }
 {
@@ -123,8 +114,7 @@ pub extern "C" fn fildwuk_surface(
 }
 
 // The sweep of a sheet.
-#[unsafe(no_mangle)]
-pub extern "C" fn fildwuk_sweep(sheet: &[u8], swept: &mut [u8]) -> u32
+pub fn fildwuk_sweep(sheet: &[u8], swept: &mut [u8]) -> u32
     ensures { let left = swept.new in WriteTold (sweep_call host_limit sheet.now swept.old) result left }
 {
     let written = sweep_at(Sheet::host(), sheet, swept);
@@ -132,8 +122,7 @@ pub extern "C" fn fildwuk_sweep(sheet: &[u8], swept: &mut [u8]) -> u32
 }
 
 // The import of a mesh text.
-#[unsafe(no_mangle)]
-pub extern "C" fn fildwuk_import(text: &[u8], sheet: &mut [u8]) -> u32
+pub fn fildwuk_import(text: &[u8], sheet: &mut [u8]) -> u32
     ensures { let left = sheet.new in WriteTold (import_call host_limit text.now sheet.old) result left }
 {
     let imported = import_at(Sheet::host(), text, sheet);

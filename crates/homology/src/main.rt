@@ -1,27 +1,33 @@
 // Reads one sheet from standard input and prints its homology.
 #![tactic(auto)]
 
-use libc::{STDERR_FILENO, STDIN_FILENO, STDOUT_FILENO};
+use printer::print_input;
 use printer::room::{INPUT_ROOM, TEXT_ROOM};
+use std::io::Read;
+use streams::{has_ended, read_full};
 
-// Whether standard input has ended: a read at its end answers 0, and one that fails a negative number.
-fn input_ended() -> bool {
-    let mut next = [0u8; 1];
-    libc::read(STDIN_FILENO, &mut next) == 0
-}
-
-fn main() {
-    let mut input = [0u8; INPUT_ROOM];
-    let length = io::read_full(STDIN_FILENO, &mut input);
+// Prints the homology of the sheet in a stream, or says on standard error what could not be read or written.
+fn print_homology<R: Read>(
+    rt: &(impl Print + Eprint),
+    stream: &mut R,
+    input: &mut [u8; INPUT_ROOM],
+    out: &mut [u8; TEXT_ROOM],
+) {
+    let length = read_full(stream, input);
     if length < INPUT_ROOM {
-        if !input_ended() {
-            io::write_all(STDERR_FILENO, b"homology: cannot read standard input\n");
+        if !has_ended(stream) {
+            let _ = eprintln!(rt; "homology: cannot read standard input");
             return;
         }
     }
-    let mut out = [0u8; TEXT_ROOM];
-    let written = printer::print_input(&input, length, &mut out);
-    if !io::write_all(STDOUT_FILENO, &out[..written]) {
-        io::write_all(STDERR_FILENO, b"homology: cannot write standard output\n");
+    let written = print_input(input, length, out);
+    if rt.write_all(&out[..written]).is_err() {
+        let _ = eprintln!(rt; "homology: cannot write standard output");
     }
+}
+
+fn main(rt: HostRuntime) {
+    let mut input = [0u8; INPUT_ROOM];
+    let mut out = [0u8; TEXT_ROOM];
+    print_homology(&rt, &mut rt.stdin(), &mut input, &mut out);
 }

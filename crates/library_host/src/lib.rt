@@ -25,8 +25,7 @@ fn number_told(answer: Answer) -> u32
 }
 
 // The report of a dimension.
-#[unsafe(no_mangle)]
-pub extern "C" fn fildwuk_library_report(
+pub fn fildwuk_library_report(
     sheet: &[u8],
     dimension: u32,
     report: &mut [i64],
@@ -40,8 +39,7 @@ pub extern "C" fn fildwuk_library_report(
 }
 
 // The report with its headroom: where the call is done, the peak and its bits are written.
-#[unsafe(no_mangle)]
-pub extern "C" fn fildwuk_library_headroom(
+pub fn fildwuk_library_headroom(
     sheet: &[u8],
     dimension: u32,
     report: &mut [i64],
@@ -67,8 +65,7 @@ pub extern "C" fn fildwuk_library_headroom(
 }
 
 // The coordinates of a cycle.
-#[unsafe(no_mangle)]
-pub extern "C" fn fildwuk_library_coordinates(
+pub fn fildwuk_library_coordinates(
     sheet: &[u8],
     dimension: u32,
     chain: &[i32],
@@ -84,8 +81,7 @@ pub extern "C" fn fildwuk_library_coordinates(
 }
 
 // The coordinate lists of `many` chains.
-#[unsafe(no_mangle)]
-pub extern "C" fn fildwuk_library_coordinate_lists(
+pub fn fildwuk_library_coordinate_lists(
     sheet: &[u8],
     dimension: u32,
     many: usize,
@@ -109,8 +105,7 @@ pub extern "C" fn fildwuk_library_coordinate_lists(
 }
 
 // The surface that a chain bounds.
-#[unsafe(no_mangle)]
-pub extern "C" fn fildwuk_library_surface(
+pub fn fildwuk_library_surface(
     sheet: &[u8],
     dimension: u32,
     chain: &[i32],
@@ -126,8 +121,7 @@ pub extern "C" fn fildwuk_library_surface(
 }
 
 // The sweep of a sheet.
-#[unsafe(no_mangle)]
-pub extern "C" fn fildwuk_library_sweep(sheet: &[u8], swept: &mut [u8]) -> u32
+pub fn fildwuk_library_sweep(sheet: &[u8], swept: &mut [u8]) -> u32
     ensures { let left = swept.new in WriteTold (sweep_call library_limit sheet.now swept.old) result left }
 {
     let written = sweeper::sweep::sweep(sheet, swept);
@@ -135,8 +129,7 @@ pub extern "C" fn fildwuk_library_sweep(sheet: &[u8], swept: &mut [u8]) -> u32
 }
 
 // The import of a mesh text.
-#[unsafe(no_mangle)]
-pub extern "C" fn fildwuk_library_import(text: &[u8], sheet: &mut [u8]) -> u32
+pub fn fildwuk_library_import(text: &[u8], sheet: &mut [u8]) -> u32
     ensures { let left = sheet.new in WriteTold (import_call library_limit text.now sheet.old) result left }
 {
     let imported = importer::import::import(text, sheet);

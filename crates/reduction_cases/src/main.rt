@@ -13,14 +13,22 @@ ghost use Rattle.reduction_cases.specs.Workspace.{side};
 use crate::entries::{read_entries, write_identities};
 use crate::print::print_reduced;
 use crate::workspace::{SIDE, SLOTS, asked_for, lay_out};
-use libc::{STDIN_FILENO, STDOUT_FILENO};
 use matrix_lines::matrix::Matrix;
 use reducer::reduction::{Reduction, reduce_matrix};
+use std::io;
+use std::io::Read;
+use streams::read_full;
 
 const ROOM: usize = 131072;
 
 // Writes the outcome for one matrix. Answers false, and writes nothing, where an entry lies beyond the limit.
-fn answer(rows: usize, columns: usize, companions: u8, entries: &[u8]) -> bool
+fn answer(
+    rt: &impl Print,
+    rows: usize,
+    columns: usize,
+    companions: u8,
+    entries: &[u8],
+) -> io::Result<bool>
     requires rows_le_side { (rows ≤ side) × (columns ≤ side) }
     requires entries_len_bound { length entries.now ≤ 256 }
 {
@@ -28,44 +36,52 @@ fn answer(rows: usize, columns: usize, companions: u8, entries: &[u8]) -> bool
     let workspace = lay_out(rows, columns, asked);
     let mut w = [0i32; SLOTS];
     if !read_entries(entries, &mut w) {
-        return false;
+        return Ok(false);
     }
     write_identities(workspace, &mut w);
     match reduce_matrix(workspace, &mut w, Matrix::ENTRY_LIMIT as u64) {
-        Reduction::Done(rank, _) => print_reduced(rank, asked, workspace, &w),
-        Reduction::Refused(_) => {
-            io::write_all(STDOUT_FILENO, b"T\n");
-        }
+        Reduction::Done(rank, _) => print_reduced(rt, rank, asked, workspace, &w)?,
+        Reduction::Refused(_) => println!(rt; "T")?,
     }
-    true
+    Ok(true)
 }
 
 // Answers matrix after matrix, up to the first that is cut short, has too many rows or columns or holds an entry beyond the limit.
-fn answer_all(input: &[u8]) {
+fn answer_all(rt: &impl Print, input: &[u8]) -> io::Result<()> {
     let mut at: usize = 0;
     while at + 3 <= input.len() {
         let rows = input[at] as usize;
         let columns = input[at + 1] as usize;
         if SIDE < rows {
-            return;
+            return Ok(());
         }
         if SIDE < columns {
-            return;
+            return Ok(());
         }
         let from = at + 3;
         let to = from + 4 * (rows * columns);
         if input.len() < to {
-            return;
+            return Ok(());
         }
-        if !answer(rows, columns, input[at + 2], &input[from..to]) {
-            return;
+        if !answer(rt, rows, columns, input[at + 2], &input[from..to])? {
+            return Ok(());
         }
         at = to;
     }
+    Ok(())
 }
 
-fn main() {
+// Reads the matrices into the array, and answers them.
+fn answer_stream<R: Read>(
+    rt: &impl Print,
+    stream: &mut R,
+    input: &mut [u8; ROOM],
+) -> io::Result<()> {
+    let length = read_full(stream, input);
+    answer_all(rt, &input[..length])
+}
+
+fn main(rt: HostRuntime) -> io::Result<()> {
     let mut input = [0u8; ROOM];
-    let length = io::read_full(STDIN_FILENO, &mut input);
-    answer_all(&input[..length]);
+    answer_stream(&rt, &mut rt.stdin(), &mut input)
 }

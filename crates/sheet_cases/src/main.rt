@@ -4,8 +4,10 @@
 #![tactic(auto)]
 
 use fields::field::field;
-use libc::{STDIN_FILENO, STDOUT_FILENO};
 use sheet::reader::{Reading, Sheet};
+use std::io;
+use std::io::Read;
+use streams::read_full;
 
 const ROOM: usize = 524288;
 
@@ -16,28 +18,37 @@ fn number(reading: Reading) -> u32 {
     }
 }
 
-fn answer(s: &[u8]) {
-    io::print_decimal(STDOUT_FILENO, number(Sheet::library().read(s)) as u64);
-    io::write_all(STDOUT_FILENO, b" ");
-    io::print_decimal(STDOUT_FILENO, number(Sheet::host().read(s)) as u64);
-    io::write_all(STDOUT_FILENO, b"\n");
+fn answer(rt: &impl Print, s: &[u8]) -> io::Result<()> {
+    let library = number(Sheet::library().read(s));
+    let host = number(Sheet::host().read(s));
+    println!(rt; "{library} {host}")
 }
 
-fn answer_all(sheets: &[u8]) {
+fn answer_all(rt: &impl Print, sheets: &[u8]) -> io::Result<()> {
     let mut at: usize = 0;
     while at < sheets.len() {
         let from = at + 2;
         let to = from + field(sheets, at);
         if sheets.len() < to {
-            return;
+            return Ok(());
         }
-        answer(&sheets[from..to]);
+        answer(rt, &sheets[from..to])?;
         at = to;
     }
+    Ok(())
 }
 
-fn main() {
+// Reads the sheets into the array, and answers them.
+fn answer_stream<R: Read>(
+    rt: &impl Print,
+    stream: &mut R,
+    input: &mut [u8; ROOM],
+) -> io::Result<()> {
+    let length = read_full(stream, input);
+    answer_all(rt, &input[..length])
+}
+
+fn main(rt: HostRuntime) -> io::Result<()> {
     let mut input = [0u8; ROOM];
-    let length = io::read_full(STDIN_FILENO, &mut input);
-    answer_all(&input[..length]);
+    answer_stream(&rt, &mut rt.stdin(), &mut input)
 }
