@@ -5,24 +5,23 @@ use Prim.Native.Nat.{ℕ, ◌*◌, ◌/◌, ◌^◌, ◌≤◌, ◌<◌}
 use native.Mathlib.Nat.{div-lt_iff_lt-mul, le-div_iff_mul-le, mul-zero}
 use native.Mathlib.Decide.{dec_lt}
 use native.Mathlib.Omega.{arith}
-use borrow.Author.Rules.{rules}
 use borrow.Author.Tests.{lt-ltb, le-ltb}
 use lib.Dec.{eqb, ltb}
 use Rattle.two_reductions.proofs.Room.{product-below}
 use Rattle.calls.specs.Admission.{slots_for}
 use Rattle.calls.specs.declared.admission.Request.{Request}
 use Rattle.two_reductions.specs.declared.cell_counts.CellCounts.{CellCounts}
-use Rattle.calls.proofs.admission.Request.lacks_slots.Statement.{statement}
-use Rattle.calls.proofs.admission.Request.lacks_slots.Tie as tie
+use Rattle.calls.proofs.admission.Request.lacks_slots.Goals as goal
+use Rattle.calls.proofs.admission.Request.lacks_slots.Goals.{Start}
 
-square-below : (c : tie.Start) → c.args.n.cells * c.args.n.cells ≤ 2 ^ 32
+square-below : (c : Start) → c.args.n.cells * c.args.n.cells ≤ 2 ^ 32
 square-below c = product-below c.requires c.requires
 
-mul-result : tie.Need-overflow-mul-result
-mul-result c = omega (arith, square-below c.before.before)
+pub overflow_mul-result : goal.overflow_mul-result
+overflow_mul-result c = omega (arith, square-below (goal.at.overflow_mul-result c).Start)
 
-add-result-2 : tie.Need-overflow-add-result-2
-add-result-2 c = omega (arith, square-below c.before.before, c.before.before.requires)
+pub overflow_add-result-in-Report : goal.overflow_add-result-in-Report
+overflow_add-result-in-Report c = omega (arith, square-below (goal.at.overflow_add-result-in-Report c).Start, c.requires)
 
 -- the output has fewer than `many` times the cells
 divided : (output cells many : ℕ) → 0 < cells → ltb (output / cells) many ≡ ltb output (many * cells)
@@ -40,23 +39,18 @@ empty output many cells e = rw (e, mul-zero many) (sym (le-ltb output 0 (omega a
 asked : (output : ℕ) (cell-counts : CellCounts) {x y : Request} → x ≡ y → ltb output (slots_for y cell-counts) ≡ ltb output (slots_for x cell-counts)
 asked output cell-counts e = ap (λ (r : Request). ltb output (slots_for r cell-counts)) (sym e)
 
-returns : tie.Need-returns
-returns c = let a = c.before.before.args in asked a.output a.n c.enum_told.given.1
+pub returns-in-Report : goal.returns-in-Report
+returns-in-Report c = let a = c.args in asked a.output a.n c.in-Report.is
 
-returns-2 : tie.Need-returns-2
-returns-2 c =
-    let a = c.before.before.before.before.args in
-    divided a.output a.n.cells c.before.before.self.given.0.0 (omega (arith, c.if1.true)) ∙ asked a.output a.n c.before.before.self.given.1
+pub returns-then-cells-ne0 : goal.returns-then-cells-ne0
+returns-then-cells-ne0 c =
+    let a = c.args in
+    divided a.output a.n.cells c.in-Coordinates.many (omega (arith, c.if-cells-ne0.true)) ∙ asked a.output a.n c.in-Coordinates.is
 
-returns-3 : tie.Need-returns-3
-returns-3 c =
-    let a = c.before.before.before.before.args in
-    empty a.output c.before.before.self.given.0.0 a.n.cells c.if1.false ∙ asked a.output a.n c.before.before.self.given.1
+pub returns-else-cells-ne0 : goal.returns-else-cells-ne0
+returns-else-cells-ne0 c =
+    let a = c.args in
+    empty a.output c.in-Coordinates.many a.n.cells c.if-cells-ne0.false ∙ asked a.output a.n c.in-Coordinates.is
 
-returns-4 : tie.Need-returns-4
-returns-4 c = let a = c.before.before.before.args in asked a.output a.n c.before.enum-told2.given.1
-
-pub lacks-slots-spec : {M : Type 1} → statement M
-lacks-slots-spec =
-    tie.close
-    (tie.spec (λ c. search rules) (λ c. search rules) mul-result add-result-2 (λ c. search rules) (λ c. search rules) (λ c. search rules) returns returns-2 returns-3 returns-4)
+pub returns-in-Surface : goal.returns-in-Surface
+returns-in-Surface c = let a = c.args in asked a.output a.n c.in-Surface.is
