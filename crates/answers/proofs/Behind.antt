@@ -15,7 +15,7 @@ use Rattle.reduction_steps.specs.Step as machine
 use Rattle.reduction_steps.specs.Pivot.{IsRule}
 use Rattle.reduction_steps.proofs.PivotLaws.{pivot_rule-is-rule}
 use Rattle.reports.specs.Reductions.{Reductions, Transforms, second_columns_only, too_wide, reduced, first_sizes, first_start, second_sizes, second_start, after_second, reductions}
-use Rattle.reports.specs.ReductionsLaws.{reductions-done, after-second}
+use Rattle.reports.proofs.ReductionsLaws.{reductions-done, after-second}
 use Rattle.requests.specs.Question.{Question, cells, rule, two}
 use Rattle.requests.specs.Call.{Request, report, coordinates, lists, surface, transforms_of, early_checks}
 use Rattle.requests.proofs.CallLaws.{early-iff}

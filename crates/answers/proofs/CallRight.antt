@@ -16,7 +16,7 @@ use Rattle.complexes.proofs.ChainComplex.{ChainComplex}
 use Rattle.sheet_format.specs.Sheet.{Bytes}
 use Rattle.reduction_steps.specs.State.{State}
 use Rattle.reports.specs.Reductions.{Reductions, Transforms, too_wide, reduced}
-use Rattle.reports.specs.ReductionsLaws.{too_wide≢reduced}
+use Rattle.reports.proofs.ReductionsLaws.{too_wide≢reduced}
 use Rattle.reports.specs.Report.{Counts, free_rank, torsion_count, counts_of}
 use Rattle.requests.specs.Question.{Question, cells, two}
 use Rattle.requests.specs.Call.{Request, transforms_of, list_count, list_slots, numbers_of, request_checks, end_checks, work_slots_for, early_checks, late_checks, of_reduced, no_counts, call_with, call}

@@ -21,7 +21,7 @@ use Rattle.reduction_laws.specs.Shape.{Shaped, shaped-rows, shaped-columns, larg
 use Rattle.reduction_laws.specs.Moves.{Moves, moves-keep}
 use Rattle.reduction_laws.proofs.SmithForm as machine
 use Rattle.reduction_laws.proofs.Peaks.{largest-le, peak-row, peak-column, covered-moves, peak-rises, peak-within}
-use Rattle.reports.specs.ReductionsLaws.{first-peak, second-peak, BothDone, reductions-done}
+use Rattle.reports.proofs.ReductionsLaws.{first-peak, second-peak, BothDone, reductions-done}
 use Rattle.reports.specs.Reductions.{Transforms, second_columns_only, first_sizes, first_start, second_sizes, second_start, reduced, reductions}
 use Rattle.answers.proofs.Starts.{first-shaped, first-within, second-shaped, second-within}
 use Rattle.answers.proofs.TwoReductions.{first-smith, second-smith}

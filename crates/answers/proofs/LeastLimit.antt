@@ -17,7 +17,7 @@ use Rattle.reduction_laws.proofs.LeastLimit as machine
 use Rattle.reduction_laws.proofs.LeastLimit.{reduce-rises, reduce-limit}
 use Rattle.reduction_laws.proofs.SmithForm.{Reduced}
 use Rattle.reports.specs.Reductions.{Transforms, first_sizes, first_start, second_sizes, second_start, product, too_wide, reduced, after_second, reductions}
-use Rattle.reports.specs.ReductionsLaws.{first-peak, second-peak, BothDone, reductions-done, too_wide≢reduced, first-wide, product_wide, after-second, second-wide}
+use Rattle.reports.proofs.ReductionsLaws.{first-peak, second-peak, BothDone, reductions-done, too_wide≢reduced, first-wide, product_wide, after-second, second-wide}
 use Rattle.answers.proofs.Starts.{first-shaped, first-within, second-shaped, second-within}
 use Rattle.answers.proofs.TwoReductions.{first_reduced}
 use Rattle.answers.specs.Wide.{GoesWide}

@@ -40,7 +40,7 @@ use Rattle.reduction_laws.specs.Shape.{within-iff}
 use Rattle.reduction_laws.specs.Tables.{table_within-iff}
 use Rattle.reduction_laws.proofs.SmithForm as machine
 use Rattle.reports.specs.Reductions.{Transforms, width, first_sizes, first_start, second_sizes, second_start, reduced, reductions}
-use Rattle.reports.specs.ReductionsLaws.{BothDone}
+use Rattle.reports.proofs.ReductionsLaws.{BothDone}
 use Rattle.reports.specs.Report.{kind, row_times}
 use Rattle.reports.specs.Surface.{bounds_nothing, surface_at, surface_list}
 use Rattle.answers.specs.Homology.{IsCycle, IsBoundary}

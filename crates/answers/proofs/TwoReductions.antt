@@ -23,7 +23,7 @@ use Rattle.reduction_laws.specs.Tables.{Eq-table}
 use Rattle.reduction_laws.proofs.SmithForm as machine
 use Rattle.reduction_laws.proofs.SmithForm.{reduce-smith}
 use Rattle.reports.specs.Reductions.{Transforms, first_sizes, first_start, second_sizes, second_start, product, reduced, reductions}
-use Rattle.reports.specs.ReductionsLaws.{BothDone, reductions-done}
+use Rattle.reports.proofs.ReductionsLaws.{BothDone, reductions-done}
 use Rattle.reports.specs.Report.{kind}
 use Rattle.answers.proofs.Starts.{first-shaped, first-within, second-shaped, second-within, entry-drop, beside-left, beside-width}
 

@@ -14,7 +14,7 @@ use Rattle.reduction_laws.proofs.Ends.{reduce-ends, reaches-reduce}
 use Rattle.reduction_laws.specs.Shape.{Shaped}
 use Rattle.reduction_laws.proofs.SmithForm.{Reduced}
 use Rattle.reports.specs.Reductions.{Transforms, reductions, too_wide, reduced, first_sizes, first_start, second_sizes, second_start, product, after_second}
-use Rattle.reports.specs.ReductionsLaws.{after-second, first-wide, product_wide, second-wide, too_wide≢reduced}
+use Rattle.reports.proofs.ReductionsLaws.{after-second, first-wide, product_wide, second-wide, too_wide≢reduced}
 use Rattle.answers.specs.Wide.{FirstReaches, SecondReaches, GoesWide, in-first, in-product, in-second}
 use Rattle.answers.proofs.Starts.{first-shaped, first-within, second-shaped, second-within}
 use Rattle.answers.proofs.TwoReductions.{first_reduced}

@@ -1,8 +1,7 @@
 -- The opposite of a number that a word holds, as the machine computes it: `opposite-fits`, `opposite-read`; `negated_fits`, `negated-read` where the
--- number lies within the limit of an entry. Of a negative number x, `mirrored`: - (x + 1), which the word holds for every x.
-use Rattle.std.specs.Prelude.{◌≡◌, refl, ℕ, zero, suc, ◌^◌, ◌<◌, ◌≤◌, ℤ, pos, negsuc, neg_ℤ, nat_abs, ◌+ℤ◌, ◌-ℤ◌}
-use Rattle.std.proofs.Common.{ap, ◌∙◌, arith, to_z-of_z}
-use Rattle.std.proofs.Math.IntN.{+ℤ_one, neg_ℤ-neg_ℤ}
+-- number lies within the limit of an entry. Of a negative number x, `mirrored`: - (x + 1), which the word holds for every x (`proofs/Mirrored.antt`).
+use Rattle.std.specs.Prelude.{◌≡◌, ◌^◌, ◌<◌, ◌≤◌, ℤ, pos, neg_ℤ, nat_abs, ◌+ℤ◌, ◌-ℤ◌}
+use Rattle.std.proofs.Common.{◌∙◌, arith, to_z-of_z}
 use Rattle.std.specs.Int.{Width, w64}
 use mir.Val.{SFits, hbits}
 use Rattle.integers.proofs.Ring.{zero-add}
@@ -34,23 +33,3 @@ raised x = read w64 x +ℤ pos 1
 
 abbrev pub mirrored : ℤ → ℤ
 mirrored x = pos 0 -ℤ read w64 (raised x)
-
-negsuc-raised : (n : ℕ) → negsuc n +ℤ pos 1 ≡ neg_ℤ (pos n)
-negsuc-raised zero = refl
-negsuc-raised (suc n) = +ℤ_one (negsuc (suc n))
-
-module _ (n : ℕ) (f : SFits w64 (negsuc n)) where
-  raised_is : raised (negsuc n) ≡ neg_ℤ (pos n)
-  raised_is = rw (to_z-of_z f) (negsuc-raised n)
-
-  raised-small : nat_abs (raised (negsuc n)) < 2 ^ 63
-  raised-small = rw (raised_is, nat_abs-neg (pos n)) f.sfits
-
-  pub raised-fits : SFits w64 (raised (negsuc n))
-  raised-fits = sfits-below w64 (raised (negsuc n)) raised-small
-
-  pub mirrored-fits : SFits w64 (mirrored (negsuc n))
-  mirrored-fits = opposite-fits w64 (raised (negsuc n)) raised-small
-
-  pub mirrored-read : read w64 (mirrored (negsuc n)) ≡ pos n
-  mirrored-read = opposite-read w64 (raised (negsuc n)) raised-small ∙ ap neg_ℤ raised_is ∙ neg_ℤ-neg_ℤ (pos n)

@@ -30,7 +30,8 @@ use Rattle.requests.specs.Chains.{coefficient_exceeds, boundary_not_zero, chain_
 use Rattle.requests.specs.Call.{coordinates, call_checks, early_checks, call}
 use Rattle.requests.specs.Call as request
 use Rattle.program_text.specs.Text.{digits, decimal, spaced, generator_lines, dimension_text}
-use Rattle.reports.specs.WideEnd.{in_first, in_second, end_of_second, end_of_product, end_of_first, end, ends_wide, end-wide}
+use Rattle.reports.specs.WideEnd.{in_first, in_second, end_of_second, end_of_product, end_of_first, end, ends_wide}
+use Rattle.reports.proofs.WideEndLaws.{end-wide}
 use Rattle.projective_plane.specs.Plane.{cells, sheet, left, report, loop, twice, backwards, tracked, surface, text}
 
 -- dimension 1 of the sheet

@@ -1,7 +1,6 @@
 -- The two reductions of an edge at the entry limits 0 and 1: too wide in the first, too wide in the product, the peak of the first, and every transform
 -- kept.
 --     examples      where the work ends, and what it leaves
---     edge-wide     the edge's two reductions are too wide
 use Rattle.std.specs.Prelude.{true, [], ◌∷◌, ◌≡◌, refl, ℕ, ℤ, pos, neg_ℤ}
 use Rattle.integers.specs.Division.{floor, modulo, divides}
 use Rattle.lists.specs.Tabulate.{tabulate}
@@ -16,8 +15,8 @@ use Rattle.reduction_steps.specs.Lines.{on_list, line_less, on_lines, on_entries
 use Rattle.reduction_steps.specs.State.{largest, row_operation, column_operation, within, checked, and_then, on_row, on_column}
 use Rattle.reduction_steps.specs.Pivot.{better, along_row, down_rows, release1}
 use Rattle.reduction_steps.specs.Step.{column_keeps, row_keeps, row_indivisible, first_indivisible, positive, bring, quotient, row_pass, column_pass, next, step, run, reduce}
-use Rattle.reports.specs.Reductions.{too_wide, reduced, Transforms, no_transforms, first_start, product, second_start, after_second, second, after_first, reductions}
-use Rattle.reports.specs.WideEnd.{in_first, in_product, at_end, end_of_second, end_of_product, end_of_first, end, ends_wide, end-wide}
+use Rattle.reports.specs.Reductions.{reduced, Transforms, no_transforms, first_start, product, second_start, after_second, second, after_first, reductions}
+use Rattle.reports.specs.WideEnd.{in_first, in_product, at_end, end_of_second, end_of_product, end_of_first, end}
 
 abbrev minus : ℕ → ℤ
 minus n = neg_ℤ (pos n)
@@ -51,8 +50,3 @@ unfolding end end_of_first end_of_product end_of_second
     release1 down_rows along_row better on_row on_column checked and_then within largest row_operation column_operation on_lines on_entries on_list line_less table_within table_largest row_largest table
     inverse identity null mul sum floor modulo divides tabulate
 examples = record { wide_in_first = refl; wide_in_product = refl; not_wide = refl; peak_of_first = refl; all_kept = refl }
-
--- the edge's reductions at the limit 0 are too wide
-pub edge-wide : (reductions no_transforms release1 0 edge_sections 1 ≡ too_wide) × (reductions no_transforms release1 0 edge_sections 0 ≡ too_wide)
-unfolding ends_wide
-edge-wide = (end-wide no_transforms release1 0 edge_sections 1 in_first examples.wide_in_first refl, end-wide no_transforms release1 0 edge_sections 0 in_product examples.wide_in_product refl)

@@ -3,7 +3,6 @@
 pub mod Reductions
 pub mod Report
 pub mod Surface
-pub mod ReductionsLaws
 pub mod ReportExamples
 pub mod SurfaceExamples
 pub mod WideEnd

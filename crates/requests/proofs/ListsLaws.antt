@@ -20,7 +20,7 @@ use Rattle.lists.proofs.SplicesLaws.{splices-same, splices-nothing}
 use Rattle.trials.specs.Trial.{first_refusal, concluded}
 use Rattle.reduction_steps.specs.State.{State}
 use Rattle.reports.specs.Reductions.{Reductions, too_wide, reduced, no_transforms}
-use Rattle.reports.specs.ReductionsLaws.{reductions-done}
+use Rattle.reports.proofs.ReductionsLaws.{reductions-done}
 use Rattle.reports.specs.Report.{counts_of, reported, coordinate_list}
 use Rattle.requests.specs.Question.{Question, cells, cell_count, rule, two}
 use Rattle.requests.specs.Chains.{chain_at, chain_checks, cycles_checks, chains_checks, nonempty}

@@ -12,7 +12,8 @@ use mir.Syntax.{w64}
 use mir.Val.{Fits, SFits}
 use mir.Facts.{to_z-of_z}
 use Rattle.machine_words.specs.Read.{read}
-use Rattle.machine_words.specs.Negate.{raised, mirrored, raised-fits, mirrored-fits, mirrored-read}
+use Rattle.machine_words.specs.Negate.{raised, mirrored}
+use Rattle.machine_words.proofs.Mirrored.{raised-fits, mirrored-fits, mirrored-read}
 use Rattle.program_text.specs.Text.{digits, decimal}
 
 abbrev pub size : ℤ → ℕ

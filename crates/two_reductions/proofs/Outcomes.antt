@@ -17,7 +17,7 @@ use Rattle.reduction_steps.specs.Pivot.{Rule, IsRule}
 use Rattle.reduction_steps.specs.Step.{Machine, done, wide, reduce}
 use Rattle.reports.specs.Reductions as reports
 use Rattle.reports.specs.Reductions.{Transforms, second_columns_only, no_transforms, width, first_sizes, first_start, second_sizes, second_start, product, after_second, reductions_of}
-use Rattle.reports.specs.ReductionsLaws.{first-wide, product_wide, after-second, second-wide}
+use Rattle.reports.proofs.ReductionsLaws.{first-wide, product_wide, after-second, second-wide}
 use Rattle.requests.specs.Call.{work_slots_for}
 use Rattle.limits.specs.Limits.{entry_limit, library_limit}
 use Rattle.answers.proofs.TwoReductions.{reductions-right}

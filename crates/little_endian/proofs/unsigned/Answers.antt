@@ -11,7 +11,8 @@ use mir.Syntax.{w64}
 use mir.Val.{Fits, SFits}
 use mir.Facts.{to_z-of_z}
 use Rattle.machine_words.specs.Read.{read}
-use Rattle.machine_words.specs.Negate.{raised, mirrored, raised-fits, mirrored-fits, mirrored-read}
+use Rattle.machine_words.specs.Negate.{raised, mirrored}
+use Rattle.machine_words.proofs.Mirrored.{raised-fits, mirrored-fits, mirrored-read}
 use Rattle.little_endian.specs.Bytes.{SameBits}
 use Rattle.little_endian.proofs.unsigned.Goals as goal
 use Rattle.little_endian.proofs.unsigned.Goals.{Then-x-lt0, Else-x-lt0}

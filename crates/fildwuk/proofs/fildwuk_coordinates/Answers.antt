@@ -1,0 +1,11 @@
+-- `fildwuk::fildwuk_coordinates` meets its contract: the call on one chain is the single call.
+use Rattle.requests.specs.Question.{asked}
+use Rattle.host_calls.specs.HostListsLaws.{host-one-chain}
+use Rattle.fildwuk.proofs.fildwuk_coordinates.Goals as goal
+use Rattle.fildwuk.proofs.fildwuk_coordinates.Goals.{After-fildwuk_coordinate_lists}
+
+pub returns : goal.returns
+returns c =
+    let called = (goal.at.returns c).After-fildwuk_coordinate_lists in
+    let a = called.args in
+    rw (host-one-chain (asked a.sheet.now a.dimension) a.chain.now a.coordinates.now) at called.fildwuk_coordinate_lists.ensures
