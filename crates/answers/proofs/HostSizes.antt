@@ -1,7 +1,6 @@
 -- The host's report call and the program have room for every report: how many numbers it has (report-sized), that nothing is refused early on an accepted
 -- sheet (accepted-passes), so that a refusal is 13 (accepted-refused).
 use mathlib.Core.Path.{◌≡◌, refl, sym, ap}
-use mathlib.Core.Logic.{◌≢◌}
 use mathlib.Core.List.{List, []}
 use Prim.Native.Nat.{ℕ, zero, suc, ◌+◌, ◌≤◌}
 use native.Mathlib.Nat.{suc-ne-zero, mul-le-mul_right}

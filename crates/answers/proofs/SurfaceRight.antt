@@ -17,9 +17,7 @@ use Rattle.integers.proofs.Divides.{divides-dvd, dvd-divides}
 use Rattle.integers.proofs.Floor.{nat_abs-floor}
 use Rattle.integers.proofs.Order.{nat_abs_mul}
 use Rattle.limits.specs.Limits.{library_limit, entry_limit, surface_coefficient_limit}
-use Rattle.lists.specs.Tabulate.{tabulate}
 use Rattle.lists.proofs.TabulateLaws.{get_or-tabulate}
-use Rattle.matrices.specs.Sum.{sum}
 use Rattle.matrices.specs.Matrix.{Eq, transpose}
 use Rattle.matrices.specs.Vector.{apply}
 use Rattle.matrices.proofs.SumLaws.{sum-ext, nat_abs-sum}
@@ -31,7 +29,6 @@ use Rattle.homology_groups.proofs.Fillings.{over_pivots, pivots-bound}
 use Rattle.complexes.specs.Complex.{Sections, count}
 use Rattle.complexes.specs.Boundary.{boundary}
 use Rattle.complexes.proofs.ChainComplex.{ChainComplex}
-use Rattle.sheet_format.specs.Check.{some}
 use Rattle.sheet_format.specs.CheckLaws.{some-false}
 use Rattle.reduction_steps.specs.Table.{entry}
 use Rattle.reduction_steps.specs.State.{State, within}

@@ -9,7 +9,7 @@ use Rattle.reduction_steps.specs.State.{State}
 use Rattle.reports.specs.Reductions.{Transforms}
 use Rattle.reports.specs.Report.{Counts, bits_of}
 use Rattle.reports.proofs.BitsLaws.{bits_below, bits-zero, bits-le, bits-least}
-use Rattle.requests.specs.Question.{Question, cell_count, two}
+use Rattle.requests.specs.Question.{Question, cell_count}
 use Rattle.answers.specs.Outcome.{EndsAt}
 use Rattle.answers.proofs.Behind.{ends_at, ends-reduced}
 use Rattle.demands.specs.Answers.{CountsAnswered}

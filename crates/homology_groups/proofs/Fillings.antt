@@ -17,7 +17,7 @@ use Rattle.integers.proofs.Floor.{dvd-floor}
 use Rattle.matrices.specs.Sum.{sum}
 use Rattle.matrices.proofs.SumLaws.{sum-ext, sum-zero, sum-split}
 use Rattle.smith.proofs.Rank.{IsRank, rank-bound}
-use Rattle.matrices.specs.Matrix.{Matrix, mul}
+use Rattle.matrices.specs.Matrix.{Matrix}
 use Rattle.matrices.specs.Vector.{apply}
 use Rattle.matrices.proofs.VectorLaws.{apply-mul}
 use Rattle.homology_groups.specs.Chain.{Chain, Same, Cycle}

@@ -20,7 +20,7 @@ use Rattle.limits.specs.Limits.{host_limit, surface_coefficient_limit}
 use Rattle.lists.specs.Splice.{splice, splices}
 use Rattle.lists.specs.SpliceLaws.{splice-zero}
 use Rattle.lists.proofs.SplicesLaws.{splices-single}
-use Rattle.trials.specs.Trial.{first_refusal, Called, done, refused, number_told, concluded}
+use Rattle.trials.specs.Trial.{first_refusal, Called, refused, number_told, concluded}
 use Rattle.trials.proofs.TrialLaws.{refused≢done}
 use Rattle.trials.proofs.FirstLaws.{or_else, first-append}
 use Rattle.complexes.specs.Complex.{count}

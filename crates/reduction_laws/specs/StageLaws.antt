@@ -2,7 +2,7 @@
 -- RowsDone, ColumnsDone: the rows (columns) before k are zero from column (row) k on. Divisible: a number divides every entry from
 -- row and column k on. Each is kept by an operation on rows and by one on columns: rows_done-rows, rows_done-columns, columns_done-rows,
 -- columns_done-columns, divisible-rows, divisible-columns. on_rows-done, on_columns-done: finished columns (rows) need not be touched.
-use Rattle.std.specs.Prelude.{◌≡◌, ℕ, zero, ◌≤◌, ◌<◌, ℤ, pos}
+use Rattle.std.specs.Prelude.{◌≡◌, ℕ, ◌≤◌, ◌<◌, ℤ, pos}
 use Rattle.std.proofs.Common.{sym, ◌∙◌, subst, arith}
 use Rattle.std.proofs.Math.Decide.{ℕ_discrete, dec_lt}
 use Rattle.integers.proofs.Divides.{dvd-sub, dvd-mul, dvd-neg, dvd_refl, zero-dvd}
