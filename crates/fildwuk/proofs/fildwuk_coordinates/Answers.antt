@@ -2,10 +2,8 @@
 use Rattle.requests.specs.Question.{asked}
 use Rattle.host_calls.specs.HostListsLaws.{host-one-chain}
 use Rattle.fildwuk.proofs.fildwuk_coordinates.Goals as goal
-use Rattle.fildwuk.proofs.fildwuk_coordinates.Goals.{After-fildwuk_coordinate_lists}
 
 pub returns : goal.returns
 returns c =
-    let called = (goal.at.returns c).After-fildwuk_coordinate_lists in
-    let a = called.args in
-    rw (host-one-chain (asked a.sheet.now a.dimension) a.chain.now a.coordinates.now) at called.fildwuk_coordinate_lists.ensures
+    let a = c.args in
+    rw (host-one-chain (asked a.sheet.now a.dimension) a.chain.now a.coordinates.now) at c.fildwuk_coordinate_lists.ensures

@@ -10,15 +10,14 @@ use Rattle.writers.specs.declared.counts.Counts.{Counts}
 use Rattle.calls.specs.CallAnswers.{counts_in}
 use Rattle.fildwuk.proofs.Through.{Lent, lend, lent_length, slots, size, writable, report-refuses, report-sizes, report-room, report-writes}
 use Rattle.fildwuk.proofs.report_through.Goals as goal
-use Rattle.fildwuk.proofs.report_through.Goals.{Start, After-shared_slice_known-1, After-report_at, In-Done, After-struct_known-in-Done-1, After-count}
+use Rattle.fildwuk.proofs.report_through.Goals.{After-report_at, In-Done, After-count}
 
 -- the library's call
 abbrev call : After-report_at → Lent report_room work_room
 call c =
-    let known = (goal.at.After-report_at c).After-shared_slice_known-1 in
-    let args = known.args in
+    let args = c.args in
     lend report_room work_room (asked args.sheet.now args.dimension) args.report.now args.numbers.now args.work.now c.host.ensures
-    (λ i. (known.shared_slice_known-1.given i).fits) c.smaller-slots.ensures known.requires.0 known.requires.1
+    (λ i. (c.type_inv.sheet i).fits) c.smaller-slots.ensures c.requires.0 c.requires.1
 
 -- where it is done
 module _ (c : In-Done) where
@@ -40,8 +39,7 @@ module _ (c : After-count) where
 
 pub slice_bounds-report_at-end-2 : goal.slice_bounds-report_at-end-2
 slice_bounds-report_at-end-2 c =
-    let start = (goal.at.slice_bounds-report_at-end-2 c).Start in
-    sym (lent_length start.args.report.now start.args.numbers.now c.smaller-slots.ensures start.requires.0)
+    sym (lent_length c.args.report.now c.args.numbers.now c.smaller-slots.ensures c.requires.0)
 
 pub overflow_add-generators : goal.overflow_add-generators
 overflow_add-generators c = let s = (sizes (goal.at.overflow_add-generators c).In-Done).is-sized in omega (arith, s.total-within, s.cells-within)
@@ -57,8 +55,8 @@ overflow_add-written-in-Done c = omega (arith, room c, size (call (called (count
 
 pub write_numbers-requires : goal.write_numbers-requires
 write_numbers-requires c =
-    let d = (goal.at.write_numbers-requires c).After-struct_known-in-Done-1 in let a = called (counted d) in
-    let w = writable (call a) a.report_at.new.report (room d) a.report_at.kept.report in (w.0, omega (arith, w.1))
+    let d = (goal.at.write_numbers-requires c).After-count in let a = called (counted d) in
+    let w = writable (call a) a.report_at.new.report (room d) a.report_at.auto.report in (w.0, omega (arith, w.1))
 
 pub returns-in-Refused : goal.returns-in-Refused
 returns-in-Refused c =
@@ -67,6 +65,6 @@ returns-in-Refused c =
 
 pub returns-in-Done : goal.returns-in-Done
 returns-in-Done c =
-    let d = (goal.at.returns-in-Done c).After-struct_known-in-Done-1 in let a = called (counted d) in
-    report-writes (call a) a.report_at.ensures (counted d).in-Done.is d.count.ensures.is a.report_at.kept.report
+    let d = (goal.at.returns-in-Done c).After-count in let a = called (counted d) in
+    report-writes (call a) a.report_at.ensures (counted d).in-Done.is d.count.ensures.is a.report_at.auto.report
     c.write_numbers.ensures

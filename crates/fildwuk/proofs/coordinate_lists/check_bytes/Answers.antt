@@ -1,6 +1,6 @@
 use mathlib.Core.Path.{◌≡◌, refl, sym, ap, ◌∙◌}
 use mathlib.Core.List.{List}
-use Prim.Native.Nat.{ℕ, ◌+◌, ◌-◌, ◌*◌, ◌≤◌}
+use Prim.Native.Nat.{ℕ, ◌*◌}
 use native.Mathlib.Omega.{arith}
 use lib.ListN.{length, take}
 use lib.IntN.{ℤ}
@@ -16,26 +16,26 @@ use Rattle.chain_checks.specs.Check.{check_number}
 use Rattle.fildwuk.specs.Lists.{chain_of}
 use Rattle.fildwuk.proofs.ChainBytes.{chain-stands, chain-read, chain_length}
 use Rattle.fildwuk.proofs.coordinate_lists.check_bytes.Goals as goal
-use Rattle.fildwuk.proofs.coordinate_lists.check_bytes.Goals.{Start, In-loop-i, After-read_chain, After-check_chain}
+use Rattle.fildwuk.proofs.coordinate_lists.check_bytes.Goals.{Start, After-read_chain, After-check_chain}
 
 pub loop-i-init : goal.loop-i-init
 loop-i-init c = (omega arith, (λ k l. absurd (omega arith)), refl)
 
 -- ---- the next chain is read
 
-stands : (c : In-loop-i) → let a = c.args in 4 * (c.loop-i.i * a.cells + a.cells) ≤ length a.chains.now
-stands c =
-    let start = (goal.at.In-loop-i c).Start in
-    chain-stands start.args.cells start.args.many start.args.chains.now start.requires.p_le_top.3 c.loop-i.i c.loop-i-test.true
-
 pub overflow_mul-i : goal.overflow_mul-i
-overflow_mul-i c = omega (arith, stands c, c.well-formed)
+overflow_mul-i c =
+    omega (
+      arith,
+      chain-stands c.args.cells c.args.many c.args.chains.now c.requires.p_le_top.3 c.loop-i.i c.loop-i-test.true,
+      c.well_formed,
+    )
 
 pub slice_bounds-read_chain-end : goal.slice_bounds-read_chain-end
 slice_bounds-read_chain-end c = sym c.loop-i.invariant.2
 
 pub read_chain-requires : goal.read_chain-requires
-read_chain-requires c = (omega (arith, c.loop-i.invariant.2, c.requires.p_le_top.2), stands (goal.at.read_chain-requires c).In-loop-i)
+read_chain-requires c = (omega (arith, c.loop-i.invariant.2, c.requires.p_le_top.2), chain-stands c.args.cells c.args.many c.args.chains.now c.requires.p_le_top.3 c.loop-i.i c.loop-i-test.true)
 
 module _ (c : After-read_chain) where
   abbrev start : Start
@@ -60,7 +60,7 @@ module _ (c : After-read_chain) where
   read_length = ap length read_is ∙ chain_length cells many bytes start.requires.p_le_top.3 i c.loop-i-test.true
 
   kept-length : length c.read_chain.new.coefficients ≡ host_limit
-  kept-length = c.read_chain.auto.1.1.1.0 ∙ c.loop-i.invariant.2
+  kept-length = c.read_chain.auto.coefficients ∙ c.loop-i.invariant.2
 
 pub slice_bounds-coefficients-end : goal.slice_bounds-coefficients-end
 slice_bounds-coefficients-end c = omega (arith, kept-length (goal.at.slice_bounds-coefficients-end c).After-read_chain, (start (goal.at.slice_bounds-coefficients-end c).After-read_chain).requires.p_le_top.2)
@@ -93,13 +93,13 @@ returns-in-Refused c =
     let called = (goal.at.returns-in-Refused c).After-check_chain in
     let r = reads called in
     let a = (start r).args in
-    let x = c.refusal-1.given in
-    (cycles-told coefficient_limit (sections_of a.s.now) a.p (chain_from (many r * cells r) (bytes r)) a.many (number_of x.0.0)
-    (λ e. absurd (omega (arith, number-positive x.0.0)))).1
+    let x = c.in-Refused in
+    (cycles-told coefficient_limit (sections_of a.s.now) a.p (chain_from (many r * cells r) (bytes r)) a.many (number_of x.refusal)
+    (λ e. absurd (omega (arith, number-positive x.refusal)))).1
     (record {
       place = i r;
       within = r.loop-i-test.true;
-      told = told called ∙ ap check_number x.1;
+      told = told called ∙ ap check_number x.is;
       earlier = r.loop-i.invariant.1;
     })
 

@@ -28,7 +28,7 @@ use Rattle.fildwuk.specs.HostAnswers.{HostAnswers}
 use Rattle.fildwuk.specs.Lists.{list_bytes}
 use Rattle.fildwuk.proofs.HostListAnswers.{host_lengths, few-cells, lists-refuse, length-refuses, cycles-refuse, lists-wide, can-list, lists-done}
 use Rattle.fildwuk.proofs.coordinate_lists.lists_through.Goals as goal
-use Rattle.fildwuk.proofs.coordinate_lists.lists_through.Goals.{Start, After-admit, In-Admitted, After-nonempty-lists, After-check_bytes, In_default, After-reduce_twice, In-Done, After-write_bytes}
+use Rattle.fildwuk.proofs.coordinate_lists.lists_through.Goals.{Start, After-admit, In-Admitted, After-nonempty-lists, After-check_bytes, In_default, After-reduce_twice, In-Done}
 
 abbrev question_of : Start → Question
 question_of s = asked s.args.sheet.now s.args.dimension
@@ -48,10 +48,10 @@ returns-in-Refused c =
     let called = (goal.at.returns-in-Refused c).After-admit in
     let start = (goal.at.After-admit called).Start in
     let a = start.args in
-    let x = c.refusal-1.given in
+    let x = c.in-Refused in
     rw c.number.ensures
-    (lists-refuse (question_of start) a.many a.chains.now a.coordinates.now start.requires x.0.0
-    (admit-refused (given start) (Coordinates a.many) called.admit.result (admits called) x.1))
+    (lists-refuse (question_of start) a.many a.chains.now a.coordinates.now start.requires x.refusal
+    (admit-refused (given start) (Coordinates a.many) called.admit.result (admits called) x.is))
 
 module _ (c : In-Admitted) where
   abbrev called : After-admit
@@ -82,7 +82,7 @@ module _ (c : In-Admitted) where
   granted : Granted (given entered) (Coordinates many) cell-counts
   granted =
       admit-granted (given entered) (Coordinates many) called.admit.result (admits called) (omega arith)
-      (record { small = λ i. (called.shared_slice_known-1.given i).fits }) c.in-Admitted.is
+      (record { small = λ i. (called.type_inv.sheet i).fits }) c.in-Admitted.is
 
   cells_are : cell-counts.cells ≡ cells
   cells_are = cells-of granted.cell-counts
@@ -90,10 +90,10 @@ module _ (c : In-Admitted) where
 -- ---- the chains
 
 pub overflow_mul-many : goal.overflow_mul-many
-overflow_mul-many c = omega (arith, (granted c).passed.output-slots, ap (λ (n : ℕ). many c * n) (cells_are c), (entered c).well-formed)
+overflow_mul-many c = omega (arith, (granted c).passed.output-slots, ap (λ (n : ℕ). many c * n) (cells_are c), (entered c).well_formed)
 
 pub overflow_mul-many-2 : goal.overflow_mul-many-2
-overflow_mul-many-2 c = omega (arith, (granted c).passed.output-slots, ap (λ (n : ℕ). many c * n) (cells_are c), (entered c).well-formed)
+overflow_mul-many-2 c = omega (arith, (granted c).passed.output-slots, ap (λ (n : ℕ). many c * n) (cells_are c), (entered c).well_formed)
 
 pub returns-then-chains-many : goal.returns-then-chains-many
 returns-then-chains-many c =
@@ -136,12 +136,15 @@ module _ (c : After-nonempty-lists) where
 
 pub check_bytes-requires : goal.check_bytes-requires
 check_bytes-requires c =
-    let k = known c in let g = granted k in record { accepted = g.library; p_le_top = ((
+    let k = known c in let g = granted k in record {
+      accepted = g.library;
+      p_le_top = (
         g.passed.dimension,
         cells_are k,
         omega (arith, cells_are k, few-cells (q k) g.passed),
         size c ∙ ap (λ (n : ℕ). 4 * (lists c * n)) (sym (cells_are k)),
-      ), ) }
+      );
+    }
 
 module _ (c : After-check_bytes) where
   -- the number that is told of the chains
@@ -157,10 +160,10 @@ pub returns-in-Refused-check_bytes : goal.returns-in-Refused-check_bytes
 returns-in-Refused-check_bytes c =
     let checked = (goal.at.returns-in-Refused-check_bytes c).After-check_bytes in
     let m = (goal.at.After-check_bytes checked).After-nonempty-lists in let k = known m in
-    let x = c.refusal-in-Refused-check_bytes-1.given in
+    let x = c.in-Refused-check_bytes in
     rw c.number-in-Refused-check_bytes.ensures
     (on-lists m
-    (cycles-refuse (q k) (lists m) (bytes k) (output k) (entered k).requires (regranted m) (size m) x.0.0 (told checked ∙ ap check_number x.1)))
+    (cycles-refuse (q k) (lists m) (bytes k) (output k) (entered k).requires (regranted m) (size m) x.refusal (told checked ∙ ap check_number x.is)))
 
 -- ---- the reductions
 
@@ -208,12 +211,11 @@ write_bytes-requires c =
 
 pub returns : goal.returns
 returns c =
-    let wrote = (goal.at.returns c).After-write_bytes in
-    let d = (goal.at.After-write_bytes wrote).In-Done in
+    let d = (goal.at.returns c).In-Done in
     let t = checked d in
     let m = counted t in let k = known m in
     on-lists m
     (lists-done (q k) (lists m) (bytes k) (output k) (entered k).requires (regranted m) (size m) (passed t) (reduced d)
-    (wrote.write_bytes.ensures
+    (c.write_bytes.ensures
     ∙ ap (λ (n : ℕ). splices (8 * n) (list_bytes d.in-Done.reduced (reduces d).reduce_twice.new.w n (lists m) (bytes k)) (lists m) (output k))
     (cells_are k)))

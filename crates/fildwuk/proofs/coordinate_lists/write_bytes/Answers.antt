@@ -1,6 +1,6 @@
 use mathlib.Core.Path.{◌≡◌, refl, sym, ap, ap₂, ◌∙◌}
 use mathlib.Core.List.{List}
-use Prim.Native.Nat.{ℕ, ◌+◌, ◌-◌, ◌*◌, ◌≤◌}
+use Prim.Native.Nat.{ℕ, ◌+◌, ◌*◌, ◌≤◌}
 use native.Mathlib.Nat.{le_antisymm, mul_left_comm, suc-mul, mul-le-mul_right}
 use native.Mathlib.Numerals.{add-one}
 use native.Mathlib.Omega.{arith}
@@ -17,7 +17,7 @@ use Rattle.writers.specs.Written.{WrittenFrom, coordinates_of}
 use Rattle.fildwuk.specs.Lists.{chain_of, list_bytes}
 use Rattle.fildwuk.proofs.ChainBytes.{chain-stands, chain-read, chain_length}
 use Rattle.fildwuk.proofs.coordinate_lists.write_bytes.Goals as goal
-use Rattle.fildwuk.proofs.coordinate_lists.write_bytes.Goals.{Start, In-loop-i, After-read_chain, After-write_coordinates-width}
+use Rattle.fildwuk.proofs.coordinate_lists.write_bytes.Goals.{Start, After-read_chain, After-write_coordinates-width}
 
 pub loop-i-init : goal.loop-i-init
 unfolding splices
@@ -25,19 +25,19 @@ loop-i-init c = (omega arith, refl, refl, refl, refl)
 
 -- ---- the next chain is read
 
-stands : (c : In-loop-i) → let a = c.args in 4 * (c.loop-i.i * a.cells + a.cells) ≤ length a.chains.now
-stands c =
-    let start = (goal.at.In-loop-i c).Start in
-    chain-stands start.args.cells start.args.many start.args.chains.now start.requires.size c.loop-i.i c.loop-i-test.true
-
 pub overflow_mul-at : goal.overflow_mul-at
-overflow_mul-at c = omega (arith, stands c, c.well-formed)
+overflow_mul-at c =
+    omega (
+      arith,
+      chain-stands c.args.cells c.args.many c.args.chains.now c.requires.size c.loop-i.i c.loop-i-test.true,
+      c.well_formed,
+    )
 
 pub slice_bounds-read_chain-end : goal.slice_bounds-read_chain-end
 slice_bounds-read_chain-end c = sym c.loop-i.invariant.3
 
 pub read_chain-requires : goal.read_chain-requires
-read_chain-requires c = (omega (arith, c.loop-i.invariant.3, c.requires.few), stands (goal.at.read_chain-requires c).In-loop-i)
+read_chain-requires c = (omega (arith, c.loop-i.invariant.3, c.requires.few), chain-stands c.args.cells c.args.many c.args.chains.now c.requires.size c.loop-i.i c.loop-i-test.true)
 
 module _ (c : After-read_chain) where
   abbrev start : Start
@@ -66,7 +66,7 @@ module _ (c : After-read_chain) where
   read_length = ap length read_is ∙ chain_length cells many bytes start.requires.size i c.loop-i-test.true
 
   kept-length : length c.read_chain.new.coefficients ≡ host_limit
-  kept-length = c.read_chain.auto.1.1.1.0 ∙ c.loop-i.invariant.3
+  kept-length = c.read_chain.auto.coefficients ∙ c.loop-i.invariant.3
 
   list-short : length list ≤ cells
   list-short =
@@ -105,7 +105,7 @@ module _ (c : After-write_coordinates-width) where
   width = omega (arith, wrote.next)
 
   numbers-length : length c.write_coordinates-width.new.coordinates ≡ host_limit
-  numbers-length = c.write_coordinates-width.auto.coordinates.1.1.0 ∙ reads.loop-i.invariant.4
+  numbers-length = c.write_coordinates-width.auto.coordinates ∙ reads.loop-i.invariant.4
 
   numbers-are : take c.write_coordinates-width.result c.write_coordinates-width.new.coordinates ≡ list reads
   numbers-are =
@@ -129,7 +129,7 @@ pub slice_bounds-write_numbers-end : goal.slice_bounds-write_numbers-end
 slice_bounds-write_numbers-end c = sym (numbers-length (goal.at.slice_bounds-write_numbers-end c).After-write_coordinates-width)
 
 pub overflow_mul-at-in-loop-i : goal.overflow_mul-at-in-loop-i
-overflow_mul-at-in-loop-i c = let w = (goal.at.overflow_mul-at-in-loop-i c).After-write_coordinates-width in omega (arith, slots w, (start (reads w)).good)
+overflow_mul-at-in-loop-i c = let w = (goal.at.overflow_mul-at-in-loop-i c).After-write_coordinates-width in omega (arith, slots w, (start (reads w)).well_formed)
 
 pub write_numbers-requires : goal.write_numbers-requires
 write_numbers-requires c =
@@ -142,7 +142,7 @@ write_numbers-requires c =
 pub loop-i-preserved : goal.loop-i-preserved
 unfolding splices
 loop-i-preserved c =
-    let wrote = c.write-numbers in
+    let wrote = c.write_numbers in
     let w = (goal.at.loop-i-preserved c).After-write_coordinates-width in
     let r = reads w in
     let loop = r.loop-i in (
@@ -150,7 +150,7 @@ loop-i-preserved c =
       wrote.ensures
           ∙ ap (λ (l : List ℤ). splice (8 * (i r * cells r)) (numbers_bytes l) loop.out) (numbers-are w)
           ∙ rw (add-one (i r)) (ap₂ (λ (at : ℕ) (l : List ℕ). splice at (numbers_bytes (list r)) l) (mul_left_comm 8 (i r) (cells r)) loop.invariant.1),
-      wrote.auto.1.1.0 ∙ loop.invariant.2,
+      wrote.auto.out ∙ loop.invariant.2,
       kept-length r,
       numbers-length w,
     )

@@ -2,7 +2,7 @@
 use mathlib.Core.Path.{◌≡◌}
 use Prim.Native.Nat.{◌-◌, ◌*◌, ◌≤◌}
 use lib.ListN.{length}
-use Rattle.lists.specs.Splice.{splice, splices}
+use Rattle.lists.specs.Splice.{splices}
 use Rattle.limits.specs.Limits.{host_limit}
 use Rattle.fildwuk.specs.Lists.{list_bytes}
 use Rattle.fildwuk.proofs.coordinate_lists.write_bytes.Given as goal

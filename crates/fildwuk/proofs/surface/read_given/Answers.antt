@@ -13,7 +13,6 @@ use Rattle.lists.proofs.TabulateLaws.{tabulate-ext}
 use Rattle.host_calls.specs.Bytes.{coefficient_in, chain_from}
 use Rattle.host_calls.proofs.HostChainsLaws.{chain_from-whole}
 use Rattle.fildwuk.proofs.surface.read_given.Goals as goal
-use Rattle.fildwuk.proofs.surface.read_given.Goals.{Start, Else-chain-n, After-read_chain}
 
 -- four times the quotient is at most the length, and less than four more
 parts : (m : ℕ) → (4 * (m / 4) ≤ m) × (m < 4 * (m / 4) + 4)
@@ -29,10 +28,9 @@ returns-then-n-gt-CELLS c =
 
 pub returns-then-chain-n : goal.returns-then-chain-n
 returns-then-chain-n c =
-    let start = (goal.at.returns-then-chain-n c).Start in
-    let chain = start.args.chain.now in
+    let chain = c.args.chain.now in
     record {
-      fits = omega (arith, start.requires);
+      fits = omega (arith, c.requires);
       stands = λ n few. inr (
         λ e. absurd (omega (arith, e)),
         λ e. absurd (c.if-chain-n.true (omega (arith, e, parts (length chain)))),
@@ -50,11 +48,8 @@ read chain coefficients r size is n = go (ℕ_discrete r n)
 
 pub returns : goal.returns
 returns c =
-    let called = (goal.at.returns c).After-read_chain in
-    let tested = (goal.at.After-read_chain called).Else-chain-n in
-    let start = (goal.at.Else-chain-n tested).Start in
-    let chain = start.args.chain.now in
+    let chain = c.args.chain.now in
     record {
-      fits = omega (arith, tested.if-n-gt-CELLS.false, called.read_chain.auto.1.1.1.0, start.requires);
-      stands = λ n few. read chain called.read_chain.new.coefficients (length chain / 4) tested.if-chain-n.false called.read_chain.ensures n;
+      fits = omega (arith, c.if-n-gt-CELLS.false, c.read_chain.auto.coefficients, c.requires);
+      stands = λ n few. read chain c.read_chain.new.coefficients (length chain / 4) c.if-chain-n.false c.read_chain.ensures n;
     }

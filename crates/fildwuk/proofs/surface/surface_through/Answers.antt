@@ -13,10 +13,10 @@ use Rattle.reports.specs.Reductions.{second_columns_only}
 use Rattle.requests.specs.Question.{asked}
 use Rattle.host_calls.specs.Bytes.{chain_from}
 use Rattle.host_calls.specs.Host.{work_room_for}
-use Rattle.fildwuk.proofs.Through.{Lent, lend, lent_length, slots, size, writable}
+use Rattle.fildwuk.proofs.Through.{Lent, lend, lent_length, slots, writable}
 use Rattle.fildwuk.proofs.SurfaceThrough.{surface-refuses, surface-room, surface-writes}
 use Rattle.fildwuk.proofs.surface.surface_through.Goals as goal
-use Rattle.fildwuk.proofs.surface.surface_through.Goals.{Start, After-read_given-given, After-coefficients-1, After-surface_at, In-Done, After-count}
+use Rattle.fildwuk.proofs.surface.surface_through.Goals.{Start, After-read_given-given, After-surface_at, In-Done, After-count}
 
 -- the coefficients that are lent
 module _ (c : After-read_given-given) where
@@ -43,7 +43,7 @@ module _ (c : After-surface_at) where
   call =
       let args = start.args in
       lend host_limit (work_room_for (second_columns_only true)) (asked args.sheet.now args.dimension) args.surface.now args.numbers.now args.work.now
-      c.host.ensures (λ i. (given.shared_slice_known-1.given i).fits) c.smaller-slots.ensures
+      c.host.ensures (λ i. (c.type_inv.sheet i).fits) c.smaller-slots.ensures
       start.requires.1 start.requires.2
 
 pub slice_bounds-surface_at-end-2 : goal.slice_bounds-surface_at-end-2
@@ -51,9 +51,7 @@ slice_bounds-surface_at-end-2 c = sym (lent-size (goal.at.slice_bounds-surface_a
 
 pub slice_bounds-surface_at-end-4 : goal.slice_bounds-surface_at-end-4
 slice_bounds-surface_at-end-4 c =
-    let smaller = (goal.at.slice_bounds-surface_at-end-4 c).After-coefficients-1 in
-    let start = (goal.at.After-coefficients-1 smaller).Start in
-    sym (lent_length start.args.surface.now start.args.numbers.now smaller.smaller-slots.ensures start.requires.1)
+    sym (lent_length c.args.surface.now c.args.numbers.now c.smaller-slots.ensures c.requires.1)
 
 module _ (c : After-count) where
   abbrev told : In-Done
@@ -71,7 +69,7 @@ pub write_numbers-requires : goal.write_numbers-requires
 write_numbers-requires c =
     let d = (goal.at.write_numbers-requires c).After-count in
     let a = called d in
-    let w = writable (call a) a.surface_at.new.surface (room d) a.surface_at.kept.surface in (w.0, omega (arith, w.1))
+    let w = writable (call a) a.surface_at.new.surface (room d) a.surface_at.auto.surface in (w.0, omega (arith, w.1))
 
 pub returns-in-Refused : goal.returns-in-Refused
 returns-in-Refused c =
@@ -83,4 +81,4 @@ returns-in-Done c =
     let d = (goal.at.returns-in-Done c).After-count in
     let a = called d in
     surface-writes (call a) (start a).args.chain.now (lent (given a)) (stands (given a)) a.surface_at.ensures (told d).in-Done.is d.count.ensures.is
-    a.surface_at.kept.surface c.write_numbers.ensures
+    a.surface_at.auto.surface c.write_numbers.ensures

@@ -1,0 +1,6 @@
+-- `fildwuk_library_coordinate_lists` meets its contract: it answers the number of what the library's call answers.
+use Rattle.library_host.proofs.Told.{called-told}
+use Rattle.library_host.proofs.fildwuk_library_coordinate_lists.Goals as goal
+
+pub returns : goal.returns
+returns c = called-told c.coordinate_lists.ensures c.number_told.ensures
