@@ -2,10 +2,9 @@ use native.Mathlib.Omega.{arith}
 use native.Mathlib.Numerals.{add-one}
 use mathlib.Core.Path.{◌≡◌, sym, ap, ◌∙◌}
 use mathlib.Core.List.{List}
-use Prim.Native.Nat.{ℕ, suc, ◌+◌, ◌-◌}
-use Rattle.complexes.specs.Complex.{section, count, cell}
+use Prim.Native.Nat.{ℕ, suc, ◌+◌}
 use Rattle.sheet_format.specs.Layout.{top}
-use Rattle.sheet_format.specs.Check.{count_field, start_at, some, face_missing}
+use Rattle.sheet_format.specs.Check.{count_field, start_at, face_missing}
 use Rattle.checks.proofs.Scan.{passed_none, passed-more, passed-all, some-found}
 use Rattle.checks.proofs.Sections.{Section, faces-section, rising-section}
 use Rattle.checks.proofs.check.face_missing.Invariants.{Misses}

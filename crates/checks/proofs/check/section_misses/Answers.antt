@@ -1,9 +1,8 @@
 use native.Mathlib.Omega.{arith}
 use mathlib.Core.Path.{◌≡◌, refl, sym, ◌∙◌}
 use mathlib.Core.Bool.{Bool, not}
-use Prim.Native.Nat.{ℕ, ◌+◌, ◌*◌, ◌-◌, ◌≤◌}
+use Prim.Native.Nat.{ℕ, ◌+◌, ◌*◌, ◌≤◌}
 use native.Mathlib.Numerals.{add-one}
-use Rattle.sheet_format.specs.Check.{some}
 use Rattle.fields.proofs.Offset.{most, few}
 use Rattle.checks.proofs.Scan.{passed_none, passed-more, passed-all, some-found}
 use mathlib.Core.Path.{ap}

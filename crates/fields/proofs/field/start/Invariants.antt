@@ -2,7 +2,7 @@
 use mathlib.Core.Path.{◌≡◌}
 use Prim.Native.Nat.{◌+◌, ◌*◌, ◌-◌, ◌≤◌}
 use Rattle.sheet_format.specs.Check.{start_at}
-use Rattle.sheet_format.specs.Layout.{header_length, start}
+use Rattle.sheet_format.specs.Layout.{header_length}
 use Rattle.fields.proofs.Offset.{most}
 use Rattle.fields.proofs.field.start.Given as goal
 

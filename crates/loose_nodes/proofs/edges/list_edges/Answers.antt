@@ -1,6 +1,5 @@
 use borrow.Author.Rules.{rules}
 use mathlib.Core.Path.{sym, ◌∙◌}
-use Prim.Native.Nat.{◌-◌}
 use native.Mathlib.Omega.{arith}
 use Rattle.loose_nodes.proofs.EdgeMap.{fields-none, fields-more, fields-edges}
 use Rattle.loose_nodes.proofs.edges.list_edges.Goals as goal

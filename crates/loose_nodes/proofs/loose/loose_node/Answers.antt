@@ -1,6 +1,6 @@
 use mathlib.Core.Path.{sym, ◌∙◌}
 use mathlib.Core.List.{List}
-use Prim.Native.Nat.{ℕ, ◌-◌}
+use Prim.Native.Nat.{ℕ}
 use native.Mathlib.Omega.{arith}
 use Rattle.sheet_format.specs.Check.{count_field, sections_of, loose}
 use Rattle.checks.proofs.Scan.{passed_none, passed-more, passed-all, some-found}

@@ -1,9 +1,8 @@
 use native.Mathlib.Omega.{arith}
 use mathlib.Core.Path.{◌≡◌, sym, ◌∙◌}
 use mathlib.Core.Bool.{Bool}
-use Prim.Native.Nat.{ℕ, suc, ◌-◌}
+use Prim.Native.Nat.{ℕ, suc}
 use native.Mathlib.Numerals.{add-one}
-use Rattle.complexes.specs.Complex.{count, cell}
 use Rattle.sheet_format.specs.Layout.{top}
 use Rattle.checks.proofs.Scan.{passed_none, passed-more, passed-all, some-found}
 use Rattle.checks.proofs.Sections.{fails-section, fails-sections}

@@ -1,9 +1,9 @@
 use native.Mathlib.Omega.{arith}
 use mathlib.Core.Path.{◌≡◌, sym, ◌∙◌}
 use mathlib.Core.Bool.{Bool}
-use Prim.Native.Nat.{ℕ, ◌*◌, ◌-◌, ◌≤◌}
+use Prim.Native.Nat.{ℕ, ◌*◌, ◌≤◌}
 use Rattle.fields.proofs.Offset.{most, few}
-use Rattle.checks.specs.Rise.{tested, fails}
+use Rattle.checks.specs.Rise.{tested}
 use Rattle.checks.proofs.Scan.{passed_none, passed-more, passed-all, some-found}
 use Rattle.checks.proofs.Sections.{tested_le, next-cell}
 use Rattle.checks.proofs.rise.Rise.fails_in_section.Invariants.{Fails}
