@@ -180,7 +180,7 @@ CONTRACTS = {
     ],
     "print_input for inputs that fit the array": [
         ("crates/printer/src/lib.rt", "((b : List ℕ) → take (length held) b", "((b : List ℕ) → length b ≤ length held → take (length held) b"),
-        ("crates/printer/proofs/print_input/Proof.antt", "returns c b e =", "returns c b short e ="),
+        ("crates/printer/proofs/print_input/Answers.antt", "returns c b e =", "returns c b short e ="),
     ],
 }
 
