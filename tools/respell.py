@@ -1,7 +1,7 @@
 #!/usr/bin/env python3
 """Brings the names of definitions and lemmas that port.py left in camel case to snake case, as today's Rattle spells them.
 
-usage: python3 tools/respell.py [--table FILE] at the top of the repository, once, after /opt/rattle/port/port.py.
+usage: python3 tools/respell.py [--table FILE] at the top of the repository, once, after port.py of the kit.
 
 A name is a word that begins with a small letter. A dash joins names: each part is turned by itself. Turned are the .antt files whole and the .rt
 files outside strings; functions of src/, exported C names, strings, inputs and outputs have no such names and keep theirs. Names that fall
