@@ -49,8 +49,8 @@ sheets_told limit q request output work d =
     told : first_refusal (early_checks limit q request (length output) (length work)) ≡ refusal limit q.sheet
     told = call-told limit q slots space (length output) (length work) (request_checks q request) (λ z. d (sym sheet ∙ z)) ∙ sheet
 
-pub not_aCycle : NotACycle
-not_aCycle = not-a-cycle-iff
+pub not_a_cycle : NotACycle
+not_a_cycle = not-a-cycle-iff
 
 -- the first faulty chain is the same by other numbers that are equal
 fault-same : {f g : ℕ → ℕ} (many k : ℕ) → ((i : ℕ) → i < many → f i ≡ g i) → FirstFault f many k → FirstFault g many k

@@ -34,11 +34,11 @@ edge = pos 1 ∷ pos 0 ∷ pos 0 ∷ []
 abbrev loop : List ℤ
 loop = pos 1 ∷ minus 1 ∷ pos 1 ∷ []
 
-module _ (not_aCycle : NotACycle) where
+module _ (not_a_cycle : NotACycle) where
   -- an edge, at the coefficient limit 1
   no-cycle : NoCycle 1 (cells hollow) 1 edge
   unfolding chain_checks cells count_field cell_of cells_of sections_of some without same start count_below tabulate coefficient_exceeds boundary_not_zero boundary coefficient sign apply sum
-  no-cycle = (not_aCycle 1 (cells hollow) 1 edge).0 refl
+  no-cycle = (not_a_cycle 1 (cells hollow) 1 edge).0 refl
 
   size : length edge ≡ count (cells hollow) 1
   size = no-cycle.size
@@ -52,7 +52,7 @@ module _ (not_aCycle : NotACycle) where
   -- the loop is told 0, so it is not one that is no cycle
   is-cycle : NoCycle coefficient_limit (cells hollow) 1 loop → ⊥
   unfolding chain_checks cells count_field cell_of cells_of sections_of some without same start count_below tabulate coefficient_exceeds boundary_not_zero boundary coefficient sign apply sum
-  is-cycle n = let told : ◌≡◌ {A = ℕ} 0 12 = (not_aCycle coefficient_limit (cells hollow) 1 loop).1 n in omega (arith, told)
+  is-cycle n = let told : ◌≡◌ {A = ℕ} 0 12 = (not_a_cycle coefficient_limit (cells hollow) 1 loop).1 n in omega (arith, told)
 
 -- ---- the first faulty chain: a loop, then an edge, then a coefficient beyond the limit
 

@@ -99,12 +99,12 @@ abbrev end_a : List ℕ
 end_a = 36 ∷ 69 ∷ 110 ∷ 100 ∷ 65 ∷ 10 ∷ []
 
 -- `$EndA\r`
-abbrev end_aReturned : List ℕ
-end_aReturned = 36 ∷ 69 ∷ 110 ∷ 100 ∷ 65 ∷ 13 ∷ 10 ∷ []
+abbrev end_a_returned : List ℕ
+end_a_returned = 36 ∷ 69 ∷ 110 ∷ 100 ∷ 65 ∷ 13 ∷ 10 ∷ []
 
 -- `$EndAB`
-abbrev end_aB : List ℕ
-end_aB = 36 ∷ 69 ∷ 110 ∷ 100 ∷ 65 ∷ 66 ∷ 10 ∷ []
+abbrev end_ab : List ℕ
+end_ab = 36 ∷ 69 ∷ 110 ∷ 100 ∷ 65 ∷ 66 ∷ 10 ∷ []
 
 -- `$End`
 abbrev open_end : List ℕ
@@ -254,8 +254,8 @@ table =
     ∷ tells (before (end_nodes ∷ node7 ∷ end_end_nodes ∷ [])) (node_alone 7)
     ∷ refused (before (open_elements ∷ end_elements ∷ []))
     ∷ refused (before (open_format ∷ end_format ∷ []))
-    ∷ refused (before (open_a ∷ end_aB ∷ []))
-    ∷ tells (before (open_a ∷ end_aB ∷ end_aReturned ∷ [])) (node_alone 7)
+    ∷ refused (before (open_a ∷ end_ab ∷ []))
+    ∷ tells (before (open_a ∷ end_ab ∷ end_a_returned ∷ [])) (node_alone 7)
     ∷ tells (before (open_a ∷ open_nodes ∷ end_a ∷ open_a ∷ end_a ∷ [])) (node_alone 7)
     ∷ refused (formatted other_version)
     ∷ refused (formatted other_zero)
