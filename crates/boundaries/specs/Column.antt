@@ -1,13 +1,12 @@
 -- A column of a product in a slice.
-use Rattle.std.specs.Prelude.{◌≡◌, ◌⊎◌, List, ℕ, ◌<◌, ◌≤◌, length, get_or, ℤ, nat_abs, ◌*ℤ◌}
+use Rattle.std.specs.Prelude.{◌≡◌, ◌⊎◌, List, ℕ, ◌<◌, ◌≤◌, length, get_or, ℤ, nat_abs, ◌*ℤ◌, Result, Ok, Err}
 use Rattle.matrices.specs.Sum.{sum}
 use Rattle.matrices.specs.Matrix as theory
 use Rattle.complexes.specs.Boundary.{sign}
 use Rattle.matrix_lines.specs.Slice.{entry_limit, Bounded, Covered}
 use Rattle.matrix_lines.specs.Matrices.{contents}
 use Rattle.matrix_lines.specs.declared.matrix.Matrix.{Matrix}
-use Rattle.matrix_lines.specs.declared.line.Effect.{Effect}
-use Rattle.matrix_lines.specs.declared.line.Effect.TheVariants.{Done, TooWide}
+use Rattle.matrix_lines.specs.declared.line.TooWide.{TooWide}
 use Rattle.boundaries.specs.Filled.{ColumnFilled}
 
 -- the matrix whose every column is that of the slice's matrix q times the column with sign t in row places[t], for t below `faces`, and 0 elsewhere
@@ -37,6 +36,6 @@ pub record ColumnExceeds (M : Matrix) (w : List ℤ) (A : theory.Matrix) (j : �
   pub beyond : entry_limit < nat_abs (A line j)
 
 -- what making column j of A answers and leaves
-abbrev pub ColumnBecame : Matrix → List ℤ → theory.Matrix → ℕ → ℕ → Effect → List ℤ → Type 0
-ColumnBecame M w A j before (Done x) w' = ColumnHolds M w A j before x w'
-ColumnBecame M w A j before TooWide w' = ColumnExceeds M w A j w'
+abbrev pub ColumnBecame : Matrix → List ℤ → theory.Matrix → ℕ → ℕ → Result ℕ TooWide → List ℤ → Type 0
+ColumnBecame M w A j before (Ok x) w' = ColumnHolds M w A j before x w'
+ColumnBecame M w A j before (Err _) w' = ColumnExceeds M w A j w'

@@ -15,19 +15,15 @@ use matrix_lines::matrix::Matrix;
 
 // Writes column j of the boundary matrix of dimension p + 1. The search for the faces of cell j starts at `places`, which become theirs.
 fn fill_column(s: &[u8], p: usize, m: Matrix, w: &mut [i32], j: usize, places: &mut [usize; FACES])
-    requires accepted { Accepted s.now × (p < top) × (length places.old ≡ suc top) }
+    requires accepted { Accepted s.now × (p < top) }
     requires lines_value { (m.lines ≡ count (sections_of s.now) p) × (m.width ≡ count (sections_of s.now) (suc p)) × (j < m.width) }
     requires held { Held (length w.old) m }
     requires by_index { (i : ℕ) → i < m.lines → contents m w.old i j ≡ null i j }
-    ensures column_filled { ColumnFilled m w.old (boundary (sections_of s.now) (suc p)) j w.new }
-    ensures places_len { length places.new ≡ suc top }
+    ensures { ColumnFilled m w.old (boundary (sections_of s.now) (suc p)) j w.new }
 {
     face_places(s, p, j, places);
-    let mut t: usize = 0;
-    while t < p + 2 {
-        let at = m.line(places[t]) + j;
-        w[at] = sign(t) as i32;
-        t = t + 1;
+    for (t, &row) in places[..p + 2].iter().enumerate() {
+        w[m.line(row) + j] = sign(t) as i32;
     }
 }
 
@@ -39,11 +35,8 @@ pub fn fill_boundary(s: &[u8], p: usize, m: Matrix, w: &mut [i32])
     ensures { MatrixFilled m w.old (boundary (sections_of s.now) (suc p)) w.new }
 {
     let mut places = [0usize; FACES];
-    let mut j: usize = 0;
-    let columns = m.width;
-    while j < columns {
+    for j in 0..m.width {
         fill_column(s, p, m, w, j, &mut places);
-        j = j + 1;
     }
 }
 
@@ -52,11 +45,7 @@ pub fn fill_identity(m: Matrix, w: &mut [i32])
     requires { Held (length w.old) m × (m.lines ≡ m.width) × Eq m.lines m.width (contents m w.old) null }
     ensures { MatrixFilled m w.old identity w.new }
 {
-    let mut i: usize = 0;
-    let lines = m.lines;
-    while i < lines {
-        let at = m.line(i) + i;
-        w[at] = 1;
-        i = i + 1;
+    for i in 0..m.lines {
+        w[m.line(i) + i] = 1;
     }
 }

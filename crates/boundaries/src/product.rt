@@ -15,9 +15,8 @@ ghost use Rattle.boundaries.specs.Column.{at_places, ColumnBecame};
 
 use cells::face::FACES;
 use faces::face::{face_places, sign};
-use matrix_lines::line::Effect;
+use matrix_lines::line::TooWide;
 use matrix_lines::matrix::Matrix;
-use numbers::absolute::absolute;
 
 // The sum of sign t times the entry at places[t] of a line, over t below `faces`. The loop has a constant length, so that the compiler
 // keeps the places in registers.
@@ -26,14 +25,11 @@ fn line_product(w: &[i32], line: usize, width: usize, places: [usize; FACES], fa
     requires by_index { (t : ℕ) → t < faces → get_or places t 0 < width }
     ensures { result ≡ sum faces (λ t. slot w.now (line + get_or places t 0) *ℤ spec.sign t) }
 {
-    let mut total: i64 = 0;
-    let mut t: usize = 0;
-    while t < FACES {
+    let mut total = 0;
+    for (t, &place) in places.iter().enumerate() {
         if t < faces {
-            let place = places[t];
-            total = total + w[line + place] as i64 * sign(t);
+            total += i64::from(w[line + place]) * sign(t);
         }
-        t = t + 1;
     }
     total
 }
@@ -48,34 +44,29 @@ fn multiply_column(
     places: [usize; FACES],
     faces: usize,
     before: u64,
-) -> Effect
+) -> Result<u64, TooWide>
     requires lines_value { (m.lines ≡ q.lines) × (j < m.width) × (faces ≤ suc top) }
     requires by_index { (t : ℕ) → t < faces → get_or places t 0 < q.width }
     requires held { Held (length w.old) q × (end m ≤ q.at) × Bounded before w.old }
     ensures { ColumnBecame m w.old (at_places q w.old places faces) j before result w.new }
 {
-    let lines = q.lines;
-    let width = q.width;
     let mut largest = before;
-    let mut i: usize = 0;
-    while i < lines {
-        let v = line_product(w, q.line(i), width, places, faces);
-        let size = absolute(v);
+    for i in 0..q.lines {
+        let v = line_product(w, q.line(i), q.width, places, faces);
+        let size = v.unsigned_abs();
         if largest < size {
             if (Matrix::ENTRY_LIMIT as u64) < size {
-                return Effect::TooWide;
+                return Err(TooWide);
             }
             largest = size;
         }
-        let at = m.line(i) + j;
-        w[at] = v as i32;
-        i = i + 1;
+        w[m.line(i) + j] = v as i32;
     }
-    Effect::Done(largest)
+    Ok(largest)
 }
 
 // Makes of m the product of q and the boundary matrix of dimension p + 1. It answers the largest absolute value that it wrote.
-pub fn multiply(s: &[u8], p: usize, q: Matrix, m: Matrix, w: &mut [i32]) -> Effect
+pub fn multiply(s: &[u8], p: usize, q: Matrix, m: Matrix, w: &mut [i32]) -> Result<u64, TooWide>
     requires accepted { Accepted s.now }
     requires width_value { (q.width ≡ count (sections_of s.now) p) × (m.width ≡ count (sections_of s.now) (suc p)) × (m.lines ≡ q.lines) }
     requires held { Held (length w.old) q × (end m ≤ q.at) × Small w.old }
@@ -84,16 +75,10 @@ pub fn multiply(s: &[u8], p: usize, q: Matrix, m: Matrix, w: &mut [i32]) -> Effe
         w.new }
 {
     let mut places = [0usize; FACES];
-    let mut largest: u64 = 0;
-    let mut j: usize = 0;
-    let columns = m.width;
-    while j < columns {
+    let mut largest = 0;
+    for j in 0..m.width {
         face_places(s, p, j, &mut places);
-        let Effect::Done(written) = multiply_column(q, m, w, j, places, p + 2, largest) else {
-            return Effect::TooWide;
-        };
-        largest = written;
-        j = j + 1;
+        largest = multiply_column(q, m, w, j, places, p + 2, largest)?;
     }
-    Effect::Done(largest)
+    Ok(largest)
 }

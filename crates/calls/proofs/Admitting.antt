@@ -1,11 +1,12 @@
 -- What a call on a dimension was given (`Lent`, `Lengths`), and what its callees answered.
---     admit-refused, admit-granted     the first of the checks 1 to 9; `Granted`, what they ask, the cell counts of the dimension and the chain complex
---     regrant                          the same for other chains that want as many slots
---     twice-refused, twice-done        the two reductions went too wide; they left the state that is written
-use mathlib.Core.Path.{◌≡◌, subst}
+--     admit-granted     none of the checks 1 to 9 applies: `Granted`, what they ask, the cell counts of the dimension and the chain complex
+--     regrant           the same for other chains that want as many slots
+--     Reduces           the two reductions left the state that is written
+use mathlib.Core.Path.{◌≡◌}
 use mathlib.Core.Bool.{Bool}
 use mathlib.Core.List.{List}
 use Prim.Native.Nat.{ℕ, ◌*◌, ◌≤◌}
+use Rattle.std.specs.Prelude.{Ok}
 use Rattle.complexes.specs.Complex.{count}
 use Rattle.complexes.proofs.ChainComplex.{ChainComplex}
 use lib.IntN.{ℤ}
@@ -15,23 +16,16 @@ use Rattle.sheet_format.specs.Sheet.{Bytes}
 use Rattle.sheet_format.specs.Check.{sections_of}
 use Rattle.limits.specs.Limits.{library_limit}
 use Rattle.faces.specs.Face.{Accepted}
-use Rattle.reports.specs.Reductions.{Reductions, second_columns_only, too_wide, reductions_of}
+use Rattle.reports.specs.Reductions.{Reductions, second_columns_only, reductions_of}
 use Rattle.requests.specs.Question.{Question}
 use Rattle.requests.proofs.CheckLaws.{Passed, call_checks-zero}
-use Rattle.refusal.specs.Number.{number_of}
-use Rattle.refusal.specs.declared.Refusal.{Refusal}
-use Rattle.passes.specs.PassAnswers.{Cleared}
 use Rattle.two_reductions.specs.declared.reduced.Reduced.{Reduced}
-use Rattle.two_reductions.specs.Slices.{ReducedTwice, TwiceReduced}
+use Rattle.two_reductions.specs.Slices.{ReducedTwice}
 use Rattle.two_reductions.specs.CellCounts.{cell_counts_in, CellCountsRead}
-use Rattle.calls.specs.Admission.{slots_for, space_for, admission, Admits}
+use Rattle.calls.specs.Admission.{slots_for, space_for, Admits}
 use Rattle.two_reductions.specs.declared.cell_counts.CellCounts.{CellCounts}
 use Rattle.calls.specs.declared.admission.Request.{Request}
 use Rattle.calls.specs.declared.admission.Request.TheVariants.{Coordinates}
-use Rattle.calls.specs.declared.admission.Admission.{Admission}
-use Rattle.calls.specs.declared.admission.Admission.TheVariants.{Admitted, Refused}
-use Rattle.two_reductions.specs.declared.reductions.Reductions as answer
-use Rattle.two_reductions.specs.declared.reductions.Reductions.TheVariants as variants
 use Rattle.two_reductions.proofs.Sheet.{accepted-library, sheet-chains}
 
 -- the count limit and the question of a call, and the lengths of its output and its work slice
@@ -71,19 +65,11 @@ module _ (l : Lengths) (request : Request) where
     pub library : Accepted l.question.sheet
     pub complex : ChainComplex library_limit (sections_of l.question.sheet)
 
-  abbrev Answered : Admission → Type 0
-  Answered = Admits l.limit l.question request l.slots l.work
-
-  module _ (r : Admission) (h : Answered r) where
-    pub admit-refused : {x : Refusal} → r ≡ Refused x → admission l.limit l.question request l.slots l.work ≡ number_of x
-    admit-refused e = subst Answered e h
-
-    pub admit-granted : {n : CellCounts} → l.limit ≤ library_limit → Bytes l.question.sheet → r ≡ Admitted n → Granted n
-    admit-granted within bytes e =
-        let k = subst Answered e h in
-        let passed = (call_checks-zero l.limit l.question slots_asked space_asked l.slots l.work).0 k.0 in
-        let library = accepted-library within passed.accepted in
-        record { passed = passed; cell-counts = k.1; library = library; complex = sheet-chains bytes library }
+  pub admit-granted : {n : CellCounts} → Admits l.limit l.question request l.slots l.work (Ok n) → l.limit ≤ library_limit → Bytes l.question.sheet → Granted n
+  admit-granted k within bytes =
+      let passed = (call_checks-zero l.limit l.question slots_asked space_asked l.slots l.work).0 k.0 in
+      let library = accepted-library within passed.accepted in
+      record { passed = passed; cell-counts = k.1; library = library; complex = sheet-chains bytes library }
 
 -- what is granted for some chains is granted for others that want as many slots
 pub regrant : (l : Lengths) {m many : ℕ} {n : CellCounts} → m * cells_of l.question ≡ many * cells_of l.question
@@ -108,15 +94,5 @@ module _ (l : Lengths) (kept : Bool) where
   abbrev pub twice : Reductions
   twice = reductions_of (second_columns_only kept) pivot_rule (sections_of l.question.sheet) l.question.dimension
 
-  abbrev Twice : answer.Reductions → List ℤ → Type 0
-  Twice r w = TwiceReduced (sections_of l.question.sheet) l.question.dimension kept twice l.work r w
-
   abbrev pub Reduces : Reduced → List ℤ → Type 0
   Reduces x w = ReducedTwice (sections_of l.question.sheet) l.question.dimension kept twice l.work x w
-
-  module _ (r : answer.Reductions) {w : List ℤ} where
-    pub twice-done : {x : Reduced} → r ≡ variants.Done x → Twice r w → Reduces x w
-    twice-done e h = subst (λ (z : answer.Reductions). Twice z w) e h
-
-    pub twice-refused : {x : Refusal} → r ≡ variants.Refused x → Twice r w → (twice ≡ too_wide) × Cleared l.work x w
-    twice-refused e h = subst (λ (z : answer.Reductions). Twice z w) e h

@@ -5,6 +5,7 @@ use mathlib.Core.Bool.{false}
 use mathlib.Core.Logic.{◌≢◌}
 use mathlib.Core.List.{List}
 use Prim.Native.Nat.{ℕ, ◌*◌}
+use Rattle.std.specs.Prelude.{Ok, Err}
 use native.Mathlib.Omega.{arith}
 use lib.IntN.{ℤ, pos}
 use lib.ListN.{length, replicate}
@@ -35,7 +36,6 @@ use Rattle.calls.specs.Admission.{admission}
 use Rattle.calls.specs.CallAnswers.{CallAnswers}
 use Rattle.two_reductions.specs.declared.cell_counts.CellCounts.{CellCounts}
 use Rattle.calls.specs.declared.admission.Request.TheVariants.{Coordinates}
-use Rattle.calls.specs.declared.answer.Answer.TheVariants.{Done, Refused}
 use Rattle.calls.proofs.Admitting.{Lent, lengths, cells_of, Granted, twice, Reduces}
 use Rattle.calls.proofs.Answering.{refuses, goes-wide, is-done}
 use Rattle.calls.proofs.ListChecks.{lists_early, admission-told, length-told, cycles-next, small-coefficients}
@@ -62,20 +62,20 @@ module _ (l : Lent) (many : ℕ) (chains : List ℤ) where
   abbrev pub lists_called : Called reports.Counts ℤ
   lists_called = call l.limit l.question (lists many chains) l.output l.work
 
-  told : (x : Refusal) → early ≡ number_of x → CallAnswers lists_called (Refused x) l.output l.work
+  told : (x : Refusal) → early ≡ number_of x → CallAnswers lists_called (Err x) l.output l.work
   unfolding call
   told x e = refuses early no_ending (two l.question no_transforms) left l.output l.work e
 
   pub lists-refuse : (x : Refusal) → admission l.limit l.question (Coordinates many) (length l.output) (length l.work) ≡ number_of x
-      → CallAnswers lists_called (Refused x) l.output l.work
+      → CallAnswers lists_called (Err x) l.output l.work
   lists-refuse x e = told x (admission-told (lengths l) many chains x e)
 
   module _ {n : CellCounts} (g : Granted (lengths l) (Coordinates many) n) where
-    pub length-refuses : length chains ≢ many * each → CallAnswers lists_called (Refused refusal.ChainLengthDiffers) l.output l.work
+    pub length-refuses : length chains ≢ many * each → CallAnswers lists_called (Err refusal.ChainLengthDiffers) l.output l.work
     length-refuses d = told refusal.ChainLengthDiffers (length-told (lengths l) many chains g d)
 
     module _ (size : length chains ≡ many * each) where
-      pub cycles-refuse : (x : Refusal) → first_refusal (cycles_checks coefficient_limit K p many chains) ≡ number_of x → CallAnswers lists_called (Refused x) l.output l.work
+      pub cycles-refuse : (x : Refusal) → first_refusal (cycles_checks coefficient_limit K p many chains) ≡ number_of x → CallAnswers lists_called (Err x) l.output l.work
       cycles-refuse x e = told x (cycles-next (lengths l) many chains g size ∙ e)
 
       module _ (passed : first_refusal (cycles_checks coefficient_limit K p many chains) ≡ 0) where
@@ -83,9 +83,9 @@ module _ (l : Lent) (many : ℕ) (chains : List ℤ) where
         passes = cycles-next (lengths l) many chains g size ∙ passed
 
         pub lists-wide : {x : Refusal} {work' : List ℤ} → (twice (lengths l) false ≡ too_wide) × Cleared (length l.work) x work'
-            → CallAnswers lists_called (Refused refusal.TooWide) l.output work'
+            → CallAnswers lists_called (Err x) l.output work'
         unfolding call two rule cells
-        lists-wide h = goes-wide early no_ending (two l.question no_transforms) left l.output l.work passes h.0 h.1.zeros
+        lists-wide h = goes-wide early no_ending (two l.question no_transforms) left l.output l.work passes h.0 h.1
 
         module _ {x : Reduced} {w : List ℤ} (h : Reduces (lengths l) false x w) where
           -- the lists can be written
@@ -101,7 +101,7 @@ module _ (l : Lent) (many : ℕ) (chains : List ℤ) where
 
           pub lists-done : {counts : Counts} {coordinates' work' : List ℤ} → Counted x w counts
               → coordinates' ≡ splices each (λ i. coordinates_of x w (chain_at each chains i)) many l.output → work' ≡ replicate (length w) (pos 0)
-              → CallAnswers lists_called (Done counts) coordinates' work'
+              → CallAnswers lists_called (Ok counts) coordinates' work'
           unfolding call two rule cells
           lists-done k o e =
               is-done early no_ending (two l.question no_transforms) left l.output l.work passes h.is refl k

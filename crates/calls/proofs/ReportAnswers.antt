@@ -3,6 +3,7 @@ use mathlib.Core.Path.{◌≡◌, refl, sym, ◌∙◌, ap}
 use mathlib.Core.Bool.{false}
 use mathlib.Core.List.{List, append-nil}
 use Prim.Native.Nat.{ℕ, ◌*◌}
+use Rattle.std.specs.Prelude.{Ok, Err}
 use native.Mathlib.Nat.{one-mul}
 use lib.IntN.{ℤ, pos}
 use lib.ListN.{length, replicate}
@@ -20,7 +21,6 @@ use Rattle.requests.specs.Call.{report, list_slots, numbers_of, call_checks, ear
 use Rattle.requests.proofs.CheckLaws.{call_checks-zero}
 use Rattle.refusal.specs.Number.{number_of}
 use Rattle.refusal.specs.declared.Refusal.{Refusal}
-use Rattle.refusal.specs.declared.Refusal.TheVariants as refusal
 use Rattle.two_reductions.specs.Slices.{state_in}
 use Rattle.writers.specs.Written.{WroteReport}
 use Rattle.writers.specs.declared.counts.Counts.{Counts}
@@ -30,7 +30,6 @@ use Rattle.calls.specs.Admission.{admission}
 use Rattle.calls.specs.CallAnswers.{CallAnswers}
 use Rattle.two_reductions.specs.declared.cell_counts.CellCounts.{CellCounts}
 use Rattle.calls.specs.declared.admission.Request.TheVariants.{Report}
-use Rattle.calls.specs.declared.answer.Answer.TheVariants.{Done, Refused}
 use Rattle.calls.proofs.Admitting.{Lent, lengths, slots_asked, space_asked, Granted, twice, Reduces}
 use Rattle.calls.proofs.Answering.{refuses, goes-wide, is-done}
 use Rattle.calls.proofs.Writing.{inverse-width}
@@ -61,7 +60,7 @@ module _ (l : Lent) where
   called = call l.limit l.question report l.output l.work
 
   pub report-refuses : {x : Refusal} → admission l.limit l.question Report (length l.output) (length l.work) ≡ number_of x
-      → CallAnswers called (Refused x) l.output l.work
+      → CallAnswers called (Err x) l.output l.work
   unfolding call
   report-refuses e = refuses early no_ending (two l.question no_transforms) left l.output l.work (early-is ∙ e)
 
@@ -72,12 +71,12 @@ module _ (l : Lent) where
         ∙ (call_checks-zero l.limit l.question (slots_asked (lengths l) Report) (space_asked (lengths l) Report) (length l.output) (length l.work)).1 g.passed
 
     pub report-wide : {x : Refusal} {work' : List ℤ} → (twice (lengths l) false ≡ too_wide) × Cleared (length l.work) x work'
-        → CallAnswers called (Refused refusal.TooWide) l.output work'
+        → CallAnswers called (Err x) l.output work'
     unfolding call two rule cells
-    report-wide h = goes-wide early no_ending (two l.question no_transforms) left l.output l.work passes h.0 h.1.zeros
+    report-wide h = goes-wide early no_ending (two l.question no_transforms) left l.output l.work passes h.0 h.1
 
     pub report-done : {x : Reduced} {w : List ℤ} → Reduces (lengths l) false x w → {counts : Counts} {report' work' : List ℤ} → WroteReport x w l.output counts report'
-        → work' ≡ replicate (length w) (pos 0) → CallAnswers called (Done counts) report' work'
+        → work' ≡ replicate (length w) (pos 0) → CallAnswers called (Ok counts) report' work'
     unfolding call two rule cells
     report-done {x} {w} h k e =
         is-done early no_ending (two l.question no_transforms) left l.output l.work passes h.is refl k.counts

@@ -5,6 +5,7 @@ use mathlib.Core.Bool.{Bool, true, false}
 use mathlib.Core.Logic.{◌≢◌}
 use mathlib.Core.List.{List, [], ◌∷◌, ◌++◌}
 use Prim.Native.Nat.{ℕ, suc, ◌≤◌}
+use Rattle.std.specs.Prelude.{Ok, Err}
 use native.Mathlib.Nat.{one-mul}
 use borrow.Author.Tests.{ne_eqb, eq-eqb}
 use lib.IntN.{ℤ, pos, nat_abs}
@@ -38,7 +39,6 @@ use Rattle.calls.specs.Admission.{admission}
 use Rattle.calls.specs.CallAnswers.{CallAnswers}
 use Rattle.two_reductions.specs.declared.cell_counts.CellCounts.{CellCounts}
 use Rattle.calls.specs.declared.admission.Request.TheVariants.{Surface}
-use Rattle.calls.specs.declared.answer.Answer.TheVariants.{Done, Refused}
 use Rattle.calls.proofs.Admitting.{Lent, lengths, slots_asked, space_asked, Granted, twice, Reduces}
 use Rattle.calls.proofs.Answering.{refuses, goes-wide, bounds-nothing, is-done}
 use Rattle.calls.proofs.EarlyChecks.{early-told, early-next}
@@ -79,19 +79,19 @@ module _ (l : Lent) (z : List ℤ) where
   abbrev pub surface_called : Called reports.Counts ℤ
   surface_called = call l.limit l.question (surface z) l.output l.work
 
-  told : (x : Refusal) → early ≡ number_of x → CallAnswers surface_called (Refused x) l.output l.work
+  told : (x : Refusal) → early ≡ number_of x → CallAnswers surface_called (Err x) l.output l.work
   unfolding call
   told x e = refuses early (end_checks l.question (surface z)) (two l.question (second_columns_only true)) left l.output l.work e
 
   pub surface-refuses : (x : Refusal) → admission l.limit l.question Surface (length l.output) (length l.work) ≡ number_of x
-      → CallAnswers surface_called (Refused x) l.output l.work
+      → CallAnswers surface_called (Err x) l.output l.work
   surface-refuses x e = told x (early-told (lengths l) Surface chain_checked early-is x e)
 
   module _ {cell-counts : CellCounts} (g : Granted (lengths l) Surface cell-counts) where
     chain_next : early ≡ first_refusal chain_checked
     chain_next = early-next (lengths l) Surface chain_checked early-is g
 
-    pub length-refuses : length z ≢ n → CallAnswers surface_called (Refused refusal.ChainLengthDiffers) l.output l.work
+    pub length-refuses : length z ≢ n → CallAnswers surface_called (Err refusal.ChainLengthDiffers) l.output l.work
     unfolding chain_checks
     length-refuses d = told refusal.ChainLengthDiffers (chain_next ∙ rw (ne_eqb (length z) n d))
 
@@ -100,7 +100,7 @@ module _ (l : Lent) (z : List ℤ) where
       unfolding chain_checks
       cycle-next = chain_next ∙ rw (eq-eqb (length z) n size)
 
-      pub cycle-refuses : (x : Refusal) → first_refusal (cycle_checks surface_coefficient_limit K p z) ≡ number_of x → CallAnswers surface_called (Refused x) l.output l.work
+      pub cycle-refuses : (x : Refusal) → first_refusal (cycle_checks surface_coefficient_limit K p z) ≡ number_of x → CallAnswers surface_called (Err x) l.output l.work
       cycle-refuses x e = told x (cycle-next ∙ e)
 
       module _ (passed : first_refusal (cycle_checks surface_coefficient_limit K p z) ≡ 0) where
@@ -111,10 +111,10 @@ module _ (l : Lent) (z : List ℤ) where
         small = (coefficients-iff surface_coefficient_limit z).0 ((first-zero (cycle_checks surface_coefficient_limit K p z) refl).0 passed).0
 
         pub surface-wide : {x : Refusal} {work' : List ℤ} → (twice (lengths l) true ≡ too_wide) × Cleared (length l.work) x work'
-            → CallAnswers surface_called (Refused refusal.TooWide) l.output work'
+            → CallAnswers surface_called (Err x) l.output work'
         unfolding call two rule cells
         surface-wide h =
-            goes-wide early (end_checks l.question (surface z)) (two l.question (second_columns_only true)) left l.output l.work passes h.0 h.1.zeros
+            goes-wide early (end_checks l.question (surface z)) (two l.question (second_columns_only true)) left l.output l.work passes h.0 h.1
 
         module _ {x : Reduced} {w : List ℤ} (h : Reduces (lengths l) true x w) where
           -- the surface can be written
@@ -137,14 +137,14 @@ module _ (l : Lent) (z : List ℤ) where
           cleared e = e ∙ ap (λ (m : ℕ). replicate m (pos 0)) h.kept.same_length
 
           pub surface-bounds-nothing : {work' : List ℤ} → tells ≡ true → work' ≡ replicate (length w) (pos 0)
-              → CallAnswers surface_called (Refused refusal.BoundsNothing) l.output work'
+              → CallAnswers surface_called (Err refusal.BoundsNothing) l.output work'
           unfolding call two rule cells
           surface-bounds-nothing b e =
               bounds-nothing early (end_checks l.question (surface z)) (two l.question (second_columns_only true)) left l.output l.work passes h.is (ending true b) (cleared e)
 
           pub surface-done : {counts : Counts} {surface' work' : List ℤ} → tells ≡ false → Counted x w counts
               → surface' ≡ written (surface_list x.workspace.row_follower.width x.workspace.column_follower.width x.rank (state_in x w) z) l.output
-              → work' ≡ replicate (length w) (pos 0) → CallAnswers surface_called (Done counts) surface' work'
+              → work' ≡ replicate (length w) (pos 0) → CallAnswers surface_called (Ok counts) surface' work'
           unfolding call two rule cells
           surface-done b k o e =
               is-done early (end_checks l.question (surface z)) (two l.question (second_columns_only true)) left l.output l.work passes h.is (ending false b) k

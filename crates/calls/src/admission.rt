@@ -1,13 +1,13 @@
 // The checks 1 to 7, 18, 8 and 9, which come before the work of every call on a dimension.
-ghost use Rattle.std.specs.Prelude.{◌≡◌, ◌<◌, ltb};
+ghost use Rattle.std.specs.Prelude.{◌≡◌, ltb};
 ghost use Rattle.requests.specs.Question.{asked};
+ghost use Rattle.two_reductions.specs.CellCounts.{counts_of};
 ghost use Rattle.calls.specs.Admission.{slots_for, space_for, Admits};
 
 use fields::field::TOP;
 use refusal::Refusal;
-use sheet::reader::{Reading, Sheet};
-use two_reductions::cell_counts::{CellCounts, cell_counts_of};
-use two_reductions::workspaces::work_slots;
+use sheet::reader::Sheet;
+use two_reductions::cell_counts::CellCounts;
 
 // What a call asks of a dimension: its report, the coordinates of a number of chains, or the surface that a chain bounds.
 #[derive(Clone, Copy)]
@@ -17,18 +17,10 @@ pub enum Request {
     Surface,
 }
 
-// The dimension may be worked on, or the call is refused.
-#[derive(Clone, Copy)]
-pub enum Admission {
-    Admitted(CellCounts),
-    Refused(Refusal),
-}
-
 impl Request {
     // Whether an output of `output` slots is too short. The slots are divided by the cells, because a product with the number of chains could wrap.
     fn lacks_slots(self, n: CellCounts, output: usize) -> bool
-        requires { n.cells < 65536 }
-        ensures { result ≡ ltb output (slots_for self n) }
+        ensures { result ≡ ltb output (slots_for self (counts_of n)) }
     {
         let cells = n.cells;
         match self {
@@ -40,10 +32,9 @@ impl Request {
 
     // The work slots that are wanted: those of the two reductions, and of the transform that a surface keeps.
     fn work_slots(self, n: CellCounts) -> usize
-        requires { (n.cells < 65536) × (n.rows < 65536) × (n.columns < 65536) }
-        ensures { result ≡ space_for self n }
+        ensures { result ≡ space_for self (counts_of n) }
     {
-        let slots = work_slots(n.cells, n.rows, n.columns);
+        let slots = n.work_slots();
         match self {
             Request::Report => slots,
             Request::Coordinates(_) => slots,
@@ -60,22 +51,20 @@ pub fn admit(
     request: Request,
     output: usize,
     work: usize,
-) -> Admission
+) -> Result<CellCounts, Refusal>
     ensures { Admits sheet.limit (asked s.now dimension) request output work result }
 {
-    if let Reading::Refused(refusal) = sheet.read(s) {
-        return Admission::Refused(refusal);
-    }
+    sheet.read(s)?;
     let p = dimension as usize;
     if TOP < p {
-        return Admission::Refused(Refusal::DimensionExceedsTop);
+        return Err(Refusal::DimensionExceedsTop);
     }
-    let n = cell_counts_of(s, p);
+    let n = CellCounts::of(s, p);
     if request.lacks_slots(n, output) {
-        return Admission::Refused(Refusal::SliceTooShort);
+        return Err(Refusal::SliceTooShort);
     }
     if work < request.work_slots(n) {
-        return Admission::Refused(Refusal::SliceTooShort);
+        return Err(Refusal::SliceTooShort);
     }
-    Admission::Admitted(n)
+    Ok(n)
 }

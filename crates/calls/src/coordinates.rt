@@ -5,14 +5,14 @@ ghost use Rattle.requests.specs.Call.{call};
 ghost use Rattle.limits.specs.Limits.{library_limit};
 ghost use Rattle.calls.specs.CallAnswers.{CallAnswers};
 
-use crate::admission::{Admission, Request, admit};
-use crate::answer::Answer;
-use chain_checks::check::{Check, check_chains, nonempty};
+use crate::admission::{Request, admit};
+use chain_checks::check::{check_chains, nonempty};
 use matrix_lines::line::clear;
 use refusal::Refusal;
 use sheet::reader::Sheet;
-use two_reductions::reductions::{Reductions, reduce_twice};
+use two_reductions::reductions::reduce_twice;
 use writers::coordinates::write_lists;
+use writers::counts::Counts;
 use writers::kind::counts;
 
 // The coordinate lists of `many` chains: document 02, Note 1.
@@ -23,39 +23,32 @@ pub fn coordinate_lists(
     chains: &[i32],
     coordinates: &mut [i64],
     work: &mut [i32],
-) -> Answer
+) -> Result<Counts, Refusal>
     ensures { let left = coordinates.new in
         let work-left = work.new in CallAnswers
         (call library_limit (asked s.now dimension) (requests.lists many chains.now) coordinates.old work.old)
         result left work-left }
 {
-    let n = match admit(
+    let n = admit(
         Sheet::library(),
         s,
         dimension,
         Request::Coordinates(many),
         coordinates.len(),
         work.len(),
-    ) {
-        Admission::Refused(refusal) => return Answer::Refused(refusal),
-        Admission::Admitted(n) => n,
-    };
+    )?;
     let p = dimension as usize;
     let cells = n.cells;
     if chains.len() != many * cells {
-        return Answer::Refused(Refusal::ChainLengthDiffers);
+        return Err(Refusal::ChainLengthDiffers);
     }
     let lists = nonempty(many, cells);
-    if let Check::Refused(refusal) = check_chains(s, p, cells, lists, chains) {
-        return Answer::Refused(refusal);
-    }
-    let Reductions::Done(reduced) = reduce_twice(s, p, n, false, work) else {
-        return Answer::Refused(Refusal::TooWide);
-    };
+    check_chains(s, p, cells, lists, chains)?;
+    let reduced = reduce_twice(s, p, n, false, work)?;
     write_lists(reduced, work, cells, lists, chains, coordinates);
     let counts = counts(reduced, work);
     clear(work);
-    Answer::Done(counts)
+    Ok(counts)
 }
 
 // The coordinates of a chain: document 01, "The report and the coordinates".
@@ -65,7 +58,7 @@ pub fn coordinates(
     chain: &[i32],
     coordinates: &mut [i64],
     work: &mut [i32],
-) -> Answer
+) -> Result<Counts, Refusal>
     ensures { let left = coordinates.new in
         let work-left = work.new in CallAnswers
         (call library_limit (asked s.now dimension) (requests.coordinates chain.now) coordinates.old work.old)

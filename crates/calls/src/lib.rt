@@ -2,7 +2,6 @@
 #![tactic(auto)]
 
 pub mod admission;
-pub mod answer;
 pub mod coordinates;
 pub mod report;
 pub mod slots;

@@ -5,23 +5,23 @@ use Rattle.complexes.specs.Cell.{Cell}
 use Rattle.complexes.specs.Complex.{Sections, count}
 use Rattle.sheet_format.specs.Layout.{top}
 use Rattle.sheet_format.specs.Check.{count_field, sections_of}
-use Rattle.closures.specs.Keep.{kept, keep, unmarked}
+use Rattle.closures.specs.Keep.{keep, unmarked}
 
 -- the cells of the sheet b whose marks are not 1
 abbrev pub unmarked_cells : List ℕ → List ℕ → Sections
 unmarked_cells b marks = keep (unmarked marks (count_field b)) (sections_of b)
 
+-- a cell with this mark stays
+abbrev pub stays : ℕ → Bool
+stays mark = not (eqb mark 1)
+
 -- the cell, if it stays with this mark
 abbrev pub if_stays : ℕ → Cell → List Cell
-if_stays mark c = cond (not (eqb mark 1)) (c ∷ []) []
+if_stays mark c = cond (stays mark) (c ∷ []) []
 
 -- cell i of those whose marks stand from place `from` on stays
 abbrev pub stays_at : List ℕ → ℕ → ℕ → Bool
-stays_at marks from i = not (eqb (get_or marks (from + i) 0) 1)
-
--- so many of the first `many` cells stay, whichever they are
-pub record CountsSection (marks : List ℕ) (from many r : ℕ) : Type 0 where
-  pub is : (l : List Cell) → r ≡ length (kept (stays_at marks from) l many)
+stays_at marks from i = stays (get_or marks (from + i) 0)
 
 -- the counts of the cells K, by dimension
 pub record Counts (K : Sections) (counts : List ℕ) : Type 0 where

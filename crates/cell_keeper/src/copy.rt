@@ -16,11 +16,9 @@ fn copy_cell(s: &[u8], at: usize, n: usize, sheet: &mut [u8], to: usize)
     requires { (at < 2 ^ 32) × (n ≤ suc top) × (to + 2 * n ≤ length sheet.old) }
     ensures { sheet.new ≡ splice to (cell_bytes (cell_of s.now n at)) sheet.old }
 {
-    let mut j: usize = 0;
-    while j < n {
+    for j in 0..n {
         let v = field(s, at + 2 * j);
         write_field(v, sheet, to + 2 * j);
-        j = j + 1;
     }
 }
 
@@ -46,11 +44,8 @@ fn keep_section(s: &[u8], marks: &[u8], p: usize, from: usize, sheet: &mut [u8],
     let many = count(s, p);
     let at = start(s, p);
     let mut next = to;
-    let mut i: usize = 0;
-    while i < many {
-        let mark = marks[from + i];
-        next = keep_cell(s, at + 2 * ((p + 1) * i), p + 1, mark, sheet, next);
-        i = i + 1;
+    for (i, mark) in marks[from..from + many].iter().enumerate() {
+        next = keep_cell(s, at + 2 * ((p + 1) * i), p + 1, *mark, sheet, next);
     }
     next
 }
@@ -63,10 +58,8 @@ pub fn keep_sections(s: &[u8], marks: &[u8], sheet: &mut [u8])
 {
     let mut to: usize = HEADER_LENGTH;
     let mut from: usize = 0;
-    let mut p: usize = 0;
-    while p < SECTIONS {
+    for p in 0..SECTIONS {
         to = keep_section(s, marks, p, from, sheet, to);
-        from = from + count(s, p);
-        p = p + 1;
+        from += count(s, p);
     }
 }

@@ -3,7 +3,6 @@
 --     adding-nil, adds_one, adds-more                             no cell added, one, and more after others
 --     adds-over                                                   what is too many stays too many
 use mathlib.Core.Path.{◌≡◌, sym, ap, subst, ◌∙◌}
-use mathlib.Core.Bool.{Bool, true, false}
 use mathlib.Core.List.{List, [], ◌∷◌, ◌++◌}
 use Prim.Native.Nat.{ℕ, ◌<◌}
 use native.Mathlib.Omega.{arith}
@@ -13,7 +12,10 @@ use Rattle.complexes.specs.Cell.{Cell, precedes}
 use Rattle.complexes.specs.Complex.{Sections, section}
 use Rattle.closures.specs.Insert.{insert_all}
 use Rattle.closures.proofs.InsertLaws.{insert_all-append, insert_all-grows}
+use Rattle.std.specs.Prelude.{Result, Ok, Err}
 use Rattle.cell_sets.specs.Set.{Holds, adding, Adds, AddsOne}
+use Rattle.cell_sets.specs.declared.insert.Full.{Full}
+use Rattle.cell_sets.specs.declared.set.CellSet.{CellSet}
 
 pub length-adding : (K : Sections) (p : ℕ) (cs : List Cell) → length (adding K p cs) ≡ length K
 unfolding adding
@@ -38,16 +40,15 @@ adding-append K p xs ys h =
     ∙ ap (set K p)
     (ap (λ (l : List Cell). insert_all precedes l ys) (section-adding-same K p xs h) ∙ sym (insert_all-append precedes (section K p) xs ys))
 
-pub adds_one : (limit : ℕ) (K : Sections) (p : ℕ) (c : Cell) (cells counts : List ℕ) (r : Bool) (cells' counts' : List ℕ)
-    → AddsOne limit K p c cells counts r cells' counts' → Adds limit K p (c ∷ []) r cells' counts'
+pub adds_one : (K : Sections) (p : ℕ) (c : Cell) (s : CellSet) (r : Result (Unit {0}) Full) (s' : CellSet) → AddsOne K p c s r s' → Adds s.limit K p (c ∷ []) r s'
 unfolding insert_all
-adds_one limit K p c cells counts true cells' counts' h = h
-adds_one limit K p c cells counts false cells' counts' h = omega (arith, h.longer)
+adds_one K p c s (Ok u) s' h = h
+adds_one K p c s (Err e) s' h = omega (arith, h.longer)
 
-pub adds-more : (limit : ℕ) (K : Sections) (p : ℕ) (xs ys : List Cell) → p < length K → (r : Bool) (cells counts : List ℕ)
-    → Adds limit (adding K p xs) p ys r cells counts → Adds limit K p (xs ++ ys) r cells counts
-adds-more limit K p xs ys l true cells counts h = subst (Holds limit cells counts) (adding-append K p xs ys l) h
-adds-more limit K p xs ys l false cells counts h =
+pub adds-more : (limit : ℕ) (K : Sections) (p : ℕ) (xs ys : List Cell) → p < length K → (r : Result (Unit {0}) Full) (s : CellSet)
+    → Adds limit (adding K p xs) p ys r s → Adds limit K p (xs ++ ys) r s
+adds-more limit K p xs ys l (Ok u) s h = subst (Holds s) (adding-append K p xs ys l) h
+adds-more limit K p xs ys l (Err e) s h =
     omega (
       arith,
       ap (λ (t : List Cell). length (insert_all precedes t ys)) (section-adding-same K p xs l),

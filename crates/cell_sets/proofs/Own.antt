@@ -1,14 +1,13 @@
 -- A list of cells collected one after another.
---     holds-none     a slice with counts of 0 holds the cells of the empty list
+--     holds-none     a set with counts of 0 holds the cells of the empty list
 --     adding-own     the cells of a list with one cell more
 use mathlib.Core.Path.{◌≡◌, refl, sym, ap, ◌∙◌}
 use mathlib.Core.List.{List, [], ◌∷◌, ◌++◌}
 use Prim.Native.Nat.{ℕ, suc, ◌*◌, ◌≤◌}
 use native.Mathlib.Decide.{ℕ_discrete}
 use native.Mathlib.Omega.{arith}
-use lib.ListN.{length, replicate, get_or-replicate}
+use lib.ListN.{length, get_or, replicate, get_or-replicate}
 use lib.Seq.{ext_get_or}
-use Rattle.limits.specs.Limits.{library_limit}
 use Rattle.lists.proofs.TabulateLaws.{length-tabulate}
 use Rattle.complexes.specs.Cell.{Cell, precedes}
 use Rattle.complexes.specs.Complex.{section}
@@ -17,26 +16,26 @@ use Rattle.closures.specs.Closure.{element_top, of_dimension, own_section, own_s
 use Rattle.closures.proofs.SectionLaws.{own_section-snoc, own_section-skip}
 use Rattle.closures.proofs.ClosureLaws.{own_sections-section}
 use Rattle.cell_sets.specs.Set.{HoldsSection, Holds, adding}
+use Rattle.cell_sets.specs.declared.set.CellSet.{CellSet}
 use Rattle.cell_sets.proofs.Adding.{length-adding, section-adding-same, section-adding-other}
 
 length-own : (cs : List Cell) → length (own_sections element_top cs) ≡ suc element_top
 unfolding own_sections
 length-own cs = length-tabulate (suc element_top) (own_section cs)
 
-pub holds-none : (limit : ℕ) (cells : List ℕ) → limit ≤ library_limit → suc element_top * limit ≤ length cells
-    → Holds limit cells (replicate (suc element_top) 0) (own_sections element_top [])
+pub holds-none : (s : CellSet) → suc element_top * s.limit ≤ length s.words → s.counts ≡ replicate (suc element_top) 0
+    → Holds s (own_sections element_top [])
 unfolding of_dimension insert_all
-holds-none limit cells small room = record {
-  small = small;
+holds-none s room e = record {
   room = room;
-  sized = refl;
+  sized = ap length e;
   dimensions = length-own [];
   sections = λ p h. rw (own_sections-section element_top [] p h) (none p h);
 }
   where
-    none : (p : ℕ) → p ≤ element_top → HoldsSection limit cells (replicate (suc element_top) 0) p []
+    none : (p : ℕ) → p ≤ element_top → HoldsSection s p []
     none p h = record {
-      counted = get_or-replicate (suc element_top) p 0 0 (omega arith);
+      counted = ap (λ (l : List ℕ). get_or l p 0) e ∙ get_or-replicate (suc element_top) p 0 0 (omega arith);
       within = omega arith;
       words = refl;
       rising = λ i l. absurd (omega arith);

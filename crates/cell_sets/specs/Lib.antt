@@ -1,4 +1,5 @@
--- What the contracts of src/ cite, a file for each of its modules.
+-- What the contracts of src/ cite.
+pub mod Words
 pub mod Insert
 pub mod Set
 pub mod Vertices

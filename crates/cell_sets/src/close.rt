@@ -1,63 +1,46 @@
 // The faces of the cells are added, those of the highest dimension first.
-ghost use Rattle.std.specs.Prelude.{suc, ◌<◌};
+ghost use Rattle.std.specs.Prelude.{◌≡◌, ◌<◌};
 ghost use Rattle.closures.specs.Closure.{element_top};
-ghost use Rattle.cell_sets.specs.Set.{Held};
-ghost use Rattle.cell_sets.specs.Close.{IsPacked, HeldOwn, AddsFaces, ClosesSection, ClosesCells};
+ghost use Rattle.cell_sets.specs.Close.{AddsFaces, ClosesSection, Closes};
 
-use crate::set::{ELEMENT_TOP, SECTIONS, add_cell};
+use crate::insert::Full;
+use crate::set::{CellSet, ELEMENT_TOP};
 use cells::word::leave_out;
 
-// Adds the faces of the cell of dimension p + 1 with this word, and tells whether they fit.
-fn add_faces(
-    cells: &mut [u64],
-    counts: &mut [usize; SECTIONS],
-    limit: usize,
-    p: usize,
-    word: u64,
-) -> bool
-    requires { (p < element_top) × Held limit cells.old counts.old × IsPacked (suc (suc p)) word }
-    ensures { AddsFaces limit p word cells.old counts.old result cells.new counts.new }
-{
-    let mut j: usize = 0;
-    while j < p + 2 {
-        let face = leave_out(word, p + 1 - j);
-        if !add_cell(cells, counts, limit, p, face) {
-            return false;
+impl CellSet {
+    // Adds the faces of the cell of dimension p + 1 with this word.
+    fn add_faces(&mut self, p: usize, word: u64) -> Result<(), Full>
+        requires { p < element_top }
+        ensures limit { self.new.limit ≡ self.old.limit }
+        ensures adds { AddsFaces p word self.old result self.new }
+    {
+        for behind in (0..p + 2).rev() {
+            self.add(p, leave_out(word, behind))?;
         }
-        j = j + 1;
+        Ok(())
     }
-    true
-}
 
-// Adds the faces of all cells of dimension p + 1, and tells whether they fit.
-fn close_section(cells: &mut [u64], counts: &mut [usize; SECTIONS], limit: usize, p: usize) -> bool
-    requires { (p < element_top) × Held limit cells.old counts.old }
-    ensures { ClosesSection limit p cells.old counts.old result cells.new counts.new }
-{
-    let many = counts[p + 1];
-    let from = (p + 1) * limit;
-    let mut i: usize = 0;
-    while i < many {
-        let word = cells[from + i];
-        if !add_faces(cells, counts, limit, p, word) {
-            return false;
+    // Adds the faces of all cells of dimension p + 1.
+    fn close_section(&mut self, p: usize) -> Result<(), Full>
+        requires { p < element_top }
+        ensures limit { self.new.limit ≡ self.old.limit }
+        ensures closes { ClosesSection p self.old result self.new }
+    {
+        for i in 0..self.counts[p + 1] {
+            let word = self.words[(p + 1) * self.limit + i];
+            self.add_faces(p, word)?;
         }
-        i = i + 1;
+        Ok(())
     }
-    true
-}
 
-// Adds all faces of the cells, and tells whether they fit.
-pub fn close_cells(cells: &mut [u64], counts: &mut [usize; SECTIONS], limit: usize) -> bool
-    requires { HeldOwn limit cells.old counts.old }
-    ensures { ClosesCells limit cells.old counts.old result cells.new counts.new }
-{
-    let mut p: usize = ELEMENT_TOP;
-    while 0 < p {
-        p = p - 1;
-        if !close_section(cells, counts, limit, p) {
-            return false;
+    // Adds all faces of the cells.
+    pub fn close(&mut self) -> Result<(), Full>
+        ensures limit { self.new.limit ≡ self.old.limit }
+        ensures closes { Closes self.old result self.new }
+    {
+        for p in (0..ELEMENT_TOP).rev() {
+            self.close_section(p)?;
         }
+        Ok(())
     }
-    true
 }

@@ -15,8 +15,7 @@ use Rattle.complexes.specs.Cell.{Cell, precedes, listed}
 use Rattle.complexes.proofs.CellLaws.{listed-true, Listed-listed}
 use Rattle.complexes.proofs.OrderLaws.{precedes-irrefl, precedes-trans, ordered-precedes}
 use Rattle.cells.specs.Find.{Rising, Finds}
-use Rattle.cells.specs.declared.face.Found.{Found}
-use Rattle.cells.specs.declared.face.Found.TheVariants.{At, Nothing}
+use Rattle.std.specs.Prelude.{Option, Some, None}
 
 -- the cells before lo stand before c, and those from hi on stand after it
 pub record Bracket (c : Cell) (l : List Cell) (many lo hi : ℕ) : Type 0 where
@@ -62,13 +61,13 @@ module _ {c : Cell} {l : List Cell} {many lo hi : ℕ} (sized : length l ≡ man
       go (no ge) = precedes-irrefl c (rw e at (b.above i (omega arith) (omega arith)))
 
 -- whether a place was found
-abbrev pub is_at : Found → Bool
-is_at (At i) = true
-is_at Nothing = false
+abbrev pub is_at : Option ℕ → Bool
+is_at (Some i) = true
+is_at None = false
 
-pub finds-listed : (c : Cell) (l : List Cell) (r : Found) → Finds c l r → is_at r ≡ listed c l
-finds-listed c l (At i) h = sym (Listed-listed (record { place = i; below = h.0; is = h.1 }))
-finds-listed c l Nothing h = go (listed c l) refl
+pub finds-listed : (c : Cell) (l : List Cell) (r : Option ℕ) → Finds c l r → is_at r ≡ listed c l
+finds-listed c l (Some i) h = sym (Listed-listed (record { place = i; below = h.0; is = h.1 }))
+finds-listed c l None h = go (listed c l) refl
   where
     go : (b : Bool) → listed c l ≡ b → false ≡ b
     go true e = let w = listed-true c l e in absurd (h w.place w.below w.is)

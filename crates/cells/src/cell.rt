@@ -10,12 +10,5 @@ pub fn rises(s: &[u8], at: usize, n: usize) -> bool
     requires { (at < 2 ^ 32) × (n < 2 ^ 16) }
     ensures { result ≡ spec.rises (cell_of s.now n at) }
 {
-    let mut j: usize = 1;
-    while j < n {
-        if field(s, at + 2 * j) <= field(s, at + 2 * (j - 1)) {
-            return false;
-        }
-        j = j + 1;
-    }
-    true
+    (1..n).all(|j| field(s, at + 2 * (j - 1)) < field(s, at + 2 * j))
 }

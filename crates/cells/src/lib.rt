@@ -3,4 +3,5 @@
 
 pub mod cell;
 pub mod face;
+pub mod section;
 pub mod word;

@@ -1,3 +1,2 @@
 -- What the contracts of src/ cite.
 pub mod Sums
-pub mod Check

@@ -20,19 +20,7 @@ const CELLS: usize = Sheet::LIBRARY_LIMIT;
 pub fn coefficient_exceeds(chain: &[i32], limit: u16) -> bool
     ensures { result ≡ coefficient_exceeds limit chain.now }
 {
-    let most = limit as i32;
-    let mut i: usize = 0;
-    while i < chain.len() {
-        let x = chain[i];
-        if x < -most {
-            return true;
-        }
-        if most < x {
-            return true;
-        }
-        i = i + 1;
-    }
-    false
+    chain.iter().any(|x| u32::from(limit) < x.unsigned_abs())
 }
 
 // Adds x times the boundary of cell j of section p + 1. The search for the faces of cell j starts at `places`, which become theirs.
@@ -45,18 +33,14 @@ fn add_faces(
     places: &mut [usize; FACES],
 )
     requires accepted { Accepted s.now }
-    requires p_lt_top { (p < top) × (j < count (sections_of s.now) (suc p)) × (length places.old ≡ suc top) }
+    requires p_lt_top { (p < top) × (j < count (sections_of s.now) (suc p)) }
     requires x_bound { nat_abs x ≤ coefficient_limit }
     requires sums { Sums (sections_of s.now) p sums.old }
-    ensures adds_faces { AddsFaces (sections_of s.now) p j x sums.old sums.new }
-    ensures places_len { length places.new ≡ suc top }
+    ensures { AddsFaces (sections_of s.now) p j x sums.old sums.new }
 {
     face_places(s, p, j, places);
-    let mut t: usize = 0;
-    while t < p + 2 {
-        let i = places[t];
-        sums[i] = sums[i] + x * sign(t);
-        t = t + 1;
+    for (t, &i) in places[..p + 2].iter().enumerate() {
+        sums[i] += x * sign(t);
     }
 }
 
@@ -72,21 +56,11 @@ pub fn boundary_not_zero(s: &[u8], p: usize, chain: &[i32]) -> bool
     }
     let mut sums = [0i64; CELLS];
     let mut places = [0usize; FACES];
-    let mut j: usize = 0;
-    while j < chain.len() {
-        let x = chain[j] as i64;
+    for (j, &x) in chain.iter().enumerate() {
         if x != 0 {
-            add_faces(s, p - 1, j, x, &mut sums, &mut places);
+            add_faces(s, p - 1, j, i64::from(x), &mut sums, &mut places);
         }
-        j = j + 1;
     }
     let rows = count(s, p - 1);
-    let mut row: usize = 0;
-    while row < rows {
-        if sums[row] != 0 {
-            return true;
-        }
-        row = row + 1;
-    }
-    false
+    sums[..rows].iter().any(|sum| *sum != 0)
 }

@@ -6,52 +6,27 @@ ghost use Rattle.trials.specs.Trial.{first_refusal};
 ghost use Rattle.sheet_format.specs.Check.{sections_of};
 ghost use Rattle.requests.specs.Chains.{cycle_checks, cycles_checks};
 ghost use Rattle.requests.specs.Chains.{nonempty};
-ghost use Rattle.limits.specs.Limits.{coefficient_limit, surface_coefficient_limit};
+ghost use Rattle.limits.specs.Limits.{coefficient_limit};
 ghost use Rattle.faces.specs.Face.{Accepted};
-ghost use Rattle.chain_checks.specs.Check.{check_number};
+ghost use Rattle.refusal.specs.Told.{told};
 
 use crate::chain::{boundary_not_zero, coefficient_exceeds};
 use refusal::Refusal;
 use sheet::reader::Sheet;
 
-// Every check passed, or one applies.
-#[derive(Clone, Copy)]
-pub enum Check {
-    Passed,
-    Refused(Refusal),
-}
-
-// The first of 11 and 12 that applies to the chain at a coefficient limit.
-fn check_within(s: &[u8], p: usize, limit: u16, chain: &[i32]) -> Check
+// Refuses the chain at a coefficient limit: the first of 11 and 12 that applies.
+pub fn check_within(s: &[u8], p: usize, limit: u16, chain: &[i32]) -> Result<(), Refusal>
     requires accepted { Accepted s.now }
     requires p_le_top { (p ≤ top) × (length chain.now ≡ count (sections_of s.now) p) × (limit ≤ coefficient_limit) }
-    ensures { first_refusal (cycle_checks limit (sections_of s.now) p chain.now) ≡ check_number result }
+    ensures { first_refusal (cycle_checks limit (sections_of s.now) p chain.now) ≡ told result }
 {
     if coefficient_exceeds(chain, limit) {
-        return Check::Refused(Refusal::CoefficientExceedsLimit);
+        return Err(Refusal::CoefficientExceedsLimit);
     }
     if boundary_not_zero(s, p, chain) {
-        return Check::Refused(Refusal::BoundaryNotZero);
+        return Err(Refusal::BoundaryNotZero);
     }
-    Check::Passed
-}
-
-// The first of 11 and 12 that applies to the chain.
-pub fn check_chain(s: &[u8], p: usize, chain: &[i32]) -> Check
-    requires accepted { Accepted s.now }
-    requires p_le_top { (p ≤ top) × (length chain.now ≡ count (sections_of s.now) p) }
-    ensures { first_refusal (cycle_checks coefficient_limit (sections_of s.now) p chain.now) ≡ check_number result }
-{
-    check_within(s, p, Sheet::COEFFICIENT_LIMIT, chain)
-}
-
-// The first of 11 and 12 that applies to the chain in the surface call.
-pub fn check_surface_chain(s: &[u8], p: usize, chain: &[i32]) -> Check
-    requires accepted { Accepted s.now }
-    requires p_le_top { (p ≤ top) × (length chain.now ≡ count (sections_of s.now) p) }
-    ensures { first_refusal (cycle_checks surface_coefficient_limit (sections_of s.now) p chain.now) ≡ check_number result }
-{
-    check_within(s, p, Sheet::SURFACE_COEFFICIENT_LIMIT, chain)
+    Ok(())
 }
 
 // How many of the `many` chains have coefficients: none where there are no cells.
@@ -61,19 +36,21 @@ pub fn nonempty(many: usize, cells: usize) -> usize
     if cells == 0 { 0 } else { many }
 }
 
-// The first of 11 and 12 that applies to the first faulty of the `many` chains.
-pub fn check_chains(s: &[u8], p: usize, cells: usize, many: usize, chains: &[i32]) -> Check
+// Refuses the `many` chains: the first of 11 and 12 that applies to the first faulty one.
+pub fn check_chains(
+    s: &[u8],
+    p: usize,
+    cells: usize,
+    many: usize,
+    chains: &[i32],
+) -> Result<(), Refusal>
     requires accepted { Accepted s.now }
     requires p_le_top { (p ≤ top) × (cells ≡ count (sections_of s.now) p) × (length chains.now ≡ many * cells) }
-    ensures { first_refusal (cycles_checks coefficient_limit (sections_of s.now) p many chains.now) ≡ check_number result }
+    ensures { first_refusal (cycles_checks coefficient_limit (sections_of s.now) p many chains.now) ≡ told result }
 {
-    let mut i: usize = 0;
-    while i < many {
+    for i in 0..many {
         let at = i * cells;
-        if let Check::Refused(refusal) = check_chain(s, p, &chains[at..at + cells]) {
-            return Check::Refused(refusal);
-        }
-        i = i + 1;
+        check_within(s, p, Sheet::COEFFICIENT_LIMIT, &chains[at..at + cells])?;
     }
-    Check::Passed
+    Ok(())
 }

@@ -1,66 +1,48 @@
--- The checks 5, 6 and 7 over section p, as the code tries them on the section's bytes: fails-section, faces-section.
+-- The checks 5, 6 and 7 over section p, as the code tries them on the section's bytes: vertices-fall, cells-fall, faces-miss.
 -- In a sheet that passes check 6 every section rises: rising-section.
-use mathlib.Core.Path.{◌≡◌, refl, sym, ap, ap₂, ◌∙◌}
-use mathlib.Core.Bool.{false, not}
+use mathlib.Core.Path.{◌≡◌, sym, ap, ap₂, ◌∙◌}
+use mathlib.Core.Bool.{Bool, false, not}
 use mathlib.Core.List.{List}
-use Prim.Native.Nat.{ℕ, suc, pred, ◌+◌, ◌*◌, ◌≤◌, ◌<◌}
-use native.Mathlib.Nat.{mul-suc}
-use native.Mathlib.Numerals.{sub-one}
+use Prim.Native.Nat.{ℕ, suc, pred, ◌+◌, ◌<◌}
+use native.Mathlib.Numerals.{add-one, sub-one}
 use native.Mathlib.Omega.{arith}
 use borrow.Author.Tests.{not-false}
 use Rattle.complexes.specs.Cell.{Cell, without, rises, precedes, listed}
 use Rattle.complexes.specs.Complex.{section, count, cell}
 use Rattle.sheet_format.specs.Layout.{top}
-use Rattle.sheet_format.specs.Check.{count_field, start_at, cell_of, cells_of, sections_of, some, vertices_do_not_rise, cells_do_not_rise}
+use Rattle.sheet_format.specs.Check.{sections_of, some, cells_do_not_rise}
 use Rattle.sheet_format.specs.CheckLaws.{some-ext, some-false}
 use Rattle.sheet_format.specs.SheetLaws.{section-sections_of, count-sections_of, cell-sections_of}
 use Rattle.cells.specs.Find.{Rising}
-use Rattle.checks.specs.Rise.{tested, fails, some_fails, do_not_rise}
-use Rattle.checks.specs.declared.rise.Rise.{Rise}
-use Rattle.checks.specs.declared.rise.Rise.TheVariants.{Vertices, Cells}
+use Rattle.cells.specs.Section.{IsSection, cell_in, cells_in}
+use Rattle.cells.specs.declared.section.Section.{Section}
 
--- the cells tested are among those of the section
-pub tested_le : (rise : Rise) (many : ℕ) → tested rise many ≤ many
-tested_le Vertices many = omega arith
-tested_le Cells many = omega (arith, sub-one many)
+module _ {b : List ℕ} {p : ℕ} {S : Section} (s : IsSection b p S) where
+  many-count : S.many ≡ count (sections_of b) p
+  many-count = s.counted ∙ sym (count-sections_of b p)
 
--- the byte of the next cell
-pub next-cell : (at n i : ℕ) → at + 2 * (n * i) + 2 * n ≡ at + 2 * (n * suc i)
-next-cell at n i = omega (arith, mul-suc n i)
+  cell-is : (i : ℕ) → i < S.many → cell_in b S i ≡ cell (sections_of b) p i
+  cell-is i l = rw (s.starts, s.sized) (sym (cell-sections_of b p i s.inside (omega (arith, s.counted))))
 
--- section p has `many` cells of n vertices from byte `at` on
-pub record Section (b : List ℕ) (p at n many : ℕ) : Type 0 where
-  pub inside : p ≤ top
-  pub starts : at ≡ start_at b p
-  pub vertices : n ≡ suc p
-  pub cells : many ≡ count_field b p
+  section-is : cells_in b S ≡ section (sections_of b) p
+  section-is = rw (s.starts, s.sized, s.counted) (sym (section-sections_of b p s.inside))
 
-module _ {b : List ℕ} {p at n many : ℕ} (s : Section b p at n many) where
-  many-count : many ≡ count (sections_of b) p
-  many-count = s.cells ∙ sym (count-sections_of b p)
-
-  cell-is : (i : ℕ) → i < many → cell_of b n (at + 2 * (n * i)) ≡ cell (sections_of b) p i
-  cell-is i l = rw (s.starts, s.vertices) (sym (cell-sections_of b p i s.inside (omega (arith, s.cells))))
-
-  section-is : cells_of b n many at ≡ section (sections_of b) p
-  section-is = rw (s.starts, s.vertices, s.cells) (sym (section-sections_of b p s.inside))
-
-  pub fails-section : (rise : Rise) → some_fails rise (λ i. cell_of b n (at + 2 * (n * i))) many
-      ≡ some_fails rise (cell (sections_of b) p) (count (sections_of b) p)
-  fails-section rise =
+  pub vertices-fall : some S.many (λ i. not (rises (cell_in b S i))) ≡ some (count (sections_of b) p) (λ i. not (rises (cell (sections_of b) p i)))
+  vertices-fall =
       rw (← many-count)
-      (some-ext (tested rise many) (λ i. fails rise (cell_of b n (at + 2 * (n * i))) (cell_of b n (at + 2 * (n * suc i))))
-      (λ i. fails rise (cell (sections_of b) p i) (cell (sections_of b) p (suc i)))
-      (each rise))
-    where
-      each : (rise : Rise) (i : ℕ) → i < tested rise many
-          → fails rise (cell_of b n (at + 2 * (n * i))) (cell_of b n (at + 2 * (n * suc i)))
-          ≡ fails rise (cell (sections_of b) p i) (cell (sections_of b) p (suc i))
-      each Vertices i l = ap (λ (c : Cell). not (rises c)) (cell-is i l)
-      each Cells i l =
-          ap₂ (λ (c d : Cell). not (precedes c d)) (cell-is i (omega (arith, sub-one many))) (cell-is (suc i) (omega (arith, sub-one many)))
+      (some-ext S.many (λ i. not (rises (cell_in b S i))) (λ i. not (rises (cell (sections_of b) p i)))
+      (λ i l. ap (λ (c : Cell). not (rises c)) (cell-is i l)))
 
-  pub rising-section : cells_do_not_rise (sections_of b) ≡ false → Rising (cells_of b n many at)
+  pub cells-fall : some (pred S.many) (λ i. not (precedes (cell_in b S i) (cell_in b S (suc i))))
+      ≡ some (pred (count (sections_of b) p)) (λ i. not (precedes (cell (sections_of b) p i) (cell (sections_of b) p (suc i))))
+  cells-fall =
+      rw (← many-count)
+      (some-ext (pred S.many) (λ i. not (precedes (cell_in b S i) (cell_in b S (suc i))))
+      (λ i. not (precedes (cell (sections_of b) p i) (cell (sections_of b) p (suc i))))
+      (λ i l.
+      ap₂ (λ (c d : Cell). not (precedes c d)) (cell-is i (omega (arith, sub-one S.many))) (cell-is (suc i) (omega (arith, sub-one S.many)))))
+
+  pub rising-section : cells_do_not_rise (sections_of b) ≡ false → Rising (cells_in b S)
   unfolding cells_do_not_rise
   rising-section e =
       let K = sections_of b in
@@ -73,20 +55,17 @@ module _ {b : List ℕ} {p at n many : ℕ} (s : Section b p at n many) where
             (omega (arith, sub-one (count K p))));
       })
 
--- the cell of n + 1 vertices at `a + ..` is cell i of section p + 1, and its faces are looked for in section p
-pub faces-section : {b : List ℕ} {p a cells at n many : ℕ} → Section b (suc p) a (suc n) cells → Section b p at n many
-    → some cells (λ i. some (suc n) (λ j. not (listed (without j (cell_of b (suc n) (a + 2 * (suc n * i)))) (cells_of b n many at))))
-    ≡ some (count (sections_of b) (suc p)) (λ i. some (suc (suc p)) (λ j. not (listed (without j (cell (sections_of b) (suc p) i)) (section (sections_of b) p))))
-faces-section {b} {p} {a} {cells} {at} {n} {many} s t =
-    let K = sections_of b in
-    rw (← many-count s, section-is t, ← s.vertices)
-    (some-ext cells (λ i. some (suc n) (λ j. not (listed (without j (cell_of b (suc n) (a + 2 * (suc n * i)))) (section K p))))
-    (λ i. some (suc n) (λ j. not (listed (without j (cell K (suc p) i)) (section K p))))
-    (λ i l. ap (λ (c : Cell). some (suc n) (λ j. not (listed (without j c) (section K p)))) (cell-is s i l)))
+-- whether cell i of S misses a face among the cells of T
+abbrev pub Misses : List ℕ → Section → Section → ℕ → Bool
+Misses b S T i = some S.vertices (λ j. not (listed (without j (cell_in b S i)) (cells_in b T)))
 
--- check 5 or 6 section by section
-pub fails-sections : (rise : Rise) (b : List ℕ)
-    → some (suc top) (λ p. some_fails rise (cell (sections_of b) p) (count (sections_of b) p)) ≡ do_not_rise rise (sections_of b)
-unfolding vertices_do_not_rise cells_do_not_rise
-fails-sections Vertices b = refl
-fails-sections Cells b = refl
+-- the faces of the cells of section p + 1 are looked for in section p
+pub faces-miss : {b : List ℕ} {p : ℕ} {S T : Section} → IsSection b (p + 1) S → IsSection b p T → some S.many (Misses b S T)
+    ≡ some (count (sections_of b) (suc p)) (λ i. some (suc (suc p)) (λ j. not (listed (without j (cell (sections_of b) (suc p) i)) (section (sections_of b) p))))
+faces-miss {b} {p} {S} {T} s' t =
+    let K = sections_of b in
+    let s : IsSection b (suc p) S = rw (add-one p) at s' in
+    rw (← many-count s)
+    (some-ext S.many (Misses b S T) (λ i. some (suc (suc p)) (λ j. not (listed (without j (cell K (suc p) i)) (section K p))))
+    (λ i l. ap₂ (λ (n : ℕ) (l : List Cell). some n (λ j. not (listed (without j (cell_in b S i)) l))) s.sized (section-is t)
+    ∙ ap (λ (c : Cell). some (suc (suc p)) (λ j. not (listed (without j c) (section K p)))) (cell-is s i l)))

@@ -5,7 +5,6 @@
 ghost use Rattle.calls.specs.CallAnswers.{answered};
 ghost use Rattle.clients.specs.Used.{Gives, Numbers, ReportUsed, CoordinatesUsed, ListsUsed, SurfaceUsed, HostReportUsed, HostCoordinatesUsed, HostListsUsed, HostSurfaceUsed, HeadroomUsed, PrintUsed};
 
-use calls::answer::Answer;
 use fildwuk::{fildwuk_coordinate_lists, fildwuk_coordinates, fildwuk_report, fildwuk_surface};
 use library_host::{
     fildwuk_library_coordinate_lists, fildwuk_library_coordinates, fildwuk_library_headroom,
@@ -13,9 +12,16 @@ use library_host::{
 };
 use printer::print_input;
 use printer::room::{INPUT_ROOM, TEXT_ROOM};
+use refusal::Refusal;
+use writers::counts::Counts;
 
 // The library's report.
-pub fn use_report(sheet: &[u8], dimension: u32, report: &mut [i64], work: &mut [i32]) -> Answer
+pub fn use_report(
+    sheet: &[u8],
+    dimension: u32,
+    report: &mut [i64],
+    work: &mut [i32],
+) -> Result<Counts, Refusal>
     ensures { let left = report.new in
         let work-left = work.new in ReportUsed (Gives (answered result) left work-left) sheet.now dimension report.old work.old }
 {
@@ -29,7 +35,7 @@ pub fn use_coordinates(
     chain: &[i32],
     coordinates: &mut [i64],
     work: &mut [i32],
-) -> Answer
+) -> Result<Counts, Refusal>
     ensures { let left = coordinates.new in
         let work-left = work.new in CoordinatesUsed (Gives (answered result) left work-left) sheet.now dimension coordinates.old work.old chain.now }
 {
@@ -44,7 +50,7 @@ pub fn use_lists(
     chains: &[i32],
     coordinates: &mut [i64],
     work: &mut [i32],
-) -> Answer
+) -> Result<Counts, Refusal>
     ensures { let left = coordinates.new in
         let work-left = work.new in ListsUsed (Gives (answered result) left work-left) sheet.now dimension coordinates.old work.old many chains.now }
 {
@@ -58,7 +64,7 @@ pub fn use_surface(
     chain: &[i32],
     surface: &mut [i64],
     work: &mut [i32],
-) -> Answer
+) -> Result<Counts, Refusal>
     ensures { let left = surface.new in
         let work-left = work.new in SurfaceUsed (Gives (answered result) left work-left) sheet.now dimension surface.old work.old chain.now }
 {

@@ -8,13 +8,13 @@ use Prim.Native.Nat.{ℕ, ◌+◌, ◌<◌}
 use native.Mathlib.Nat as NatL
 use native.Mathlib.Omega.{arith}
 use lib.IntN.{ℤ, neg_ℤ, nat_abs, ◌-ℤ◌, ◌*ℤ◌}
+use Rattle.std.specs.Prelude.{Result, Ok, Err}
 use Rattle.matrices.specs.Matrix as theory
 use Rattle.integers.specs.Slot.{slot}
 use Rattle.matrix_lines.specs.Slice.{entry_limit, line_at, Bounded, OneOf, Off, difference, LineSet, Beyond, Subtracted, Negated, LinesSwapped}
 use Rattle.matrix_lines.specs.Matrices.{contents, Entries, EntryOf, Holds, Exceeds, Became}
 use Rattle.matrix_lines.specs.declared.matrix.Matrix.{Matrix}
-use Rattle.matrix_lines.specs.declared.line.Effect.{Effect}
-use Rattle.matrix_lines.specs.declared.line.Effect.TheVariants.{Done, TooWide}
+use Rattle.matrix_lines.specs.declared.line.TooWide.{TooWide}
 use Rattle.matrix_lines.proofs.Peaks.{covered_same, covered-trans}
 use Rattle.matrix_lines.proofs.Spans.{Span, On, on-or-off, span-at, span-off, span-outside}
 
@@ -97,16 +97,16 @@ module _ {M : Matrix} {w w' : List ℤ} {start i j n : ℕ} {line : ℕ → ℤ}
 
 pub subtracted-became : {M : Matrix} {target source i j k l n : ℕ} → Span M target i j n → Span M source k l n → (w w' : List ℤ) (q : ℤ)
     (A : theory.Matrix) → ((t : ℕ) → t < n → A i (j + t) ≡ contents M w i (j + t) -ℤ q *ℤ contents M w k (l + t)) → SameOff M w i j n A
-    → (among : Entries) → ((t : ℕ) → among i t) → (before : ℕ) (r : Effect) → Subtracted w target source n q before r w'
+    → (among : Entries) → ((t : ℕ) → among i t) → (before : ℕ) (r : Result ℕ TooWide) → Subtracted w target source n q before r w'
     → Became M w among A before r w'
 subtracted-became {M} {target} {source} {i} {j} {k} {l} {n} s u w w' q A on same among all before = by_result
   where
     on' : (t : ℕ) → t < n → A i (j + t) ≡ difference w target source q t
     on' t h = rw (span-at s w t, span-at u w t) (on t h)
 
-    by_result : (r : Effect) → Subtracted w target source n q before r w' → Became M w among A before r w'
-    by_result (Done x) h = line_set-holds s A on' h same all
-    by_result TooWide h = beyond-exceeds s A on' h
+    by_result : (r : Result ℕ TooWide) → Subtracted w target source n q before r w' → Became M w among A before r w'
+    by_result (Ok x) h = line_set-holds s A on' h same all
+    by_result (Err e) h = beyond-exceeds s A on' h
 
 pub negated-holds : {M : Matrix} {target i j n : ℕ} → Span M target i j n → (w w' : List ℤ)
     (A : theory.Matrix) → ((t : ℕ) → t < n → A i (j + t) ≡ neg_ℤ (contents M w i (j + t))) → SameOff M w i j n A

@@ -9,6 +9,7 @@ use native.Mathlib.Omega.{arith}
 use native.Mathlib.Decide.{ℕ_discrete, dec_lt}
 use lib.ListN.{length}
 use lib.IntN.{ℤ, nat_abs}
+use Rattle.std.specs.Prelude.{Result, Ok, Err}
 use Rattle.integers.proofs.Ring.{mul-zero, add-zero}
 use Rattle.matrices.specs.Matrix.{transpose}
 use Rattle.matrices.specs.Matrix as theory
@@ -21,8 +22,7 @@ use Rattle.matrix_lines.specs.Slice as slice
 use Rattle.matrix_lines.specs.Matrices.{Held, contents, Off, Entries, EntryOf, Holds, Exceeds, places_of}
 use Rattle.elementary_operations.specs.Operations.{operation_of, Fits, Writes, OnLines, OnPlaces, AloneAt, Alone}
 use Rattle.matrix_lines.specs.declared.matrix.Matrix.{Matrix}
-use Rattle.matrix_lines.specs.declared.line.Effect.{Effect}
-use Rattle.matrix_lines.specs.declared.line.Effect.TheVariants.{Done, TooWide}
+use Rattle.matrix_lines.specs.declared.line.TooWide.{TooWide}
 use Rattle.elementary_operations.specs.declared.operation.Operation as code
 use Rattle.elementary_operations.specs.declared.operation.Operation.TheVariants.{Subtract}
 use Rattle.matrix_lines.proofs.Spans.{Span, line-span, span-inside, span-off, span-outside}
@@ -128,12 +128,12 @@ module _ (M : Matrix) (w : List ℤ) (j k : ℕ) (q : ℤ) (f : Within M.width (
       pick (no n) = on_rows-subtract-other j k q (transpose old) b a n
       pick (yes e) = rw e (on_rows-subtract-at j k q (transpose old) a ∙ rw (alone.zero a x d, mul-zero q, add-zero (old a j)))
 
-  subtract-places : (before : ℕ) (r : Effect) (w' : List ℤ) → OnLines (places_of M k) w (subtract j k q) before r w'
+  subtract-places : (before : ℕ) (r : Result ℕ TooWide) (w' : List ℤ) → OnLines (places_of M k) w (subtract j k q) before r w'
       → OnPlaces M w (subtract j k q) before r w'
-  subtract-places before (Done x) w' h =
+  subtract-places before (Ok x) w' h =
       line-holds M (subtract j k q) f w w k alone.line (λ b l. refl) (on_columns (subtract j k q) old) (λ b l. refl) h others
       (λ a b. Writes (subtract j k q) b) (λ b e. e)
-  subtract-places before TooWide w' h = line-exceeds M (subtract j k q) f w w k alone.line (λ b l. refl) (on_columns (subtract j k q) old) (λ b l. refl) h
+  subtract-places before (Err e) w' h = line-exceeds M (subtract j k q) f w w k alone.line (λ b l. refl) (on_columns (subtract j k q) old) (λ b l. refl) h
 
 -- ---- the places of line i as the code finds them, from `start` on
 
@@ -148,11 +148,11 @@ module _ (M : Matrix) (i start : ℕ) (is : start ≡ line_at M.at M.width i) wh
   place_inside h below j l = omega (arith, span-inside (place-span j l) (places-held M i below h))
 
   pub swapped-places : (w w' : List ℤ) (j k before x : ℕ) → (j < M.width) × (k < M.width) → LinesSwapped w (start + j) (start + k) 1 before x w'
-      → OnLines (places_of M i) w (swap j k) before (Done x) w'
+      → OnLines (places_of M i) w (swap j k) before (Ok x) w'
   swapped-places w w' j k before x l = swap-lines (place-span j l.0) (place-span k l.1) w w' before x
 
   pub negated-place : (w w' : List ℤ) (k before x : ℕ) → k < M.width → Negated w (start + k) 1 before x w'
-      → OnLines (places_of M i) w (negate k) before (Done x) w'
+      → OnLines (places_of M i) w (negate k) before (Ok x) w'
   negated-place w w' k before x l = negate-line (place-span k l) w w' before x
 
 -- the operation turned out to be a subtraction
@@ -160,7 +160,7 @@ module _ {op : code.Operation} {j k : ℕ} {q : ℤ} (e : op ≡ Subtract j k q)
   pub alone-line : AloneAt M w k
   alone-line = subst (λ (o : code.Operation). Alone M w (operation_of o)) e alone
 
-  pub subtract-became : Fits M.width (operation_of op) → (w' : List ℤ) (before : ℕ) (r : Effect)
+  pub subtract-became : Fits M.width (operation_of op) → (w' : List ℤ) (before : ℕ) (r : Result ℕ TooWide)
       → OnLines (places_of M k) w (operation_of op) before r w' → OnPlaces M w (operation_of op) before r w'
   subtract-became f w' before r h =
       subst (λ (o : code.Operation). OnPlaces M w (operation_of o) before r w') (sym e)
@@ -196,7 +196,7 @@ module _ (M : Matrix) (op : Operation) (f : Within M.width op) (w₀ w : List �
         ∙ sym (up_to-below (i + 1) new (contents M w₀) o.line o.place (omega (arith, o.chosen.0))));
   }
 
-  places-next : {y : ℕ} {w' : List ℤ} → OnLines (places_of M i) w op x (Done y) w'
+  places-next : {y : ℕ} {w' : List ℤ} → OnLines (places_of M i) w op x (Ok y) w'
       → Holds M w₀ (WritesBelow op (i + 1)) (up_to (i + 1) new (contents M w₀)) before y w'
   places-next h =
       holds-trans done
@@ -234,11 +234,11 @@ module _ {M : Matrix} {w₀ : List ℤ} {op : Operation} {before : ℕ} {w : Lis
   pub passed-held : Held (length w₀) M → Held (length w) M
   passed-held h = record { ends = omega (arith, h.ends, passed.so_far.same_length) }
 
-  pub one-passed : Within M.width op → i < M.lines → {y : ℕ} {w' : List ℤ} → OnLines (places_of M i) w op largest (Done y) w'
+  pub one-passed : Within M.width op → i < M.lines → {y : ℕ} {w' : List ℤ} → OnLines (places_of M i) w op largest (Ok y) w'
       → Passed M w₀ op before w' y (i + 1)
   one-passed f below h = record { below = omega arith; so_far = places-next M op f w₀ w i below passed.so_far h }
 
-  pub all-passed : M.lines ≤ i → OnPlaces M w₀ op before (Done largest) w
+  pub all-passed : M.lines ≤ i → OnPlaces M w₀ op before (Ok largest) w
   all-passed done = record {
     same_length = passed.so_far.same_length;
     on = record { at = λ a b x y. passed.so_far.on.at a b x y ∙ all a b x };

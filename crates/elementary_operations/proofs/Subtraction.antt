@@ -6,12 +6,13 @@ use Prim.Native.Nat.{ℕ, ◌+◌, ◌<◌, ◌≤◌}
 use lib.ListN.{length}
 use lib.IntN.{ℤ, nat_abs}
 use mir.Syntax.{w64}
+use Rattle.std.specs.Prelude.{Result}
 use Rattle.matrices.specs.Operation.{subtract}
 use Rattle.matrix_lines.specs.Slice.{entry_limit, line_at, Bounded, Apart, Subtracted}
 use Rattle.matrix_lines.specs.Matrices.{Held}
 use Rattle.elementary_operations.specs.Operations.{operation_of, Fits, OnLines}
 use Rattle.matrix_lines.specs.declared.matrix.Matrix.{Matrix}
-use Rattle.matrix_lines.specs.declared.line.Effect.{Effect}
+use Rattle.matrix_lines.specs.declared.line.TooWide.{TooWide}
 use Rattle.elementary_operations.specs.declared.operation.Operation.{Operation}
 use Rattle.elementary_operations.specs.declared.operation.Operation.TheVariants.{Subtract}
 use Rattle.machine_words.specs.Read.{read, read_wide}
@@ -51,7 +52,7 @@ module _ {op : Operation} {i k : ℕ} {q : ℤ} (e : op ≡ Subtract i k q) (M :
     )
 
     pub subtraction-came :
-        (w w' : List ℤ) (before : ℕ) (r : Effect) → Subtracted w a b M.width (read w64 q) before r w'
+        (w w' : List ℤ) (before : ℕ) (r : Result ℕ TooWide) → Subtracted w a b M.width (read w64 q) before r w'
         → OnLines M w (operation_of op) before r w'
     subtraction-came w w' before r h =
         became-case e M w w' before r

@@ -1,11 +1,11 @@
 -- The elementary operations of the code, and what a call of one asks.
-use Rattle.std.specs.Prelude.{◌≡◌, ◌⊎◌, ◌≢◌, List, ℕ, ◌<◌, ◌≤◌, ℤ, pos, nat_abs}
+use Rattle.std.specs.Prelude.{◌≡◌, ◌⊎◌, ◌≢◌, List, ℕ, ◌<◌, ◌≤◌, ℤ, pos, nat_abs, Result}
 use Rattle.matrices.specs.Operation as theory
 use Rattle.matrices.specs.Within.{Within}
 use Rattle.matrix_lines.specs.Slice.{entry_limit}
 use Rattle.matrix_lines.specs.Matrices.{contents, Became}
 use Rattle.matrix_lines.specs.declared.matrix.Matrix.{Matrix}
-use Rattle.matrix_lines.specs.declared.line.Effect.{Effect}
+use Rattle.matrix_lines.specs.declared.line.TooWide.{TooWide}
 use Rattle.elementary_operations.specs.declared.operation.Operation.{Operation}
 use Rattle.elementary_operations.specs.declared.operation.Operation.TheVariants.{Subtract, Swap, Negate}
 
@@ -28,10 +28,10 @@ Writes (theory.swap i k) a = (a ≡ i) ⊎ (a ≡ k)
 Writes (theory.negate k) a = a ≡ k
 
 -- what it answers and leaves where it is done to the lines of a matrix, and to the places of every line
-abbrev pub OnLines : Matrix → List ℤ → theory.Operation → ℕ → Effect → List ℤ → Type 0
+abbrev pub OnLines : Matrix → List ℤ → theory.Operation → ℕ → Result ℕ TooWide → List ℤ → Type 0
 OnLines M w op before r w' = Became M w (λ i j. Writes op i) (theory.on_rows op (contents M w)) before r w'
 
-abbrev pub OnPlaces : Matrix → List ℤ → theory.Operation → ℕ → Effect → List ℤ → Type 0
+abbrev pub OnPlaces : Matrix → List ℤ → theory.Operation → ℕ → Result ℕ TooWide → List ℤ → Type 0
 OnPlaces M w op before r w' = Became M w (λ i j. Writes op j) (theory.on_columns op (contents M w)) before r w'
 
 -- it is one of n lines or places

@@ -4,34 +4,29 @@ use mathlib.Core.Path.{◌≡◌, ap, ◌∙◌}
 use mathlib.Core.Bool.{Bool, false, not}
 use mathlib.Core.List.{List}
 use Prim.Native.Nat.{ℕ, suc, ◌+◌, ◌*◌, ◌≤◌, ◌<◌}
-use native.Mathlib.Nat.{mul-le-mul}
 use native.Mathlib.Omega.{arith}
 use borrow.Author.Tests.{not-false}
 use Rattle.complexes.specs.Cell.{without, listed}
 use Rattle.complexes.proofs.CellLaws.{Listed-listed}
 use Rattle.complexes.specs.Complex.{count, cell, section, Complex}
 use Rattle.sheet_format.specs.Layout.{top}
-use Rattle.sheet_format.specs.Check.{count_field, start_at, cell_of, cells_of, sections_of, some}
+use Rattle.sheet_format.specs.Check.{start_at, cell_of, sections_of, some}
 use Rattle.sheet_format.specs.CheckLaws.{some-false}
 use Rattle.sheet_format.specs.Sheet.{Bytes}
 use Rattle.sheet_format.proofs.Accept.{accepted-complex}
 use Rattle.sheet_format.specs.SheetLaws.{section-sections_of, count-sections_of, cell-sections_of}
 use Rattle.cells.specs.Find.{Rising, FindsFaces}
+use Rattle.cells.specs.Section.{IsSection, cells_in}
+use Rattle.cells.specs.declared.section.Section.{Section}
 use Rattle.limits.specs.Limits.{library_limit}
 use Rattle.faces.specs.Face.{Accepted, AreFaces}
 
--- a cell has at most suc top vertices
-pub few : (n i : ℕ) → n ≤ suc top → i ≤ library_limit → n * i ≤ suc top * library_limit
-few n i h k = mul-le-mul h k
-
--- cell j of section p + 1 starts at byte a, and its faces stand among the `many` cells of n vertices from byte `at` on
-pub record Looked (b : List ℕ) (p j a n at many : ℕ) : Type 0 where
+-- cell j of section p + 1 starts at byte a, and its faces stand in the section S
+pub record Looked (b : List ℕ) (p j a : ℕ) (S : Section) : Type 0 where
   pub inside : p < top
   pub below : j < count (sections_of b) (suc p)
   pub cell-starts : a ≡ start_at b (suc p) + 2 * (suc (suc p) * j)
-  pub vertices : n ≡ suc p
-  pub starts : at ≡ start_at b p
-  pub cells : many ≡ count_field b p
+  pub faces : IsSection b p S
 
 -- whether face t of cell j of section p + 1 is missing
 abbrev misses : List ℕ → ℕ → ℕ → ℕ → Bool
@@ -44,17 +39,17 @@ module _ {b : List ℕ} (bytes : Bytes b) (accepted : Accepted b) where
   pub count-le : (p : ℕ) → count (sections_of b) p ≤ library_limit
   count-le p = complex.within p
 
-  pub rising : {p j a n at many : ℕ} → Looked b p j a n at many → Rising (cells_of b n many at)
+  pub rising : {p j a : ℕ} {S : Section} → Looked b p j a S → Rising (cells_in b S)
   rising {p} l =
-      rw (l.vertices, l.cells, l.starts, ← section-sections_of b p (omega (arith, l.inside))) (record { next = complex.ordered p })
+      rw (l.faces.sized, l.faces.counted, l.faces.starts, ← section-sections_of b p (omega (arith, l.inside))) (record { next = complex.ordered p })
 
-  pub found : {p j a n at many : ℕ} → Looked b p j a n at many → (all : Bool) (places : List ℕ)
-      → FindsFaces n (cell_of b (suc n) a) (cells_of b n many at) all places → AreFaces b p j places
+  pub found : {p j a : ℕ} {S : Section} → Looked b p j a S → (all : Bool) (places : List ℕ)
+      → FindsFaces S.vertices (cell_of b (suc S.vertices) a) (cells_in b S) all places → AreFaces b p j places
   found {p} {j} look all places f =
       go (rw (
-        look.vertices,
-        look.cells,
-        look.starts,
+        look.faces.sized,
+        look.faces.counted,
+        look.faces.starts,
         look.cell-starts,
         ← section-sections_of b p (omega (arith, look.inside)),
         ← cell-sections_of b (suc p) j look.inside (rw (count-sections_of b (suc p)) at look.below),

@@ -1,5 +1,5 @@
 // The faces of a cell of an accepted sheet, by their places.
-ghost use Rattle.std.specs.Prelude.{◌≡◌, suc, ◌<◌, length};
+ghost use Rattle.std.specs.Prelude.{◌≡◌, suc, ◌<◌};
 ghost use Rattle.complexes.specs.Boundary as spec;
 ghost use Rattle.complexes.specs.Complex.{count};
 ghost use Rattle.sheet_format.specs.Layout.{top};
@@ -7,7 +7,7 @@ ghost use Rattle.sheet_format.specs.Check.{sections_of};
 ghost use Rattle.faces.specs.Face.{Accepted, AreFaces};
 
 use cells::face::{FACES, find_faces};
-use fields::field::{count, start};
+use cells::section::Section;
 
 // +1 for even t and -1 for odd t.
 pub fn sign(t: usize) -> i64
@@ -20,11 +20,10 @@ pub fn sign(t: usize) -> i64
 // for it.
 pub fn face_places(s: &[u8], p: usize, j: usize, places: &mut [usize; FACES])
     requires accepted { Accepted s.now }
-    requires p_lt_top { (p < top) × (j < count (sections_of s.now) (suc p)) × (length places.old ≡ suc top) }
+    requires p_lt_top { (p < top) × (j < count (sections_of s.now) (suc p)) }
     ensures { AreFaces s.now p j places.new }
 {
-    let at = start(s, p);
-    let many = count(s, p);
-    let next = at + 2 * ((p + 1) * many);
-    find_faces(s, next + 2 * ((p + 2) * j), at, p + 1, many, places);
+    let cells = Section::of(s, p + 1);
+    let faces = Section::of(s, p);
+    find_faces(s, cells.byte(j), faces, places);
 }

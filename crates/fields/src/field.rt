@@ -7,14 +7,17 @@ ghost use Rattle.fields.specs.Read.{ReadsBelow};
 // The highest dimension of a cell.
 pub const TOP: usize = 3;
 
+// The cells have the dimensions 0 to TOP.
+pub const DIMENSIONS: usize = TOP + 1;
+
 // The bytes of the header: a count and an offset for each dimension.
-pub const HEADER_LENGTH: usize = 4 * (TOP + 1);
+pub const HEADER_LENGTH: usize = 4 * DIMENSIONS;
 
 // The byte at i.
 pub fn byte(s: &[u8], i: usize) -> usize
     ensures { ReadsBelow 256 (get_or s.now i 0) result }
 {
-    if i < s.len() { s[i] as usize } else { 0 }
+    s.get(i).map_or(0, |byte| usize::from(*byte))
 }
 
 // The field at byte i, both of whose bytes lie within the slice.
@@ -22,18 +25,14 @@ pub fn field_within(s: &[u8], i: usize) -> usize
     requires { i + 1 < length s.now }
     ensures { ReadsBelow 65536 (field_at s.now i) result }
 {
-    s[i] as usize + 256 * s[i + 1] as usize
+    usize::from(u16::from_le_bytes([s[i], s[i + 1]]))
 }
 
 // The field at byte i: unsigned 16-bit, low byte first.
 pub fn field(s: &[u8], i: usize) -> usize
     ensures { ReadsBelow 65536 (field_at s.now i) result }
 {
-    let bytes = s.len();
-    if bytes < 2 {
-        return byte(s, i);
-    }
-    if i < bytes - 1 {
+    if i < s.len().saturating_sub(1) {
         field_within(s, i)
     } else {
         byte(s, i)
@@ -41,6 +40,7 @@ pub fn field(s: &[u8], i: usize) -> usize
 }
 
 // The count of dimension p, 0 outside the sheet's dimensions.
+#[tactic(auto, unfolding(sheet_format::specs::Check::count_field))]
 pub fn count(s: &[u8], p: usize) -> usize
     ensures { ReadsBelow 65536 (count_field s.now p) result }
 {
@@ -53,10 +53,8 @@ pub fn start(s: &[u8], p: usize) -> usize
     ensures { ReadsBelow (2 ^ 23) (start_at s.now p) result }
 {
     let mut at: usize = HEADER_LENGTH;
-    let mut q: usize = 0;
-    while q < p {
-        at = at + 2 * ((q + 1) * count(s, q));
-        q = q + 1;
+    for q in 0..p {
+        at += 2 * ((q + 1) * count(s, q));
     }
     at
 }

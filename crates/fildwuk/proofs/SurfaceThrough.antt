@@ -10,6 +10,7 @@ use native.Mathlib.Omega.{arith}
 use lib.ListN.{length, take, drop}
 use lib.Seq.{take-append-le}
 use lib.IntN.{ℤ}
+use Rattle.std.specs.Prelude.{Result, Ok, Err}
 use Rattle.lists.specs.Splice.{splice}
 use Rattle.lists.proofs.TabulateLaws.{length-tabulate}
 use Rattle.sheet_format.specs.Check.{count_field, refusal}
@@ -31,8 +32,6 @@ use Rattle.host_calls.proofs.HostChainsLaws.{chain_from-other}
 use Rattle.host_calls.proofs.HostCallLaws.{counts-within, refused-same, done-same, surface-early, host-stands}
 use Rattle.answers.proofs.CallRight.{answered}
 use Rattle.writers.specs.declared.counts.Counts.{Counts}
-use Rattle.calls.specs.declared.answer.Answer as library
-use Rattle.calls.specs.declared.answer.Answer.TheVariants.{Done, Refused}
 use Rattle.calls.specs.CallAnswers as calls
 use Rattle.calls.specs.CallAnswers.{CallAnswers}
 use Rattle.fildwuk.specs.HostAnswers.{HostAnswers}
@@ -40,7 +39,7 @@ use Rattle.fildwuk.proofs.Through.{Lent, slots, left, size}
 
 module _ (l : Lent host_limit (work_room_for (second_columns_only true))) (chain : List ℕ) (z : List ℤ)
     (given : (n : ℕ) → n ≤ host_limit → (z ≡ chain_from n chain) ⊎ ((length z ≢ n) × (length chain ≢ 4 * n)))
-    {r : library.Answer} {after work' : List ℤ} (a : CallAnswers (call l.limit l.question (surface z) (slots l) l.work) r after work') where
+    {r : Result Counts Refusal} {after work' : List ℤ} (a : CallAnswers (call l.limit l.question (surface z) (slots l) l.work) r after work') where
   abbrev called : Called reports.Counts ℤ
   called = call host_limit l.question (surface z) (slots l) l.work
 
@@ -48,7 +47,7 @@ module _ (l : Lent host_limit (work_room_for (second_columns_only true))) (chain
   called_is : called ≡ record { answer = calls.answered r; output = after; work = work' }
   called_is = ap (λ (n : ℕ). call n l.question (surface z) (slots l) l.work) (sym l.host) ∙ a.is
 
-  told : {x : library.Answer} → r ≡ x → called.answer ≡ calls.answered x
+  told : {x : Result Counts Refusal} → r ≡ x → called.answer ≡ calls.answered x
   told e = ap (λ (c : Called reports.Counts ℤ). c.answer) called_is ∙ ap calls.answered e
 
   -- on an accepted sheet what is given stands for the chain
@@ -65,14 +64,13 @@ module _ (l : Lent host_limit (work_room_for (second_columns_only true))) (chain
   host-is : {host : HostCalled} → host_call l.question (surface z) l.output ≡ host → host_call l.question (surface_in l.question chain) l.output ≡ host
   host-is e = sym (host-stands l.question z (chain_from (cell_count l.question) chain) stands l.output) ∙ e
 
-  pub surface-refuses : {x : Refusal} {n : ℕ} → r ≡ Refused x → n ≡ number_of x → HostAnswers (host_call l.question (surface_in l.question chain) l.output) n l.output
-  surface-refuses {x} e is = record {
+  pub surface-refuses : {x : Refusal} → r ≡ Err x → HostAnswers (host_call l.question (surface_in l.question chain) l.output) (number_of x) l.output
+  surface-refuses {x} e = record {
     is =
-        host-is (refused-same l.question (surface z) l.output (slots l) l.work (surface-early l.question z l.output (slots l) l.work (size l) l.space) (number_of x) (told e))
-        ∙ ap (λ (k : ℕ). record { number = k; output = l.output }) (sym is);
+        host-is (refused-same l.question (surface z) l.output (slots l) l.work (surface-early l.question z l.output (slots l) l.work (size l) l.space) (number_of x) (told e));
   }
 
-  module _ {x : Counts} (e : r ≡ Done x) {next : ℕ} (is : next ≡ count_field l.question.sheet (l.question.dimension + 1)) where
+  module _ {x : Counts} (e : r ≡ Ok x) {next : ℕ} (is : next ≡ count_field l.question.sheet (l.question.dimension + 1)) where
     next-is : next ≡ next_count l.question
     unfolding question.cells
     next-is = is ∙ ap (count_field l.question.sheet) (add-one l.question.dimension) ∙ sym (count-sections_of l.question.sheet (suc l.question.dimension))

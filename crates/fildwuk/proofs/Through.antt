@@ -7,6 +7,7 @@ use native.Mathlib.Omega.{arith}
 use lib.ListN.{length, get_or, take, drop, length-append}
 use lib.Seq.{take-append-le, length-take-le}
 use lib.IntN.{ℤ}
+use Rattle.std.specs.Prelude.{Result, Ok, Err}
 use Rattle.lists.specs.Splice.{splice}
 use Rattle.sheet_format.specs.Check.{count_field}
 use Rattle.sheet_format.specs.Sheet.{Bytes}
@@ -28,8 +29,6 @@ use Rattle.host_calls.specs.Host.{report_room, work_room}
 use Rattle.host_calls.proofs.HostCallLaws.{refused-same, done-same, report-early}
 use Rattle.answers.proofs.HostSizes.{ReportSized, report-sized}
 use Rattle.writers.specs.declared.counts.Counts.{Counts}
-use Rattle.calls.specs.declared.answer.Answer as library
-use Rattle.calls.specs.declared.answer.Answer.TheVariants.{Done, Refused}
 use Rattle.calls.specs.CallAnswers.{counts_in, answered, CallAnswers}
 use Rattle.fildwuk.specs.HostAnswers.{HostAnswers}
 
@@ -90,7 +89,7 @@ length_in q R = of_reduced 0 (λ s r x. length (report_list (cell_count q) s r x
 
 -- ---- the report
 
-module _ (l : Lent report_room work_room) {r : library.Answer} {after work' : List ℤ} (a : CallAnswers (call l.limit l.question report (slots l) l.work) r after work') where
+module _ (l : Lent report_room work_room) {r : Result Counts Refusal} {after work' : List ℤ} (a : CallAnswers (call l.limit l.question report (slots l) l.work) r after work') where
   abbrev called : Called reports.Counts ℤ
   called = call host_limit l.question report (slots l) l.work
 
@@ -98,17 +97,16 @@ module _ (l : Lent report_room work_room) {r : library.Answer} {after work' : Li
   called_is : called ≡ record { answer = answered r; output = after; work = work' }
   called_is = ap (λ (n : ℕ). call n l.question report (slots l) l.work) (sym l.host) ∙ a.is
 
-  told : {x : library.Answer} → r ≡ x → called.answer ≡ answered x
+  told : {x : Result Counts Refusal} → r ≡ x → called.answer ≡ answered x
   told e = ap (λ (c : Called reports.Counts ℤ). c.answer) called_is ∙ ap answered e
 
-  pub report-refuses : {x : Refusal} {n : ℕ} → r ≡ Refused x → n ≡ number_of x → HostAnswers (host_call l.question report l.output) n l.output
-  report-refuses {x} e is = record {
+  pub report-refuses : {x : Refusal} → r ≡ Err x → HostAnswers (host_call l.question report l.output) (number_of x) l.output
+  report-refuses {x} e = record {
     is =
-        refused-same l.question report l.output (slots l) l.work (report-early l.question l.output (slots l) l.work (size l) l.space) (number_of x) (told e)
-        ∙ ap (λ (k : ℕ). record { number = k; output = l.output }) (sym is);
+        refused-same l.question report l.output (slots l) l.work (report-early l.question l.output (slots l) l.work (size l) l.space) (number_of x) (told e);
   }
 
-  module _ {x : Counts} (e : r ≡ Done x) where
+  module _ {x : Counts} (e : r ≡ Ok x) where
     pub report-sizes : ReportSized l.question (length (slots l)) (counts_in x)
     report-sizes = report-sized l.question l.bytes (slots l) l.work (counts_in x) (told e)
 

@@ -1,10 +1,10 @@
 -- What the imports answer and leave on texts and slices written out: a sheet and the bytes past it, and each refusal.
-use Rattle.std.specs.Prelude.{◌≡◌, List, [], ◌∷◌, ℕ}
+use Rattle.std.specs.Prelude.{◌≡◌, List, [], ◌∷◌, ℕ, Result}
 use Rattle.trials.specs.Trial.{done, number_told}
 use Rattle.sweeps.specs.Cases.{lent}
 use Rattle.imports.specs.Examples.{hollow, filled_and_point, twice, faulty_then_malformed}
 use Rattle.refusal.specs.Written.{answered}
-use Rattle.refusal.specs.declared.written.Written.{Written}
+use Rattle.refusal.specs.declared.Refusal.{Refusal}
 
 -- the sheet of the hollow triangle, 34 bytes, and 6 of the 40 bytes lent
 abbrev pub hollow_left : List ℕ
@@ -36,7 +36,7 @@ pub record Used (text before : List ℕ) (number : ℕ) (after : List ℕ) : Typ
   pub short : text ≡ hollow → before ≡ lent 33 → Told number 16 after before
 
 -- the library's import, with the length that it answers
-pub record LibraryUsed (text before : List ℕ) (r : Written) (after : List ℕ) : Type 0 where
+pub record LibraryUsed (text before : List ℕ) (r : Result ℕ Refusal) (after : List ℕ) : Type 0 where
   pub length-told : text ≡ hollow → before ≡ lent 40 → answered r ≡ done 34
   pub swept-length : text ≡ filled_and_point → before ≡ lent 42 → answered r ≡ done 40
   pub used : Used text before (number_told (answered r)) after

@@ -6,10 +6,10 @@ ghost use Rattle.import_client.specs.Used.{Used, LibraryUsed};
 use fildwuk::fildwuk_import;
 use importer::import::import;
 use library_host::fildwuk_library_import;
-use refusal::written::Written;
+use refusal::Refusal;
 
 // The library's import.
-pub fn import_library(text: &[u8], sheet: &mut [u8]) -> Written
+pub fn import_library(text: &[u8], sheet: &mut [u8]) -> Result<usize, Refusal>
     ensures { LibraryUsed text.now sheet.old result sheet.new }
 {
     import(text, sheet)

@@ -1,32 +1,34 @@
--- Where a reading ended, from what was answered.
---     end-malformed, end-to     the reading that `tell_end` tells
---     end-then                  what is read behind it without a value of its own
+-- Where a reading ended, whatever was read.
+--     skipped        what was read is left aside
+--     skip-then      what is read behind it without a value of its own
+--     none-read, read-to       the reading, from the answer
 use mathlib.Core.Path.{◌≡◌, refl, ap}
 use Prim.Native.Nat.{ℕ}
-use native.Mathlib.Omega.{arith}
+use Rattle.std.specs.Prelude.{Some, None}
 use Rattle.mesh_format.specs.Parse.{Parsed, malformed, parsed, then}
+use Rattle.mesh_words.specs.Steps.{skip}
 use Rattle.mesh_words.specs.Tells.{tell_skipped}
-use Rattle.mesh_words.specs.declared.answer.Cursor.{Cursor}
-use Rattle.mesh_words.specs.declared.answer.Skipped.{Skipped}
-use Rattle.mesh_words.specs.declared.answer.Skipped.TheVariants.{Malformed, To}
-use Rattle.importer.specs.Nodes.{tell_end}
+use Rattle.mesh_words.specs.declared.reader.Reader.{Reader}
+use Rattle.mesh_words.proofs.Steps.{unskip, skip-missing}
+use Rattle.mesh_words.proofs.Told.{Moved, skipped-none, skipped-moved}
 
-pub end-malformed : {A : Type 0} {r : Skipped} {p : Parsed A} → r ≡ tell_end p → r ≡ Malformed → p ≡ malformed
-unfolding tell_end
-end-malformed {p = malformed} h e = refl
-end-malformed {p = parsed x at} h e = absurd (let z : ◌≡◌ {A = ℕ} 0 1 = cc in omega arith)
+pub skipped : {A : Type 0} {p : Parsed A} {x : A} {at : ℕ} → p ≡ parsed x at → skip p ≡ parsed tt at
+unfolding skip then
+skipped e = ap skip e
 
--- something was read up to the position
-pub record ReadTo {A : Type 0} (p : Parsed A) (at : ℕ) : Type 0 where
+pub skip-then : {A : Type 0} (p : Parsed Unit) (x : A) → skip (then p (λ _ at. parsed x at)) ≡ p
+unfolding skip then
+skip-then malformed x = refl
+skip-then (parsed tt at) x = refl
+
+pub none-read : {A : Type 0} (r : Reader) {p : Parsed A} → None ≡ tell_skipped r (skip p) → p ≡ malformed
+none-read r {p} h = skip-missing p (skipped-none r h)
+
+-- something was read from r on, up to where q stands
+pub record ReadTo {A : Type 0} (p : Parsed A) (r q : Reader) : Type 0 where
   pub read : A
-  pub is : p ≡ parsed read at
+  pub moves : Moved p read r q
 
-pub end-to : {A : Type 0} {r : Skipped} {p : Parsed A} {c : Cursor} → r ≡ tell_end p → r ≡ To c → ReadTo p c.at
-unfolding tell_end
-end-to {p = malformed} h e = absurd (let z : ◌≡◌ {A = ℕ} 0 1 = cc in omega arith)
-end-to {p = parsed x at} {c = c} h e = let q : record { at = at } ≡ c = cc in record { read = x; is = ap (λ (k : Cursor). parsed x k.at) q }
-
-pub end-then : {A : Type 0} (p : Parsed Unit) (x : A) → tell_skipped p ≡ tell_end (then p (λ _ at. parsed x at))
-unfolding tell_skipped tell_end then
-end-then malformed x = refl
-end-then (parsed _ at) x = refl
+pub read-to : {A : Type 0} (r : Reader) {p : Parsed A} {q : Reader} → Some q ≡ tell_skipped r (skip p) → ReadTo p r q
+read-to r {p} h =
+    let m = skipped-moved r h in let k = unskip p m.is in record { read = k.read; moves = record { is = k.is; same = m.same } }

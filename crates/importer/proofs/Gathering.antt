@@ -1,14 +1,16 @@
 -- One element more among those whose cells are gathered.
 --     adds-faulty                             it is faulty
 --     adds-cell, adds_none                    it is right, and its cell fits or is one too many
---     adds-after-faulty, adds-after-full      it is right, but an earlier one was faulty, or there were too many cells already
---     Gathering, ready                        what a loop over the lines of the elements keeps
+--     adds-after                              it is right, but one before was refused
+--     Gathering                               what a loop over the lines of the elements keeps
 use mathlib.Core.Path.{◌≡◌, refl, sym, ap, ◌∙◌, subst}
-use mathlib.Core.Bool.{Bool, true, false, not, ◌&&◌, and-true, and-false, and_assoc}
+use mathlib.Core.Bool.{Bool, not, ◌&&◌, and-true, and-false, and_assoc}
 use mathlib.Core.List.{List, [], ◌∷◌, ◌++◌, map}
 use Prim.Native.Nat.{ℕ, suc, ◌≤◌}
 use native.Mathlib.Omega.{arith}
 use lib.ListN.{length}
+use Rattle.std.specs.Prelude.{Ok, Err}
+use Rattle.std.proofs.Common.{inl, inr}
 use Rattle.lists.specs.Same.{every}
 use Rattle.complexes.specs.Cell as cell
 use Rattle.complexes.specs.Complex.{section}
@@ -19,6 +21,8 @@ use Rattle.closures.proofs.ClosureLaws.{own_sections-section}
 use Rattle.cells.specs.Word.{Packs}
 use Rattle.cell_sets.specs.Set.{Holds, adding, AddsCell}
 use Rattle.cell_sets.specs.Close.{Exceeds}
+use Rattle.cell_sets.specs.declared.insert.Full.{Full}
+use Rattle.cell_sets.specs.declared.set.CellSet.{CellSet}
 use Rattle.cell_sets.proofs.Own.{adding-own}
 use Rattle.mesh_format.specs.Mesh.{Element}
 use Rattle.mesh_format.specs.Parse.{element_lines}
@@ -29,10 +33,9 @@ use Rattle.complexes.specs.Packed.{Numbered}
 use Rattle.mesh_lines.specs.declared.answer.Element as answer
 use Rattle.mesh_lines.specs.Tells.{TellsElement}
 use Rattle.mesh_elements.specs.Element.{Checks}
-use Rattle.mesh_elements.specs.declared.element.Checked.TheVariants.{Cell, Refused}
-use Rattle.importer.specs.Gather.{own_cells, Gathers, Ready, AddsElement}
-use Rattle.importer.specs.declared.gather.Outcome.{Outcome}
-use Rattle.importer.specs.declared.gather.Outcome.TheVariants.{Gathered, Faulty, TooMany}
+use Rattle.mesh_words.specs.declared.reader.Reader.{Reader}
+use Rattle.refusal.specs.Number.{number_of}
+use Rattle.importer.specs.Gather.{Outcome, own_cells, Gathers, AddsElement}
 
 -- ---- the elements with one more
 
@@ -84,55 +87,51 @@ module _ (es : List Element) (e : Element) where
 
 -- ---- what is told then
 
-module _ (limit : ℕ) (is_listed : ℕ → Bool) (x : answer.Element) (cells counts cells' counts' : List ℕ) where
-  pub adds-faulty : (r : Refusal) (before : Outcome) → Checks is_listed x (Refused r)
-      → AddsElement limit is_listed x before cells counts Faulty cells' counts'
-  adds-faulty r before h es e g t n = none_faulty-snoc is_listed es e ∙ rw (h.checks e t n).0 (and-false (none_faulty is_listed es))
+module _ (limit : ℕ) (is_listed : ℕ → Bool) (x : answer.Element) (s s' : CellSet) where
+  pub adds-faulty : (y : Refusal) (before : Outcome) → Checks is_listed x (Err y) → AddsElement limit is_listed x before s (Err y) s'
+  adds-faulty y before h es e g t n =
+      inl (record {
+        told = (h.checks e t n).1;
+        faulty = none_faulty-snoc is_listed es e ∙ rw (h.checks e t n).0 (and-false (none_faulty is_listed es));
+      })
 
-  -- the element is right
-  module _ (p w : ℕ) (h : Checks is_listed x (Cell p w)) where
+  -- the element is right, with this dimension and word
+  module _ (d : ℕ × ℕ) (h : Checks is_listed x (Ok d)) where
     still : (es : List Element) (e : Element) → TellsElement e x → Numbered e.nodes → none_faulty is_listed (es ++ (e ∷ [])) ≡ none_faulty is_listed es
     still es e t n = none_faulty-snoc is_listed es e ∙ rw (h.checks e t n).0 (and-true (none_faulty is_listed es))
 
-    pub adds-after-faulty : AddsElement limit is_listed x Faulty cells counts Faulty cells' counts'
-    adds-after-faulty es e g t n = still es e t n ∙ g
+    pub adds-after : (y : Refusal) → AddsElement limit is_listed x (Err y) s (Err y) s'
+    adds-after y es e (inl f) t n = inl (record { told = f.told; faulty = still es e t n ∙ f.faulty })
+    adds-after y es e (inr m) t n = inr (record { told = m.told; right = still es e t n ∙ m.right; exceeds = exceeds-more es e m.exceeds })
 
-    pub adds-after-full : AddsElement limit is_listed x TooMany cells counts TooMany cells' counts'
-    adds-after-full es e g t n = (still es e t n ∙ g.0, exceeds-more es e g.1)
-
-    pub adds-cell : AddsCell limit p w cells counts true cells' counts'
-        → AddsElement limit is_listed x Gathered cells counts Gathered cells' counts'
+    pub adds-cell : AddsCell d.0 d.1 s (Ok tt) s' → AddsElement limit is_listed x (Ok tt) s (Ok tt) s'
     adds-cell adds es e g t n =
-        let packs : Packs (suc p) (cell_with e.nodes) w = (h.checks e t n).1 in (
+        let packs : Packs (suc d.0) (cell_with e.nodes) d.1 = (h.checks e t n).1 in (
           still es e t n ∙ g.0,
-          subst (Holds limit cells' counts') (sym (own_cells-snoc es e p h.dimension-is packs.sized))
-              (adds (own_cells es) (cell_with e.nodes) g.1 packs),
+          subst (Holds s') (sym (own_cells-snoc es e d.0 h.dimension-is packs.sized)) (adds (own_cells es) (cell_with e.nodes) g.1 packs),
         )
 
-    pub adds_none : AddsCell limit p w cells counts false cells' counts'
-        → AddsElement limit is_listed x Gathered cells counts TooMany cells' counts'
-    adds_none adds es e g t n =
-        let packs : Packs (suc p) (cell_with e.nodes) w = (h.checks e t n).1 in
-        let full = adds (own_cells es) (cell_with e.nodes) g.1 packs in (
-          still es e t n ∙ g.0,
-          record {
-            dimension = p;
+    pub adds_none : {f : Full} → AddsCell d.0 d.1 s (Err f) s' → s.limit ≡ limit → (y : Refusal) → number_of y ≡ 16
+        → AddsElement limit is_listed x (Ok tt) s (Err y) s'
+    adds_none adds same y told es e g t n =
+        let packs : Packs (suc d.0) (cell_with e.nodes) d.1 = (h.checks e t n).1 in
+        let full = adds (own_cells es) (cell_with e.nodes) g.1 packs in
+        inr (record {
+          told = told;
+          right = still es e t n ∙ g.0;
+          exceeds = record {
+            dimension = d.0;
             listed = h.dimension-is;
-            over = omega (arith, full.longer, ap length (grown es e p h.dimension-is packs.sized));
-          },
-        )
+            over = omega (arith, full.longer, same, ap length (grown es e d.0 h.dimension-is packs.sized));
+          };
+        })
 
 -- ---- the loop
 
-pub ready : (limit : ℕ) (is_listed : ℕ → Bool) (es : List Element) (o : Outcome) (cells counts : List ℕ) → Gathers limit is_listed es o cells counts
-    → Ready limit cells counts o
-ready limit is_listed es Gathered _ _ g = record { complex = own_cells es; holds = g.1 }
-ready limit is_listed es Faulty _ _ g = tt
-ready limit is_listed es TooMany _ _ g = tt
-
--- of n lines from position `start` on, i are read up to position `at`, and their cells gathered
-pub record Gathering (limit : ℕ) (is_listed : ℕ → Bool) (s : List ℕ) (n start i at : ℕ) (o : Outcome) (room : ℕ) (cells counts : List ℕ) : Type 0 where
+-- of n lines from r on, i are read up to where `here` stands, and their cells gathered
+pub record Gathering (limit : ℕ) (is_listed : ℕ → Bool) (r : Reader) (n i : ℕ) (here : Reader) (o : Outcome) (s : CellSet) : Type 0 where
   pub read : List Element
-  pub walk : Walk element_lines n s start i at read
-  pub gathers : Gathers limit is_listed read o cells counts
-  pub sized : length cells ≡ room
+  pub walk : Walk element_lines n r.text.now r.at i here.at read
+  pub same : here.text ≡ r.text
+  pub gathers : Gathers limit is_listed read o s
+  pub limit-kept : s.limit ≡ limit

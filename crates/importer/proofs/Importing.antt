@@ -2,9 +2,10 @@
 --     not-of-the-form      a part is malformed, or something stands behind the last line
 --     tells-mesh           all parts are read, up to the end of the text
 --     right-map            whether elements are right, by the map of the nodes listed
+--     told-refused, told-written     the elements of a mesh are refused, or their sheet is written
 use mathlib.Core.Path.{◌≡◌, refl, sym, ap, ap₂, ◌∙◌}
 use mathlib.Core.Logic.{◌≢◌}
-use mathlib.Core.Bool.{Bool, true, false, not, cond, ◌||◌, ◌&&◌}
+use mathlib.Core.Bool.{Bool, true, not, cond, ◌||◌, ◌&&◌}
 use mathlib.Core.List.{List, [], ◌∷◌, map}
 use Prim.Native.Nat.{ℕ, suc, ◌<◌}
 use native.Mathlib.Omega.{arith}
@@ -24,18 +25,21 @@ use Rattle.imports.proofs.ElementLaws.{mesh-numbered}
 use Rattle.imports.proofs.ImportLaws.{import-is, import-not}
 use Rattle.node_maps.specs.Map.{in_map}
 use Rattle.mesh_elements.specs.Listed.{Maps}
-use Rattle.refusal.specs.declared.Refusal.TheVariants.{MeshMalformed, ElementFaulty, SheetTooLong}
+use Rattle.refusal.specs.declared.Refusal.TheVariants.{MeshMalformed}
+use Rattle.std.specs.Prelude.{Result, Err}
+use Rattle.std.proofs.Common.{inl, inr}
+use Rattle.trials.specs.Trial.{refused}
 use Rattle.trials.specs.Write.{answer_with}
 use Rattle.sweeps.specs.Sweep.{swept_sheet}
 use Rattle.closures.proofs.ClosureLaws.{own_sections-count}
 use Rattle.cell_sets.specs.Set.{Holds}
 use Rattle.cell_sets.specs.Close.{Exceeds}
-use Rattle.importer.specs.Gather.{own_cells}
+use Rattle.cell_sets.specs.declared.set.CellSet.{CellSet}
+use Rattle.importer.specs.Gather.{own_cells, Gathers}
 use Rattle.refusal.specs.Written.{WriteAnswers}
-use Rattle.refusal.specs.declared.written.Written.{Written}
+use Rattle.refusal.specs.declared.Refusal.{Refusal}
 use Rattle.importer.specs.Closure.{WritesClosure}
-use Rattle.importer.proofs.Writing.{too-many-faces}
-use Rattle.refusal.specs.declared.written.Written.TheVariants.{Refused}
+use Rattle.importer.proofs.Writing.{exceeds-too-long}
 
 -- ---- the parts of the text
 
@@ -65,7 +69,7 @@ module _ (s : List ℕ) where
 
 -- ---- the answers
 
-pub not-of-the-form : (limit : ℕ) (text sheet : List ℕ) → mesh_of text ≡ malformed → WriteAnswers (import_call limit text sheet) (Refused MeshMalformed) sheet
+pub not-of-the-form : (limit : ℕ) (text sheet : List ℕ) → mesh_of text ≡ malformed → WriteAnswers (import_call limit text sheet) (Err MeshMalformed) sheet
 not-of-the-form limit text sheet e = rw (import-not limit text sheet e) (record { answer = refl; output-is = refl })
 
 -- ---- listed, or in the map
@@ -99,25 +103,26 @@ right-map bits m text e maps =
 -- ---- a text that tells a mesh
 
 module _ (limit : ℕ) (text sheet bits : List ℕ) (m : Mesh) (e : mesh_of text ≡ parsed m (length text)) (maps : Maps bits m.nodes) where
-  pub told-faulty : none_faulty (in_map bits) m.elements ≡ false → WriteAnswers (import_call limit text sheet) (Refused ElementFaulty) sheet
+  right_is : none_faulty (in_map bits) m.elements ≡ true → import_call limit text sheet
+      ≡ answer_with (cond (too_long limit (length sheet) (complex_of m.elements)) 16 0) (swept_sheet (complex_of m.elements)) sheet
+  right_is r = rw (import-is limit text sheet m (length text) e, sym (right-map bits m text e maps) ∙ r) refl
+
+  too_long-is : Exceeds limit (own_cells m.elements) → too_long limit (length sheet) (complex_of m.elements) ≡ true
+  too_long-is x =
+      exceeds-too-long limit (complex_of m.elements) sheet (record {
+        dimension = x.dimension;
+        listed = x.listed;
+        over = omega (arith, x.over, own_sections-count element_top (map cell_with (node_lists m.elements)) x.dimension);
+      })
+
+  -- some of the elements are refused
+  pub told-refused : (s : CellSet) (y : Refusal) → Gathers limit (in_map bits) m.elements (Err y) s → WriteAnswers (import_call limit text sheet) (Err y) sheet
   unfolding answer_with
-  told-faulty f =
-      rw (import-is limit text sheet m (length text) e, sym (right-map bits m text e maps) ∙ f) (record { answer = refl; output-is = refl })
+  told-refused s y (inl f) =
+      rw (import-is limit text sheet m (length text) e, sym (right-map bits m text e maps) ∙ f.faulty) (record { answer = ap refused f.told; output-is = refl })
+  told-refused s y (inr t) =
+      rw (right_is t.right, too_long-is t.exceeds) (record { answer = ap refused t.told; output-is = refl })
 
-  module _ (r : none_faulty (in_map bits) m.elements ≡ true) where
-    right_is : import_call limit text sheet
-        ≡ answer_with (cond (too_long limit (length sheet) (complex_of m.elements)) 16 0) (swept_sheet (complex_of m.elements)) sheet
-    right_is = rw (import-is limit text sheet m (length text) e, sym (right-map bits m text e maps) ∙ r) refl
-
-    pub told-many : Exceeds limit (own_cells m.elements) → WriteAnswers (import_call limit text sheet) (Refused SheetTooLong) sheet
-    told-many x =
-        rw right_is
-        (too-many-faces limit (complex_of m.elements) sheet (record {
-          dimension = x.dimension;
-          listed = x.listed;
-          over = omega (arith, x.over, own_sections-count element_top (map cell_with (node_lists m.elements)) x.dimension);
-        }))
-
-    pub told-written : {answer : Written} {after cells counts : List ℕ} → Holds limit cells counts (own_cells m.elements)
-        → WritesClosure limit cells counts sheet answer after → WriteAnswers (import_call limit text sheet) answer after
-    told-written h w = rw right_is (w (map cell_with (node_lists m.elements)) h)
+  pub told-written : none_faulty (in_map bits) m.elements ≡ true → {s : CellSet} {answer : Result ℕ Refusal} {after : List ℕ} → Holds s (own_cells m.elements)
+      → s.limit ≡ limit → WritesClosure s sheet answer after → WriteAnswers (import_call limit text sheet) answer after
+  told-written r h k w = rw (right_is r, ← k) (w (map cell_with (node_lists m.elements)) h)

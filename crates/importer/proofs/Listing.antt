@@ -9,18 +9,20 @@ use Prim.Native.Nat.{ℕ, ◌+◌, ◌≤◌, ◌<◌}
 use native.Mathlib.Decide.{ℕ_discrete}
 use native.Mathlib.Omega.{arith}
 use lib.Dec.{eqb, ltb}
-use lib.ListN.{length}
 use borrow.Author.Tests.{ltb-true, eq-eqb, ne_eqb}
+use Rattle.std.specs.Prelude.{Some, None}
 use Rattle.complexes.specs.Complex.{vertex_bound}
 use Rattle.closures.specs.Closure.{member}
-use Rattle.mesh_format.specs.Parse.{Parsed, malformed, parsed, number, node, words, line_end, node_line, node_lines}
+use Rattle.mesh_format.specs.Parse.{Parsed, malformed, parsed, then, number, node, words, line_end, node_line, node_lines}
 use Rattle.mesh_format.proofs.ReadLaws.{malformed-fails, parsed-inj, then-case, cond-split, node_lines-repeats}
 use Rattle.mesh_format.proofs.WalkLaws.{Walk, walk_start, walk_more, walk_end}
-use Rattle.mesh_words.specs.declared.answer.Cursor.{Cursor}
-use Rattle.mesh_words.specs.declared.answer.Skipped.TheVariants.{Malformed, To}
+use Rattle.mesh_words.specs.Steps.{skip}
+use Rattle.mesh_words.specs.declared.reader.Reader.{Reader}
+use Rattle.mesh_words.proofs.Told.{Moved, skipped-fails, skipped-goes}
 use Rattle.node_maps.specs.Map.{in_map, Lists}
 use Rattle.mesh_elements.specs.Listed.{Maps}
-use Rattle.importer.specs.Nodes.{tell_end, ListsNodes}
+use Rattle.importer.specs.Nodes.{ListsNodes}
+use Rattle.importer.proofs.Ends.{skipped}
 
 -- ---- one node more
 
@@ -51,39 +53,38 @@ node-below s at v next e =
 
 -- ---- the loop
 
--- of n lines from position `start` on, i are read up to position `at`, and the map has their nodes beside those of `before`
-pub record Listing (s : List ℕ) (n start : ℕ) (before map : List ℕ) (i at : ℕ) : Type 0 where
+-- of n lines from r on, i are read up to where `here` stands, and the map has their nodes beside those of `before`
+pub record Listing (r : Reader) (n : ℕ) (before map : List ℕ) (i : ℕ) (here : Reader) : Type 0 where
   pub read : List ℕ
-  pub walk : Walk node_lines n s start i at read
-  pub sized : length map ≡ length before
+  pub walk : Walk node_lines n r.text.now r.at i here.at read
+  pub same : here.text ≡ r.text
   pub lists : (listed : List ℕ) → Maps before listed → Maps map (listed ++ read)
 
-pub listing_start : (s : List ℕ) (n start : ℕ) (before : List ℕ) → Listing s n start before before 0 start
-listing_start s n start before = record {
+pub listing_start : (r : Reader) (n : ℕ) (before : List ℕ) → Listing r n before before 0 r
+listing_start r n before = record {
   read = [];
-  walk = walk_start node_lines-repeats n s start;
-  sized = refl;
+  walk = walk_start node_lines-repeats n r.text.now r.at;
+  same = refl;
   lists = λ listed m. subst (Maps before) (sym (append-nil listed)) m;
 }
 
-module _ {s : List ℕ} {n start : ℕ} {before map : List ℕ} {i at : ℕ} (m : Listing s n start before map i at) where
-  pub listing-more : i < n → {v next : ℕ} {map' : List ℕ} → node_line s at ≡ parsed v next → Lists v map map' → Listing s n start before map' (i + 1) next
+module _ {r : Reader} {n : ℕ} {before map : List ℕ} {i : ℕ} {here : Reader} (m : Listing r n before map i here) where
+  pub listing-more : i < n → {v : ℕ} {next : Reader} {map' : List ℕ} → Moved (node_line r.text.now here.at) v r next → Lists v map map'
+      → Listing r n before map' (i + 1) next
   listing-more l {v} {next} {map'} e h = record {
     read = m.read ++ (v ∷ []);
-    walk = walk_more node_lines-repeats m.walk l e;
-    sized = h.sized ∙ m.sized;
+    walk = walk_more node_lines-repeats m.walk l e.is;
+    same = e.same;
     lists = λ listed k. subst (Maps map') (append_assoc listed m.read (v ∷ [])) (maps-more (m.lists listed k) h);
   }
 
-  pub listing-end : n ≤ i → (c : Cursor) → c.at ≡ at → ListsNodes (node_lines n s start) before map (To c)
-  unfolding tell_end
-  listing-end l c e = record {
-    told = rw (walk_end node_lines-repeats m.walk l) (ap (λ (k : ℕ). To (record { at = k })) e);
-    sized = m.sized;
+  pub listing-end : n ≤ i → ListsNodes r (node_lines n r.text.now r.at) before map (Some here)
+  listing-end l = record {
+    told = skipped-goes r (record { is = skipped (walk_end node_lines-repeats m.walk l); same = m.same });
     lists = λ nodes at' q listed k.
         let same : m.read ≡ nodes = (parsed-inj (sym (walk_end node_lines-repeats m.walk l) ∙ q)).0 in subst (λ (l : List ℕ). Maps map (listed ++ l)) same (m.lists listed k);
   }
 
-pub lists-none : {p : Parsed (List ℕ)} {before map : List ℕ} → p ≡ malformed → length map ≡ length before → ListsNodes p before map Malformed
-unfolding tell_end
-lists-none e l = record { told = rw e refl; sized = l; lists = λ nodes at q. absurd (malformed-fails (sym e ∙ q)) }
+pub lists-none : (r : Reader) {p : Parsed (List ℕ)} {before map : List ℕ} → p ≡ malformed → ListsNodes r p before map None
+unfolding skip then
+lists-none r e = record { told = skipped-fails r (ap skip e); lists = λ nodes at q. absurd (malformed-fails (sym e ∙ q)) }

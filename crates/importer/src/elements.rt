@@ -1,76 +1,54 @@
 // The elements of a mesh text.
-ghost use Rattle.std.specs.Prelude.{◌≡◌, [], length};
+ghost use Rattle.std.specs.Prelude.{◌≡◌, []};
 ghost use Rattle.cell_sets.specs.Set.{Holds};
 ghost use Rattle.mesh_format.specs.Parse.{element_lines, elements_of};
-ghost use Rattle.node_maps.specs.Map.{map_length, in_map};
+ghost use Rattle.node_maps.specs.Map.{in_map};
 ghost use Rattle.importer.specs.Gather.{own_cells};
 ghost use Rattle.importer.specs.Elements.{TellsElements};
 
-use crate::gather::{Outcome, add_element};
-use cell_sets::set::SECTIONS;
-use mesh_lines::answer::ElementLine;
+use crate::gather::add_element;
+use cell_sets::set::CellSet;
+use mesh_lines::line::{count_line, element_line};
 use mesh_reader::keywords::{ELEMENTS, END_ELEMENTS};
-use mesh_reader::read::{read_count, read_element};
 use mesh_reader::title::the_title;
-use mesh_words::answer::{Cursor, Number, Skipped};
+use mesh_words::reader::Reader;
+use node_maps::map::NodeMap;
+use refusal::Refusal;
 
-// The outcome of gathering their cells, and where they end.
-#[derive(Clone, Copy)]
-pub enum Elements {
-    Malformed,
-    Read(Outcome, Cursor),
-}
-
-// Reads n lines of elements, and gathers their cells.
-fn gather_elements(
-    text: &[u8],
-    c: Cursor,
+// Reads n lines of elements, and gathers their cells. What is answered is whether that was refused, and the reader behind the lines.
+fn gather_elements<'a>(
+    r: Reader<'a>,
     n: usize,
-    map: &[u8],
-    limit: usize,
-    cells: &mut [u64],
-    counts: &mut [usize; SECTIONS],
-) -> Elements
-    requires { (length map.now ≡ map_length) × Holds limit cells.old counts.old (own_cells []) }
-    ensures { TellsElements limit (in_map map.now) (element_lines n text.now c.at) result cells.new counts.new }
+    map: &NodeMap,
+    cells: &mut CellSet,
+) -> Option<(Result<(), Refusal>, Reader<'a>)>
+    requires { Holds cells.old (own_cells []) }
+    ensures limit { cells.new.limit ≡ cells.old.limit }
+    ensures tells { TellsElements cells.old.limit (in_map map.now.bytes) r.entry (element_lines n r.entry.text.now r.entry.at) result cells.new }
 {
-    let mut here = c;
-    let mut outcome = Outcome::Gathered;
-    let mut i: usize = 0;
-    while i < n {
-        let ElementLine::Read(element, next) = read_element(text, here) else {
-            return Elements::Malformed;
-        };
-        outcome = add_element(map, limit, element, outcome, cells, counts);
+    let mut here = r;
+    let mut outcome = Ok(());
+    for _ in 0..n {
+        let (element, next) = element_line(here)?;
+        outcome = add_element(map, element, outcome, cells);
         here = next;
-        i = i + 1;
     }
-    Elements::Read(outcome, here)
+    Some((outcome, here))
 }
 
 // Reads `$Elements`, the count, the lines of the elements and `$EndElements`, and gathers the cells.
-pub fn read_elements(
-    text: &[u8],
-    c: Cursor,
-    map: &[u8],
-    limit: usize,
-    cells: &mut [u64],
-    counts: &mut [usize; SECTIONS],
-) -> Elements
-    requires { (length map.now ≡ map_length) × Holds limit cells.old counts.old (own_cells []) }
-    ensures { TellsElements limit (in_map map.now) (elements_of text.now c.at) result cells.new counts.new }
+pub fn read_elements<'a>(
+    r: Reader<'a>,
+    map: &NodeMap,
+    cells: &mut CellSet,
+) -> Option<(Result<(), Refusal>, Reader<'a>)>
+    requires { Holds cells.old (own_cells []) }
+    ensures limit { cells.new.limit ≡ cells.old.limit }
+    ensures tells { TellsElements cells.old.limit (in_map map.now.bytes) r.entry (elements_of r.entry.text.now r.entry.at) result cells.new }
 {
-    let Skipped::To(a) = the_title(text, c, &ELEMENTS) else {
-        return Elements::Malformed;
-    };
-    let Number::Read(n, b) = read_count(text, a) else {
-        return Elements::Malformed;
-    };
-    let Elements::Read(outcome, d) = gather_elements(text, b, n, map, limit, cells, counts) else {
-        return Elements::Malformed;
-    };
-    let Skipped::To(end) = the_title(text, d, &END_ELEMENTS) else {
-        return Elements::Malformed;
-    };
-    Elements::Read(outcome, end)
+    let titled = the_title(r, ELEMENTS)?;
+    let (n, lines) = count_line(titled)?;
+    let (outcome, behind) = gather_elements(lines, n, map, cells)?;
+    let end = the_title(behind, END_ELEMENTS)?;
+    Some((outcome, end))
 }

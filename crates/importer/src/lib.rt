@@ -1,4 +1,4 @@
-// The import of a mesh text: document 02, Note 3. `import` is the call; the other modules are its parts.
+// The import of a mesh text. `import` is the call; the other modules are its parts.
 #![tactic(auto)]
 
 mod elements;

@@ -1,28 +1,16 @@
 // The library's calls for C, at its count limit of 256, with a work slice that the caller lends. They answer 0 for done or the number of the refusal.
 #![tactic(auto)]
 
-ghost use Rattle.std.specs.Prelude.{◌≡◌};
-ghost use Rattle.trials.specs.Trial.{number_told};
 ghost use Rattle.requests.specs.Question.{asked};
 ghost use Rattle.requests.specs.Call as requests;
 ghost use Rattle.requests.specs.Call.{call};
 ghost use Rattle.limits.specs.Limits.{library_limit};
-ghost use Rattle.calls.specs.CallAnswers.{answered};
 ghost use Rattle.sweeps.specs.Sweep.{sweep_call};
 ghost use Rattle.imports.specs.Import.{import_call};
 ghost use Rattle.refusal.specs.Written.{WriteTold};
 ghost use Rattle.library_host.specs.LibraryAnswers.{LibraryAnswers, HeadroomAnswers};
 
-use calls::answer::Answer;
-
-fn number_told(answer: Answer) -> u32
-    ensures { result ≡ number_told (answered answer) }
-{
-    match answer {
-        Answer::Done(_) => 0,
-        Answer::Refused(refusal) => refusal.number(),
-    }
-}
+use refusal::number_told;
 
 // The report of a dimension.
 pub fn fildwuk_library_report(
@@ -54,14 +42,12 @@ pub fn fildwuk_library_headroom(
         (call library_limit (asked sheet.now dimension) requests.report report.old work.old) result left work-left
         peak.old peak-left bits.old bits_left }
 {
-    match calls::report::report(sheet, dimension, report, work) {
-        Answer::Done(counts) => {
-            *peak = counts.peak;
-            *bits = counts.bits;
-            0
-        }
-        Answer::Refused(refusal) => refusal.number(),
+    let answer = calls::report::report(sheet, dimension, report, work);
+    if let Ok(counts) = answer {
+        *peak = counts.peak;
+        *bits = counts.bits;
     }
+    number_told(answer)
 }
 
 // The coordinates of a cycle.
@@ -124,14 +110,12 @@ pub fn fildwuk_library_surface(
 pub fn fildwuk_library_sweep(sheet: &[u8], swept: &mut [u8]) -> u32
     ensures { let left = swept.new in WriteTold (sweep_call library_limit sheet.now swept.old) result left }
 {
-    let written = sweeper::sweep::sweep(sheet, swept);
-    written.number()
+    number_told(sweeper::sweep::sweep(sheet, swept))
 }
 
 // The import of a mesh text.
 pub fn fildwuk_library_import(text: &[u8], sheet: &mut [u8]) -> u32
     ensures { let left = sheet.new in WriteTold (import_call library_limit text.now sheet.old) result left }
 {
-    let imported = importer::import::import(text, sheet);
-    imported.number()
+    number_told(importer::import::import(text, sheet))
 }

@@ -1,30 +1,28 @@
 // The vertices of the edges of a sheet, and whether a vertex is one of them.
 ghost use Rattle.std.specs.Prelude.{◌≡◌, ◌<◌};
 ghost use Rattle.sheet_format.specs.Check.{count_field, sections_of, loose};
-ghost use Rattle.node_maps.specs.Map.{Empty};
 ghost use Rattle.loose_nodes.specs.Loose.{MapsEdges};
 
 use fields::field::{count, field, start};
-use node_maps::map::{is_listed, list};
+use node_maps::map::NodeMap;
 
-// Lists both vertices of every edge in a map that lists no node.
-pub fn list_edges(s: &[u8], map: &mut [u8])
-    requires { Empty map.old }
-    ensures { MapsEdges (sections_of s.now) map.new }
+// The vertices of all edges.
+pub fn edge_nodes(s: &[u8]) -> NodeMap
+    ensures { MapsEdges (sections_of s.now) result.bytes }
 {
     let at = start(s, 1);
     let vertices = 2 * count(s, 1);
-    let mut j: usize = 0;
-    while j < vertices {
-        list(map, field(s, at + 2 * j));
-        j = j + 1;
+    let mut map = NodeMap::new();
+    for j in 0..vertices {
+        map.list(field(s, at + 2 * j));
     }
+    map
 }
 
 // Whether vertex i is loose, in a sheet that has an edge and the vertices of whose edges the map lists.
-pub fn is_loose(s: &[u8], map: &[u8], i: usize) -> bool
-    requires { (0 < count_field s.now 1) × (i < count_field s.now 0) × MapsEdges (sections_of s.now) map.now }
+pub fn is_loose(s: &[u8], map: &NodeMap, i: usize) -> bool
+    requires { (0 < count_field s.now 1) × (i < count_field s.now 0) × MapsEdges (sections_of s.now) map.now.bytes }
     ensures { result ≡ loose (sections_of s.now) i }
 {
-    !is_listed(map, field(s, start(s, 0) + 2 * i))
+    !map.is_listed(field(s, start(s, 0) + 2 * i))
 }

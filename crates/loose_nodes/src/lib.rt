@@ -1,4 +1,4 @@
-// Loose nodes of a sheet, vertices in no edge where there is an edge: document 02, Note 7. A sheet is a slice of bytes of any length and content.
+// Loose nodes of a sheet, vertices in no edge where there is an edge. A sheet is a slice of bytes of any length and content.
 #![tactic(auto)]
 
 mod edges;

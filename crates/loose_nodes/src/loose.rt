@@ -2,9 +2,8 @@
 ghost use Rattle.std.specs.Prelude.{◌≡◌};
 ghost use Rattle.sheet_format.specs.Check.{sections_of, loose_node};
 
-use crate::edges::{is_loose, list_edges};
+use crate::edges::{edge_nodes, is_loose};
 use fields::field::count;
-use node_maps::map::MAP_LENGTH;
 
 // Check 18: whether some vertex is loose.
 pub fn loose_node(s: &[u8]) -> bool
@@ -13,15 +12,6 @@ pub fn loose_node(s: &[u8]) -> bool
     if count(s, 1) == 0 {
         return false;
     }
-    let mut map = [0u8; MAP_LENGTH];
-    list_edges(s, &mut map);
-    let nodes = count(s, 0);
-    let mut i: usize = 0;
-    while i < nodes {
-        if is_loose(s, &map, i) {
-            return true;
-        }
-        i = i + 1;
-    }
-    false
+    let map = edge_nodes(s);
+    (0..count(s, 0)).any(|i| is_loose(s, &map, i))
 }

@@ -2,9 +2,8 @@
 ghost use Rattle.sheet_format.specs.Check.{count_field, sections_of};
 ghost use Rattle.loose_nodes.specs.Loose.{NoneMarked, MarksLoose};
 
-use crate::edges::{is_loose, list_edges};
+use crate::edges::{edge_nodes, is_loose};
 use fields::field::count;
-use node_maps::map::MAP_LENGTH;
 
 // Marks each loose node with 1, where no vertex is marked.
 pub fn mark_loose(s: &[u8], marks: &mut [u8])
@@ -14,14 +13,11 @@ pub fn mark_loose(s: &[u8], marks: &mut [u8])
     if count(s, 1) == 0 {
         return;
     }
-    let mut map = [0u8; MAP_LENGTH];
-    list_edges(s, &mut map);
+    let map = edge_nodes(s);
     let nodes = count(s, 0);
-    let mut i: usize = 0;
-    while i < nodes {
+    for i in 0..nodes {
         if is_loose(s, &map, i) {
             marks[i] = 1;
         }
-        i = i + 1;
     }
 }

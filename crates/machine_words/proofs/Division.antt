@@ -1,18 +1,18 @@
 -- The machine's division by a positive number, of numbers that fit a word. Main results: `quotient_fits`, `remainder-read`;
--- `rounded-down`, `rounded-down-pred`: the quotient towards zero, or one less, is `floor`; `remainder-divides`: the test of the remainder is `divides`.
-use mathlib.Core.Path.{◌≡◌, refl, sym, ap, subst, ◌∙◌}
-use mathlib.Core.Bool.{true, false}
+-- `rounded-down`: the quotient towards zero is `floor` where the remainder is not negative; `remainder-divides`: the test of the remainder is `divides`.
+use mathlib.Core.Path.{◌≡◌, refl, sym, ap, ◌∙◌}
+use mathlib.Core.Bool.{false}
 use Prim.Native.Nat.{ℕ, ◌≤◌}
 use native.Mathlib.Nat as NatL
-use lib.Dec.{T, eqb}
-use lib.IntN.{ℤ, pos, nat_abs, ◌-ℤ◌}
-use lib.Signed.{◌<ℤ◌, lt_z, lt_z_yes, lt_z_no, quot_z, rem_z, mag_rem}
+use lib.Dec.{eqb}
+use lib.IntN.{ℤ, pos, nat_abs}
+use lib.Signed.{◌<ℤ◌, lt_z, lt_z_no, quot_z, rem_z, mag_rem}
 use mir.Syntax.{w64}
 use mir.Val.{SFits, of_z}
 use mir.Facts.{to_z-of_z}
-use Rattle.integers.proofs.Floor.{nat_abs-floor, mag-floor}
+use Rattle.integers.proofs.Floor.{nat_abs-floor}
 use Rattle.integers.specs.Division.{floor, divides}
-use Rattle.integers.proofs.Truncate.{mag-quot_z, nat_abs-rem_z, floor-quot_z, floor-quot_z-pred}
+use Rattle.integers.proofs.Truncate.{mag-quot_z, nat_abs-rem_z, floor-quot_z}
 use Rattle.limits.specs.Limits.{entry_limit}
 use Rattle.machine_words.specs.Read.{read, zero-of-bits, zero_test}
 
@@ -49,18 +49,6 @@ module _ (x d : ℤ) (x_Fits : SFits w64 x) (d-fits : SFits w64 d) (p : pos 0 <�
       lt_z (read w64 (rem_z (read w64 x) (read w64 d))) (pos 0) ≡ false
       → read w64 (quot_z (read w64 x) (read w64 d)) ≡ floor x d
   rounded-down e = quotient-read ∙ sym (floor-quot_z x d p (lt_z_no (rw (rw remainder-read at e) tt)))
-
-  -- one below 0: it is one too large
-  module _ (e : lt_z (read w64 (rem_z (read w64 x) (read w64 d))) (pos 0) ≡ true) where
-    pred-is : read w64 (quot_z (read w64 x) (read w64 d)) -ℤ pos 1 ≡ floor x d
-    pred-is =
-        ap (λ (z : ℤ). z -ℤ pos 1) quotient-read ∙ sym (floor-quot_z-pred x d p (lt_z_yes (subst T (sym (rw remainder-read at e)) tt)))
-
-    pub pred_fits : SFits w64 (read w64 (quot_z (read w64 x) (read w64 d)) -ℤ pos 1)
-    pred_fits = rw pred-is (record { sfits = NatL.lt_of_le_of_lt (mag-floor x d p) x_Fits.sfits })
-
-    pub rounded-down-pred : read w64 (read w64 (quot_z (read w64 x) (read w64 d)) -ℤ pos 1) ≡ floor x d
-    rounded-down-pred = to_z-of_z pred_fits ∙ pred-is
 
 -- a quotient of an entry lies within the limit
 pub floor-small : (x d r : ℤ) → nat_abs x ≤ entry_limit → r ≡ floor x d → nat_abs r ≤ entry_limit

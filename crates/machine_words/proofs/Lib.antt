@@ -1,6 +1,5 @@
 -- Laws that other crates cite.
 pub mod Mirrored
-pub mod Absolute
 pub mod Product
 pub mod Sum
 pub mod Division

@@ -1,6 +1,7 @@
 -- A line that is written part by part: of a subtraction from the line at `target`, t places are done.
 use mathlib.Core.Path.{◌≡◌, sym, ap, subst, ◌∙◌}
 use mathlib.Core.Logic.{inl, inr, ⊎_elim}
+use mathlib.Core.Bool.{false≢true}
 use mathlib.Core.List.{List}
 use Prim.Native.Nat.{ℕ, ◌+◌, ◌<◌, ◌≤◌}
 use native.Mathlib.Omega.{arith}
@@ -8,10 +9,10 @@ use native.Mathlib.Nat as NatL
 use mir.Syntax.{w64}
 use lib.ListN.{length}
 use lib.IntN.{ℤ, nat_abs}
+use Rattle.std.specs.Prelude.{Result, Ok, Err, IsErr}
 use Rattle.integers.specs.Slot.{slot}
 use Rattle.matrix_lines.specs.Slice.{entry_limit, Bounded, Apart, LineSet, Beyond, Subtracted, difference}
-use Rattle.matrix_lines.specs.declared.line.Effect.{Effect}
-use Rattle.matrix_lines.specs.declared.line.Effect.TheVariants.{Done, TooWide}
+use Rattle.matrix_lines.specs.declared.line.TooWide.{TooWide}
 use Rattle.matrix_lines.proofs.Parts.{line_set-part}
 use Rattle.matrix_lines.proofs.Store.{line_set-none}
 use Rattle.machine_words.specs.Read.{read, read_wide}
@@ -44,18 +45,16 @@ pub ended : {w₀ : List ℤ} {target source width : ℕ} {q : ℤ} {before t x 
 ended {w₀} {target} {source} {width} {q} {before} {t} {x} {w} partly done =
     subst (λ (n : ℕ). LineSet w₀ target n (difference w₀ target source q) before x w) (NatL.le_antisymm partly.below done) partly.so_far
 
+-- the same at an equal place
+pub partly-at : {w₀ : List ℤ} {target source width : ℕ} {q : ℤ} {before t s x : ℕ} {w : List ℤ} → Partly w₀ target source width q before t x w → t ≡ s
+    → Partly w₀ target source width q before s x w
+partly-at {w₀} {target} {source} {width} {q} {before} {t} {s} {x} {w} partly e = subst (λ (n : ℕ). Partly w₀ target source width q before n x w) e partly
+
 -- the next n places
 module _ {w₀ : List ℤ} {target source width : ℕ} {q : ℤ} {before t x : ℕ} {w : List ℤ}
     (partly : Partly w₀ target source width q before t x w) (n : ℕ) (inside : t + n ≤ width) where
   so_far : LineSet w₀ target t (difference w₀ target source q) before x w
   so_far = partly.so_far
-
-  -- what a call on them asks
-  pub part-inside : (target + t + n ≤ length w) × (source + t + n ≤ length w)
-  part-inside = (omega (arith, partly.target-inside, so_far.same_length), omega (arith, partly.source-inside, so_far.same_length))
-
-  pub part_apart : Apart (target + t) (source + t) n
-  part_apart = ⊎_elim (λ h. inl (omega arith)) (λ h. inr (omega arith)) partly.apart
 
   -- the next places are untouched
   next-same : (s : ℕ) → s < n → difference w (target + t) (source + t) q s ≡ difference w₀ target source q (t + s)
@@ -96,13 +95,20 @@ module _ {w₀ : List ℤ} {target source width : ℕ} {q : ℤ} {before t x : �
 
   -- a part that is the rest of the line
   pub part-last :
-      t + n ≡ width → (r : Effect) (w' : List ℤ) → Subtracted w (target + t) (source + t) n q x r w'
+      t + n ≡ width → (r : Result ℕ TooWide) (w' : List ℤ) → Subtracted w (target + t) (source + t) n q x r w'
       → Subtracted w₀ target source width q before r w'
-  part-last e (Done y) w' h = ended (part-done h) (omega arith)
-  part-last e TooWide w' h = part-beyond h
+  part-last e (Ok y) w' h = ended (part-done h) (omega arith)
+  part-last e (Err a) w' h = part-beyond h
+
+-- a part that was refused
+pub part-refused :
+    (w w' : List ℤ) (target source width : ℕ) (q : ℤ) (before : ℕ) (r : Result ℕ TooWide) → IsErr r → Beyond w width (difference w target source q) w'
+    → Subtracted w target source width q before r w'
+part-refused w w' target source width q before (Ok x) refused h = absurd (false≢true refused)
+part-refused w w' target source width q before (Err e) refused h = h
 
 -- the factor is the number that the word holds
 pub factor-read :
-    (w₀ : List ℤ) (target source width : ℕ) (q : ℤ) → nat_abs q ≤ entry_limit → (before : ℕ) (r : Effect) (w : List ℤ)
+    (w₀ : List ℤ) (target source width : ℕ) (q : ℤ) → nat_abs q ≤ entry_limit → (before : ℕ) (r : Result ℕ TooWide) (w : List ℤ)
     → Subtracted w₀ target source width (read w64 q) before r w → Subtracted w₀ target source width q before r w
 factor-read w₀ target source width q small before r w = subst (λ (k : ℤ). Subtracted w₀ target source width k before r w) (read_wide q small)

@@ -44,11 +44,7 @@ module _ (w w₁ : List ℤ) (first second width t n : ℕ) {before x : ℕ} (in
   one-or-apart : {P : Type 0} → (first ≡ second → P) → (first + width ≤ second → P) → (second + width ≤ first → P) → P
   one-or-apart f g h = ⊎_elim f (⊎_elim g h) apart
 
-  -- the next places are one line or apart
-  pub part-one-or-apart : (first + t ≡ second + t) ⊎ Apart (first + t) (second + t) n
-  part-one-or-apart = one-or-apart (λ e. inl (omega arith)) (λ l. inr (inl (omega arith))) (λ l. inr (inr (omega arith)))
-
-  -- and as they were
+  -- the next places are as they were
   first-same : (s : ℕ) → t ≤ s → s < width → slot w₁ (first + s) ≡ slot w (first + s)
   first-same s k l = so_far.off (first + s) (inr (omega arith)) (one-or-apart (λ e. inr (omega arith)) (λ h. inl (omega arith)) (λ h. inr (omega arith)))
 

@@ -29,10 +29,6 @@ line_at-later start width i k l = omega (arith, NatL.suc-mul i width, NatL.mul-l
 pub line-span : (M : Matrix) (start i : ℕ) → start ≡ line_at M.at M.width i → i < M.lines → Span M start i 0 M.width
 line-span M start i e l = record { is = omega arith; line = l; within = omega arith }
 
--- one entry
-pub entry-span : (M : Matrix) (start i j : ℕ) → start ≡ line_at M.at M.width i → i < M.lines → j < M.width → Span M (start + j) i j 1
-entry-span M start i j e l h = record { is = omega arith; line = l; within = omega arith }
-
 module _ {M : Matrix} {start i j n : ℕ} (s : Span M start i j n) where
   pub span-before-end : start + n ≤ matrices.end M
   span-before-end = omega (arith, s.is, s.within, line_at-later M.at M.width i M.lines s.line)

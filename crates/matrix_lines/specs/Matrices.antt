@@ -1,12 +1,11 @@
 -- A matrix in a slice, and what an operation on it leaves.
-use Rattle.std.specs.Prelude.{◌≡◌, ◌⊎◌, List, ℕ, ◌+◌, ◌*◌, ◌<◌, ◌≤◌, length, ℤ, nat_abs}
+use Rattle.std.specs.Prelude.{◌≡◌, ◌⊎◌, List, ℕ, ◌+◌, ◌*◌, ◌<◌, ◌≤◌, length, ℤ, nat_abs, Result, Ok, Err}
 use Rattle.matrices.specs.Matrix.{Eq}
 use Rattle.matrices.specs.Matrix as theory
 use Rattle.integers.specs.Slot.{slot}
 use Rattle.matrix_lines.specs.Slice.{entry_limit, line_at, Bounded, Covered}
 use Rattle.matrix_lines.specs.declared.matrix.Matrix.{Matrix}
-use Rattle.matrix_lines.specs.declared.line.Effect.{Effect}
-use Rattle.matrix_lines.specs.declared.line.Effect.TheVariants.{Done, TooWide}
+use Rattle.matrix_lines.specs.declared.line.TooWide.{TooWide}
 
 -- one past the last place of the matrix
 abbrev pub end : Matrix → ℕ
@@ -62,9 +61,9 @@ pub record Exceeds (M : Matrix) (w : List ℤ) (A : theory.Matrix) (w' : List �
   pub beyond : entry_limit < nat_abs (A line place)
 
 -- what an operation that makes A of the matrix, by writing some entries, answers and leaves
-abbrev pub Became : Matrix → List ℤ → Entries → theory.Matrix → ℕ → Effect → List ℤ → Type 0
-Became M w among A before (Done x) w' = Holds M w among A before x w'
-Became M w among A before TooWide w' = Exceeds M w A w'
+abbrev pub Became : Matrix → List ℤ → Entries → theory.Matrix → ℕ → Result ℕ TooWide → List ℤ → Type 0
+Became M w among A before (Ok x) w' = Holds M w among A before x w'
+Became M w among A before (Err e) w' = Exceeds M w A w'
 
 -- the places of line i, as a matrix of that many lines of one entry
 abbrev pub places_of : Matrix → ℕ → Matrix

@@ -1,9 +1,8 @@
 -- Lines of a slice, and what an operation on them leaves. A slice is the list of its entries.
-use Rattle.std.specs.Prelude.{◌≡◌, ◌⊎◌, ◌≢◌, Bool, true, List, ℕ, ◌+◌, ◌*◌, ◌<◌, ◌≤◌, length, ℤ, pos, neg_ℤ, nat_abs, ◌-ℤ◌, ◌*ℤ◌}
+use Rattle.std.specs.Prelude.{◌≡◌, ◌⊎◌, ◌≢◌, Bool, true, List, ℕ, ◌+◌, ◌*◌, ◌<◌, ◌≤◌, length, ℤ, pos, neg_ℤ, nat_abs, ◌-ℤ◌, ◌*ℤ◌, Result, Ok, Err}
 pub use Rattle.limits.specs.Limits.{entry_limit}
 use Rattle.integers.specs.Slot.{slot}
-use Rattle.matrix_lines.specs.declared.line.Effect.{Effect}
-use Rattle.matrix_lines.specs.declared.line.Effect.TheVariants.{Done, TooWide}
+use Rattle.matrix_lines.specs.declared.line.TooWide.{TooWide}
 
 -- where line i of a matrix stands
 abbrev pub line_at : ℕ → ℕ → ℕ → ℕ
@@ -87,9 +86,9 @@ abbrev pub difference : List ℤ → ℕ → ℕ → ℤ → ℕ → ℤ
 difference w target source q t = slot w (target + t) -ℤ q *ℤ slot w (source + t)
 
 -- q times the line at `source` is taken from the line at `target`
-abbrev pub Subtracted : List ℤ → ℕ → ℕ → ℕ → ℤ → ℕ → Effect → List ℤ → Type 0
-Subtracted w target source width q before (Done x) w' = LineSet w target width (difference w target source q) before x w'
-Subtracted w target source width q before TooWide w' = Beyond w width (difference w target source q) w'
+abbrev pub Subtracted : List ℤ → ℕ → ℕ → ℕ → ℤ → ℕ → Result ℕ TooWide → List ℤ → Type 0
+Subtracted w target source width q before (Ok x) w' = LineSet w target width (difference w target source q) before x w'
+Subtracted w target source width q before (Err e) w' = Beyond w width (difference w target source q) w'
 
 -- the two lines have changed places; x is the largest absolute value that was written, with their entries
 pub record LinesSwapped (w : List ℤ) (first second width before x : ℕ) (w' : List ℤ) : Type 0 where

@@ -6,14 +6,10 @@ ghost use Rattle.matrix_lines.specs.Slice.{entry_limit, block, Bounded, Apart, S
 
 use crate::matrix::Matrix;
 use crate::zero::{BLOCK, is_same_block, is_zero_block};
-use numbers::absolute::{absolute, larger};
 
-// What an operation answers: the largest absolute value that it wrote, or that an entry would lie beyond the limit.
-#[derive(Clone, Copy)]
-pub enum Effect {
-    Done(u64),
-    TooWide,
-}
+// An entry would lie beyond the limit. An operation that writes none such answers the largest absolute value that it wrote.
+#[derive(Clone, Copy, Debug, PartialEq, Eq)]
+pub struct TooWide;
 
 // Takes q times the line at `source` from the line at `target`, place by place.
 pub fn subtract_places(
@@ -23,7 +19,7 @@ pub fn subtract_places(
     width: usize,
     q: i64,
     before: u64,
-) -> Effect
+) -> Result<u64, TooWide>
     requires width_in_bounds { (target + width ≤ length w.old) × (source + width ≤ length w.old) }
     requires apart { Apart target source width }
     requires bounded { Bounded before w.old }
@@ -31,26 +27,30 @@ pub fn subtract_places(
     ensures { Subtracted w.old target source width q before result w.new }
 {
     let mut largest = before;
-    let mut t: usize = 0;
-    while t < width {
+    for t in 0..width {
         let x = w[target + t] as i64;
         let y = w[source + t] as i64;
         let v = x - q * y;
-        let size = absolute(v);
+        let size = v.unsigned_abs();
         if largest < size {
             if (Matrix::ENTRY_LIMIT as u64) < size {
-                return Effect::TooWide;
+                return Err(TooWide);
             }
             largest = size;
         }
         w[target + t] = v as i32;
-        t = t + 1;
     }
-    Effect::Done(largest)
+    Ok(largest)
 }
 
 // The same for one block: where the source is 0 the target keeps its entries.
-fn subtract_block(w: &mut [i32], target: usize, source: usize, q: i64, before: u64) -> Effect
+fn subtract_block(
+    w: &mut [i32],
+    target: usize,
+    source: usize,
+    q: i64,
+    before: u64,
+) -> Result<u64, TooWide>
     requires block_in_bounds { (target + block ≤ length w.old) × (source + block ≤ length w.old) }
     requires apart { Apart target source block }
     requires bounded { Bounded before w.old }
@@ -58,7 +58,7 @@ fn subtract_block(w: &mut [i32], target: usize, source: usize, q: i64, before: u
     ensures { Subtracted w.old target source block q before result w.new }
 {
     if is_zero_block(w, source) {
-        return Effect::Done(before);
+        return Ok(before);
     }
     subtract_places(w, target, source, BLOCK, q, before)
 }
@@ -71,7 +71,7 @@ pub fn subtract(
     width: usize,
     q: i64,
     before: u64,
-) -> Effect
+) -> Result<u64, TooWide>
     requires width_in_bounds { (target + width ≤ length w.old) × (source + width ≤ length w.old) }
     requires apart { Apart target source width }
     requires bounded { Bounded before w.old }
@@ -79,18 +79,16 @@ pub fn subtract(
     ensures { Subtracted w.old target source width q before result w.new }
 {
     let mut largest = before;
-    let mut t: usize = 0;
-    while t + BLOCK <= width {
-        let Effect::Done(written) = subtract_block(w, target + t, source + t, q, largest) else {
-            return Effect::TooWide;
-        };
-        largest = written;
-        t = t + BLOCK;
+    let blocks = width / BLOCK;
+    for b in 0..blocks {
+        let t = b * BLOCK;
+        largest = subtract_block(w, target + t, source + t, q, largest)?;
     }
-    subtract_places(w, target + t, source + t, width - t, q, largest)
+    let whole = blocks * BLOCK;
+    subtract_places(w, target + whole, source + whole, width - whole, q, largest)
 }
 
-// Exchanges the entries at a and b. Where they are equal nothing is written.
+// Exchanges the entries at a and b. Where they are equal nothing is written; else two stores take less time than the library's `swap`.
 pub fn swap_entries(w: &mut [i32], a: usize, b: usize, before: u64) -> u64
     requires a_in_bounds { (a < length w.old) × (b < length w.old) }
     requires bounded { Bounded before w.old }
@@ -103,7 +101,7 @@ pub fn swap_entries(w: &mut [i32], a: usize, b: usize, before: u64) -> u64
     }
     w[a] = y;
     w[b] = x;
-    larger(before, larger(absolute(x as i64), absolute(y as i64)))
+    before.max(u64::from(x.unsigned_abs().max(y.unsigned_abs())))
 }
 
 // Exchanges the lines at `first` and `second`, which are one line or apart, place by place.
@@ -114,14 +112,12 @@ pub fn swap_places(w: &mut [i32], first: usize, second: usize, width: usize, bef
     ensures { LinesSwapped w.old first second width before result w.new }
 {
     let mut largest = before;
-    let mut t: usize = 0;
-    while t < width {
+    for t in 0..width {
         let x = w[first + t];
         let y = w[second + t];
         w[first + t] = y;
         w[second + t] = x;
-        largest = larger(largest, larger(absolute(x as i64), absolute(y as i64)));
-        t = t + 1;
+        largest = largest.max(u64::from(x.unsigned_abs().max(y.unsigned_abs())));
     }
     largest
 }
@@ -147,12 +143,13 @@ pub fn swap(w: &mut [i32], first: usize, second: usize, width: usize, before: u6
     ensures { LinesSwapped w.old first second width before result w.new }
 {
     let mut largest = before;
-    let mut t: usize = 0;
-    while t + BLOCK <= width {
+    let blocks = width / BLOCK;
+    for b in 0..blocks {
+        let t = b * BLOCK;
         largest = swap_block(w, first + t, second + t, largest);
-        t = t + BLOCK;
     }
-    swap_places(w, first + t, second + t, width - t, largest)
+    let whole = blocks * BLOCK;
+    swap_places(w, first + whole, second + whole, width - whole, largest)
 }
 
 // Negates the line at `at`, place by place.
@@ -162,12 +159,10 @@ pub fn negate_places(w: &mut [i32], at: usize, width: usize, before: u64) -> u64
     ensures { Negated w.old at width before result w.new }
 {
     let mut largest = before;
-    let mut t: usize = 0;
-    while t < width {
+    for t in 0..width {
         let x = -w[at + t];
         w[at + t] = x;
-        largest = larger(largest, absolute(x as i64));
-        t = t + 1;
+        largest = largest.max(u64::from(x.unsigned_abs()));
     }
     largest
 }
@@ -191,21 +186,18 @@ pub fn negate(w: &mut [i32], at: usize, width: usize, before: u64) -> u64
     ensures { Negated w.old at width before result w.new }
 {
     let mut largest = before;
-    let mut t: usize = 0;
-    while t + BLOCK <= width {
+    let blocks = width / BLOCK;
+    for b in 0..blocks {
+        let t = b * BLOCK;
         largest = negate_block(w, at + t, largest);
-        t = t + BLOCK;
     }
-    negate_places(w, at + t, width - t, largest)
+    let whole = blocks * BLOCK;
+    negate_places(w, at + whole, width - whole, largest)
 }
 
 // Sets every entry of the slice to 0.
 pub fn clear(w: &mut [i32])
     ensures { w.new ≡ replicate (length w.old) (pos 0) }
 {
-    let mut t: usize = 0;
-    while t < w.len() {
-        w[t] = 0;
-        t = t + 1;
-    }
+    w.fill(0);
 }

@@ -28,7 +28,6 @@ impl Matrix {
         requires i_lt_lines { (i < self.lines) × (j < self.width) }
         ensures { result ≡ contents self w.now i j }
     {
-        let at = self.line(i) + j;
-        w[at] as i64
+        i64::from(w[self.line(i) + j])
     }
 }

@@ -11,28 +11,20 @@ pub fn is_zero_block(w: &[i32], at: usize) -> bool
     ensures { ZerosTold w.now at block result }
 {
     let mut nonzero = false;
-    let mut t: usize = 0;
-    while t < BLOCK {
-        if w[at + t] != 0 {
-            nonzero = true;
-        }
-        t = t + 1;
+    for x in &w[at..at + BLOCK] {
+        nonzero |= *x != 0;
     }
     !nonzero
 }
 
-// Whether the BLOCK entries from `first` on are those from `second` on.
+// Whether the BLOCK entries from `first` on are those from `second` on. This loop has no way out either.
 pub fn is_same_block(w: &[i32], first: usize, second: usize) -> bool
     requires { (first + block ≤ length w.now) × (second + block ≤ length w.now) × Small w.now }
     ensures { SameTold w.now first second block result }
 {
     let mut differ = false;
-    let mut t: usize = 0;
-    while t < BLOCK {
-        if w[first + t] != w[second + t] {
-            differ = true;
-        }
-        t = t + 1;
+    for t in 0..BLOCK {
+        differ |= w[first + t] != w[second + t];
     }
     !differ
 }
@@ -42,14 +34,14 @@ fn skip_zero_blocks(w: &[i32], at: usize, from: usize, width: usize) -> usize
     requires { (at + width ≤ length w.now) × (from ≤ width) × Small w.now }
     ensures { ZerosTo w.now at from width result }
 {
-    let mut t = from;
-    while t + BLOCK <= width {
+    let blocks = (width - from) / BLOCK;
+    for b in 0..blocks {
+        let t = from + b * BLOCK;
         if !is_zero_block(w, at + t) {
             return t;
         }
-        t = t + BLOCK;
     }
-    t
+    from + blocks * BLOCK
 }
 
 // The first place from `from` on where the line at `at` is not 0, or its width.
@@ -57,12 +49,10 @@ pub fn first_nonzero(w: &[i32], at: usize, from: usize, width: usize) -> usize
     requires { (at + width ≤ length w.now) × (from ≤ width) × Small w.now }
     ensures { FirstNonzero w.now at from width result }
 {
-    let mut t = skip_zero_blocks(w, at, from, width);
-    while t < width {
+    for t in skip_zero_blocks(w, at, from, width)..width {
         if w[at + t] != 0 {
             return t;
         }
-        t = t + 1;
     }
     width
 }

@@ -25,18 +25,17 @@ use Rattle.mesh_elements.specs.Kind.{IsSimplex, IsKind}
 use Rattle.mesh_elements.specs.Listed.{AllListed}
 use Rattle.mesh_elements.specs.Element.{Checks}
 use Rattle.mesh_elements.specs.declared.kind.Simplex.{Simplex}
-use Rattle.mesh_elements.specs.declared.kind.Kind.TheVariants as kind
-use Rattle.mesh_elements.specs.declared.element.Checked.TheVariants.{Cell, Refused}
+use Rattle.std.specs.Prelude.{Ok, Err}
 use Rattle.mesh_elements.proofs.Faults.{fault-kind, fault-number, fault-unlisted, fault-twice, no-fault}
 
 module _ (is_listed : ℕ → Bool) (x : Element) where
-  pub refused-kind : (r : Refusal) → IsKind x.kind (kind.Refused r) → Checks is_listed x (Refused r)
+  pub refused-kind : (r : Refusal) → IsKind x.kind (Err r) → Checks is_listed x (Err r)
   refused-kind r h = record {
     dimension-is = tt;
     checks = λ e t n. (fault-kind is_listed e (ap nodes_of_kind (sym t.kind-is) ∙ h.0), h.1);
   }
 
-  pub refused-number : (s : Simplex) → IsSimplex x.kind s → x.many ≢ s.vertices → Checks is_listed x (Refused ElementFaulty)
+  pub refused-number : (s : Simplex) → IsSimplex x.kind s → x.many ≢ s.vertices → Checks is_listed x (Err ElementFaulty)
   refused-number s h d = record {
     dimension-is = tt;
     checks = λ e t n.
@@ -62,7 +61,7 @@ module _ (map : List ℕ) (x : Element) (s : Simplex) (h : IsSimplex x.kind s) (
     kind-many : nodes_of_kind e.kind ≡ s.vertices
     kind-many = ap nodes_of_kind (sym t.kind-is) ∙ h.many
 
-  pub refused-unlisted : AllListed map x.packed s.vertices false → Checks (in_map map) x (Refused ElementFaulty)
+  pub refused-unlisted : AllListed map x.packed s.vertices false → Checks (in_map map) x (Err ElementFaulty)
   refused-unlisted m = record {
     dimension-is = tt;
     checks = λ e t n.
@@ -71,7 +70,7 @@ module _ (map : List ℕ) (x : Element) (s : Simplex) (h : IsSimplex x.kind s) (
   }
 
   module _ (r many : ℕ) (sorts : Sorts s.vertices x.packed r many) where
-    pub refused-twice : many ≢ s.vertices → Checks (in_map map) x (Refused ElementFaulty)
+    pub refused-twice : many ≢ s.vertices → Checks (in_map map) x (Err ElementFaulty)
     refused-twice d = record {
       dimension-is = tt;
       checks = λ e t n.
@@ -84,7 +83,7 @@ module _ (map : List ℕ) (x : Element) (s : Simplex) (h : IsSimplex x.kind s) (
           );
     }
 
-    pub right : AllListed map x.packed s.vertices true → many ≡ s.vertices → Checks (in_map map) x (Cell s.dimension r)
+    pub right : AllListed map x.packed s.vertices true → many ≡ s.vertices → Checks (in_map map) x (Ok (s.dimension, r))
     right m q = record {
       dimension-is = h.dimension-is;
       checks = λ e t n.

@@ -1,42 +1,26 @@
-// Whether an element is right: document 02, refusal 15.
-ghost use Rattle.std.specs.Prelude.{◌≡◌, length};
-ghost use Rattle.node_maps.specs.Map.{map_length, in_map};
+// Whether an element is right.
+ghost use Rattle.node_maps.specs.Map.{in_map};
 ghost use Rattle.mesh_elements.specs.Element.{Checks};
 
-use crate::kind::{Kind, kind_of};
+use crate::kind::Simplex;
 use crate::listed::all_listed;
 use cell_sets::vertices::sort_vertices;
 use mesh_lines::answer::Element;
+use node_maps::map::NodeMap;
 use refusal::Refusal;
 
-// The dimension and the word of the element's cell, or the refusal.
-#[derive(Clone, Copy)]
-pub enum Checked {
-    Cell(usize, u64),
-    Refused(Refusal),
-}
-
-// Whether the element is right, its nodes being listed where the map has them.
-pub fn check_element(map: &[u8], element: Element) -> Checked
-    requires { length map.now ≡ map_length }
-    ensures { Checks (in_map map.now) element result }
+// The dimension and the word of the element's cell, or the refusal where the element is not right: its nodes are to be listed in the map.
+pub fn check_element(map: &NodeMap, element: Element) -> Result<(usize, u64), Refusal>
+    ensures { Checks (in_map map.now.bytes) element result }
 {
-    let kind = kind_of(element.kind);
-    let simplex = match kind {
-        Kind::Refused(refusal) => return Checked::Refused(refusal),
-        Kind::Known(simplex) => simplex,
-    };
+    let simplex = Simplex::try_from(element.kind)?;
     let n = simplex.vertices;
-    if element.many != n {
-        return Checked::Refused(Refusal::ElementFaulty);
-    }
-    if !all_listed(map, element.packed, n) {
-        return Checked::Refused(Refusal::ElementFaulty);
+    if element.many != n || !all_listed(map, element.packed, n) {
+        return Err(Refusal::ElementFaulty);
     }
     let sorted = sort_vertices(element.packed, n);
-    if sorted.many == n {
-        Checked::Cell(simplex.dimension, sorted.word)
-    } else {
-        Checked::Refused(Refusal::ElementFaulty)
+    if sorted.many != n {
+        return Err(Refusal::ElementFaulty);
     }
+    Ok((simplex.dimension, sorted.word))
 }

@@ -1,6 +1,4 @@
-// The kinds of elements: document 02, Note 3.
-ghost use Rattle.mesh_elements.specs.Kind.{IsKind};
-
+// The kinds of elements.
 use refusal::Refusal;
 
 // The vertices and the dimension of a simplex.
@@ -10,33 +8,33 @@ pub struct Simplex {
     pub dimension: usize,
 }
 
-#[derive(Clone, Copy)]
-pub enum Kind {
-    Known(Simplex),
-    Refused(Refusal),
-}
+// The simplex that an element of the kind with this number is.
+impl TryFrom<usize> for Simplex {
+    ghost use Rattle.mesh_elements.specs.Kind.{IsKind};
 
-// The kind with this number.
-pub fn kind_of(number: usize) -> Kind
-    ensures { IsKind number result }
-{
-    match number {
-        15 => Kind::Known(Simplex {
-            vertices: 1,
-            dimension: 0,
-        }),
-        1 => Kind::Known(Simplex {
-            vertices: 2,
-            dimension: 1,
-        }),
-        2 => Kind::Known(Simplex {
-            vertices: 3,
-            dimension: 2,
-        }),
-        4 => Kind::Known(Simplex {
-            vertices: 4,
-            dimension: 3,
-        }),
-        _ => Kind::Refused(Refusal::ElementFaulty),
+    type Error = Refusal;
+
+    ghost try_from_gives = { IsKind };
+
+    fn try_from(kind: usize) -> Result<Self, Refusal> {
+        match kind {
+            15 => Ok(Simplex {
+                vertices: 1,
+                dimension: 0,
+            }),
+            1 => Ok(Simplex {
+                vertices: 2,
+                dimension: 1,
+            }),
+            2 => Ok(Simplex {
+                vertices: 3,
+                dimension: 2,
+            }),
+            4 => Ok(Simplex {
+                vertices: 4,
+                dimension: 3,
+            }),
+            _ => Err(Refusal::ElementFaulty),
+        }
     }
 }

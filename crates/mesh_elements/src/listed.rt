@@ -1,24 +1,15 @@
 // Whether the nodes of an element are listed.
-ghost use Rattle.std.specs.Prelude.{◌≡◌, ◌≤◌, length};
+ghost use Rattle.std.specs.Prelude.{◌≤◌};
 ghost use Rattle.complexes.specs.Packed.{word_vertices};
-ghost use Rattle.node_maps.specs.Map.{map_length};
 ghost use Rattle.mesh_elements.specs.Listed.{AllListed};
 
-use node_maps::map::{NODE_BOUND, is_listed};
+use cell_sets::vertices::vertex;
+use node_maps::map::NodeMap;
 
 // Whether all n nodes of the word are listed.
-pub fn all_listed(map: &[u8], word: u64, n: usize) -> bool
-    requires { (n ≤ word_vertices) × (length map.now ≡ map_length) }
-    ensures { AllListed map.now word n result }
+pub fn all_listed(map: &NodeMap, word: u64, n: usize) -> bool
+    requires { n ≤ word_vertices }
+    ensures { AllListed map.now.bytes word n result }
 {
-    let mut rest = word;
-    let mut i: usize = 0;
-    while i < n {
-        if !is_listed(map, (rest % NODE_BOUND as u64) as usize) {
-            return false;
-        }
-        rest = rest / NODE_BOUND as u64;
-        i = i + 1;
-    }
-    true
+    (0..n).all(|behind| map.is_listed(vertex(word, behind) as usize))
 }

@@ -5,7 +5,6 @@
 --     no_node, no_end, all_read             what they make of the line
 use borrow.Author.Tests.{ltb-true}
 use mathlib.Core.Path.{◌≡◌, refl, sym, ap, ◌∙◌}
-use mathlib.Core.Bool.{true, false}
 use mathlib.Core.List.{List, [], ◌∷◌, ◌++◌, append-nil, append_assoc}
 use Prim.Native.Nat.{ℕ, suc, ◌+◌, ◌*◌, ◌^◌, ◌≤◌, ◌<◌}
 use native.Mathlib.Nat.{pow-suc, pow-le-pow_right}
@@ -18,43 +17,48 @@ use Rattle.complexes.specs.Complex.{vertex_bound}
 use Rattle.complexes.specs.Packed.{word_vertices, packed}
 use Rattle.complexes.proofs.PackedLaws.{packed-append}
 use Rattle.mesh_format.specs.Parse.{Parsed, malformed, parsed, then, gap, number, node, line_end, node_numbers}
-use Rattle.mesh_format.proofs.ReadLaws.{Within, parsed-inj, then-case, cond-split, then-within, later-within}
+use Rattle.mesh_format.proofs.ReadLaws.{Within, parsed-inj, then-case, cond-split}
 use Rattle.mesh_format.proofs.StepLaws.{gap_within, node-within, node_numbers-step}
-use Rattle.mesh_words.specs.Class.{stands_at}
-use Rattle.mesh_words.specs.Steps.{spaced}
-use Rattle.mesh_words.specs.declared.run.Class.TheVariants.{Space}
-use Rattle.mesh_words.proofs.Runs.{stands-true, stands-byte}
-use Rattle.mesh_words.proofs.Steps.{fails, goes, spaced-then}
+use Rattle.mesh_words.specs.Class.{some_of}
+use Rattle.mesh_words.specs.declared.class.Class.TheVariants.{Space}
+use Rattle.mesh_words.proofs.Bytes.{byte-in, byte-out}
+use Rattle.mesh_words.proofs.Steps.{fails, goes}
 
 -- ---- a node number after spaces
 
--- a space stands at `at`, and behind spaces the node number v, which ends at b
+-- the spaces g stand at `at`, and behind them the node number v, which ends at b
 pub record Turn (s : List ℕ) (at v b : ℕ) : Type 0 where
-  pub space : stands_at Space s at ≡ true
-  pub read : spaced node s at ≡ parsed v b
+  pub spaces : List ℕ
+  pub start : ℕ
+  pub parts : gap s at ≡ parsed spaces start
+  pub read : node s start ≡ parsed v b
 
 module _ {s : List ℕ} {at v b : ℕ} (t : Turn s at v b) where
   pub node-small : v < vertex_bound
-  unfolding spaced node
+  unfolding node
   node-small =
-      then-case (gap s at) t.read (λ _ a _ e. then-case (number s a) e (λ u n _ f.
-      let h = cond-split (ltb u vertex_bound) f in rw (parsed-inj h.1).0 at (ltb-true u vertex_bound h.0)))
+      then-case (number s t.start) t.read (λ u n _ f.
+      let h = cond-split (ltb u vertex_bound) f in rw (parsed-inj h.1).0 at (ltb-true u vertex_bound h.0))
 
   pub node-ends : Within (suc at) s b
-  unfolding spaced
-  node-ends = (then-within (gap_within s at) (λ _ a _. later-within (node-within s a))).ends v b t.read
+  node-ends =
+      let g = (gap_within s at).ends t.spaces t.start t.parts in let n = (node-within s t.start).ends v b t.read in
+      record { past = omega (arith, g.past, n.past); inside = n.inside }
 
   pub inside : at < length s
-  inside = (stands-true Space s at t.space).0
+  inside = let g = (gap_within s at).ends t.spaces t.start t.parts in omega (arith, g.past, g.inside)
 
 -- ---- node numbers
 
 module _ (s : List ℕ) (at : ℕ) where
-  none_more : stands_at Space s at ≡ false → node_numbers s at ≡ then (line_end s at) (λ _ a. parsed [] a)
-  none_more e = node_numbers-step s at ∙ rw (stands-byte Space s at 0 refl e)
+  none_more : gap s at ≡ malformed → node_numbers s at ≡ then (line_end s at) (λ _ a. parsed [] a)
+  unfolding gap some_of
+  none_more e = node_numbers-step s at ∙ rw (byte-out s at Space refl e)
 
-  one_more : stands_at Space s at ≡ true → node_numbers s at ≡ then (spaced node s at) (λ v b. then (node_numbers s b) (λ vs c. parsed (v ∷ vs) c))
-  one_more e = node_numbers-step s at ∙ rw (stands-byte Space s at 0 refl e) (spaced-then node s at _)
+  one_more : {g : List ℕ} {a : ℕ} → gap s at ≡ parsed g a
+      → node_numbers s at ≡ then (node s a) (λ v b. then (node_numbers s b) (λ vs c. parsed (v ∷ vs) c))
+  unfolding gap some_of
+  one_more e = node_numbers-step s at ∙ rw (byte-in s at Space e) (goes _ e refl)
 
 -- the node numbers `nodes`, and behind them those that p reads
 abbrev behind : List ℕ → Parsed (List ℕ) → Parsed (List ℕ)
@@ -91,14 +95,14 @@ no-nodes s from =
     same (parsed vs next) = refl
 
 module _ {s : List ℕ} {from at many word : ℕ} (h : Nodes s from at many word) where
-  module _ (e : stands_at Space s at ≡ false) where
+  module _ (e : gap s at ≡ malformed) where
     pub no_end : line_end s at ≡ malformed → node_numbers s from ≡ malformed
     no_end f = h.others ∙ fails _ (none_more s at e ∙ fails _ f)
 
     pub all_read : {b : ℕ} → line_end s at ≡ parsed tt b → node_numbers s from ≡ parsed h.nodes b
     all_read {b} f = h.others ∙ goes _ (none_more s at e ∙ goes _ f refl) (ap (λ (l : List ℕ). parsed l b) (append-nil h.nodes))
 
-  pub no_node : stands_at Space s at ≡ true → spaced node s at ≡ malformed → node_numbers s from ≡ malformed
+  pub no_node : {g : List ℕ} {a : ℕ} → gap s at ≡ parsed g a → node s a ≡ malformed → node_numbers s from ≡ malformed
   no_node e f = h.others ∙ fails _ (one_more s at e ∙ fails _ f)
 
   pub packed-small : many < word_vertices → word < vertex_bound ^ 3
@@ -109,7 +113,7 @@ module _ {s : List ℕ} {from at many word : ℕ} (h : Nodes s from at many word
     count_next = omega (arith, h.count, length-append h.nodes (v ∷ []))
 
     others-next : node_numbers s from ≡ behind (h.nodes ++ (v ∷ [])) (node_numbers s b)
-    others-next = h.others ∙ ap (behind h.nodes) (one_more s at t.space ∙ goes _ t.read refl) ∙ behind-next h.nodes v (node_numbers s b)
+    others-next = h.others ∙ ap (behind h.nodes) (one_more s at t.parts ∙ goes _ t.read refl) ∙ behind-next h.nodes v (node_numbers s b)
 
     pub packed-in : {word' : ℕ} → many < word_vertices → word' ≡ word * vertex_bound + v → Nodes s from b (many + 1) word'
     packed-in {word'} l e = record {

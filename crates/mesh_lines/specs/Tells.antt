@@ -1,23 +1,16 @@
 -- What the functions over the lines of a mesh text answer, in the words of the definitions of crate `mesh_format`.
-use Rattle.std.specs.Prelude.{◌≡◌, List, ℕ, ◌+◌, length, take}
+use Rattle.std.specs.Prelude.{◌≡◌, length, take, Option, Some, None}
 use Rattle.complexes.specs.Packed.{word_vertices, packed}
 use Rattle.mesh_format.specs.Mesh as mesh
 use Rattle.mesh_format.specs.Parse.{Parsed, malformed, parsed}
-use Rattle.mesh_lines.specs.declared.answer.Title.{Title}
-use Rattle.mesh_lines.specs.declared.answer.Title.TheVariants as title
+use Rattle.mesh_words.specs.Tells.{moved}
+use Rattle.mesh_words.specs.declared.reader.Reader.{Reader}
 use Rattle.mesh_lines.specs.declared.answer.Element.{Element}
-use Rattle.mesh_lines.specs.declared.answer.ElementLine.{ElementLine}
-use Rattle.mesh_lines.specs.declared.answer.ElementLine.TheVariants as element
 
--- the word began at position `from`
-unfoldable pub tell_title : ℕ → Parsed (List ℕ) → Title
-tell_title from malformed = title.Malformed
-tell_title from (parsed w at) = title.Read (from + length w) (record { at = at })
-
-unfoldable pub tell_element : Parsed mesh.Element → ElementLine
-tell_element malformed = element.Malformed
-tell_element (parsed e at) =
-    element.Read (record { kind = e.kind; many = length e.nodes; packed = packed (take word_vertices e.nodes) }) (record { at = at })
+unfoldable pub tell_element : Reader → Parsed mesh.Element → Option (Element × Reader)
+tell_element r malformed = None
+tell_element r (parsed e at) =
+    Some (record { kind = e.kind; many = length e.nodes; packed = packed (take word_vertices e.nodes) }, moved r at)
 
 -- x tells of the element e
 pub record TellsElement (e : mesh.Element) (x : Element) : Type 0 where

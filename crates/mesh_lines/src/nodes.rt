@@ -3,11 +3,8 @@ ghost use Rattle.std.specs.Prelude.{◌≡◌};
 ghost use Rattle.mesh_lines.specs.Tells.{tell_element};
 ghost use Rattle.mesh_lines.specs.Nodes.{element_nodes};
 
-use crate::answer::{Element, ElementLine};
-use crate::line::end_at;
-use mesh_words::answer::{Cursor, Number, Skipped};
-use mesh_words::number::node_number_after;
-use mesh_words::run::{Class, stands};
+use crate::answer::Element;
+use mesh_words::reader::Reader;
 use node_maps::map::NODE_BOUND;
 
 // This many nodes are packed, each a digit to the base BASE.
@@ -16,24 +13,20 @@ const PACKED_NODES: usize = 4;
 const BASE: u64 = NODE_BOUND as u64;
 
 // The element of this kind whose node numbers stand from here to the end of the line.
-pub fn nodes_at(text: &[u8], kind: usize, c: Cursor) -> ElementLine
-    ensures { result ≡ tell_element (element_nodes kind text.now c.at) }
+pub fn element_nodes(r: Reader<'_>, kind: usize) -> Option<(Element, Reader<'_>)>
+    ensures { result ≡ tell_element r.entry (element_nodes kind r.entry.text.now r.entry.at) }
 {
-    let mut at = c.at;
+    let mut here = r;
     let mut many: usize = 0;
     let mut packed: u64 = 0;
-    while stands(text, Class::Space, at) {
-        let Number::Read(v, next) = node_number_after(text, Cursor { at }) else {
-            return ElementLine::Malformed;
-        };
+    while let Some(node) = here.spaces() {
+        let (v, next) = node.node_number()?;
         if many < PACKED_NODES {
             packed = packed * BASE + v as u64;
         }
         many = many + 1;
-        at = next.at;
+        here = next;
     }
-    let Skipped::To(next) = end_at(text, Cursor { at }) else {
-        return ElementLine::Malformed;
-    };
-    ElementLine::Read(Element { kind, many, packed }, next)
+    let element = Element { kind, many, packed };
+    Some((element, here.line_end()?))
 }

@@ -1,18 +1,16 @@
--- Words and parts of a text compared piece by piece.
+-- Words compared piece by piece.
 --     same-append, same-last      words that are made of two pieces
 --     same-sized                  words of different lengths differ
---     part-append, part-last      a part of a text in two pieces
 use mathlib.Core.Path.{◌≡◌, refl, sym, ap, ◌∙◌}
 use mathlib.Core.Bool.{Bool, false, ◌&&◌, and-true, and-false, and_assoc}
 use mathlib.Core.List.{List, [], ◌∷◌, ◌++◌}
-use Prim.Native.Nat.{ℕ, suc, ◌+◌, ◌≤◌, ◌<◌}
+use Prim.Native.Nat.{ℕ, suc}
 use native.Mathlib.Decide.{ℕ_discrete}
 use native.Mathlib.Omega.{arith}
 use lib.Dec.{eqb}
-use lib.ListN.{length, get_or, take, drop, length-append, length-drop}
-use lib.Seq.{take-add, take-suc, drop-drop, get_or-drop, length-take-le}
+use lib.ListN.{length, length-append}
 use Rattle.lists.specs.Same.{same_list}
-use Rattle.mesh_format.specs.Parse.{part, same_word}
+use Rattle.mesh_format.specs.Parse.{same_word}
 
 pub same-append : (u v u' v' : List ℕ) → length u ≡ length u' → same_word (u ++ v) (u' ++ v') ≡ same_word u u' && same_word v v'
 unfolding same_list
@@ -38,14 +36,3 @@ same-last u v a b = pick (ℕ_discrete (length u) (length v))
     pick (no h) =
         rw (same-sized u v h)
         (same-sized (u ++ (a ∷ [])) (v ++ (b ∷ [])) (λ e. h (omega (arith, length-append u (a ∷ []), length-append v (b ∷ [])))))
-
-module _ (s : List ℕ) (at : ℕ) where
-  pub part-append : (m n : ℕ) → part s at (m + n) ≡ part s at m ++ part s (at + m) n
-  part-append m n = take-add m n (drop at s) ∙ ap (λ (r : List ℕ). part s at m ++ take n r) (drop-drop m at s)
-
-  pub part-last : (n : ℕ) → at + n < length s → part s at (suc n) ≡ part s at n ++ (get_or s (at + n) 0 ∷ [])
-  part-last n h =
-      take-suc (drop at s) n 0 (omega (arith, length-drop at s)) ∙ ap (λ (b : ℕ). part s at n ++ (b ∷ [])) (get_or-drop at s n 0)
-
-  pub part_length : (n : ℕ) → at + n ≤ length s → length (part s at n) ≡ n
-  part_length n h = length-take-le n (drop at s) (omega (arith, length-drop at s))

@@ -5,47 +5,33 @@ ghost use Rattle.mesh_words.specs.Tells.{tell_skipped};
 
 use crate::keywords::{END_MESH_FORMAT, MESH_FORMAT};
 use crate::opening::{opens_nodes, opens_section};
-use crate::read::{read_format, read_title};
 use crate::section::pass_section;
 use crate::title::the_title;
-use mesh_lines::answer::Title;
-use mesh_words::answer::{Cursor, Skipped};
+use mesh_lines::line::{format_line, word_line};
+use mesh_words::reader::Reader;
 
 // The sections to be passed over, and behind them the line `$Nodes`.
-fn pass_sections(text: &[u8], c: Cursor) -> Skipped
-    ensures { result ≡ tell_skipped (sections text.now c.at) }
+fn pass_sections(r: Reader<'_>) -> Option<Reader<'_>>
+    ensures { result ≡ tell_skipped r.entry (sections r.entry.text.now r.entry.at) }
 {
-    let mut at = c.at;
+    let mut here = r;
     loop {
-        let Title::Read(to, next) = read_title(text, Cursor { at }) else {
-            return Skipped::Malformed;
-        };
-        let word = &text[at..to];
+        let (word, next) = word_line(here)?;
         if opens_nodes(word) {
-            return Skipped::To(next);
+            return Some(next);
         }
         if !opens_section(word) {
-            return Skipped::Malformed;
+            return None;
         }
-        let Skipped::To(behind) = pass_section(text, next, &word[1..]) else {
-            return Skipped::Malformed;
-        };
-        at = behind.at;
+        here = pass_section(next, &word[1..])?;
     }
 }
 
 // The format, the sections passed over and the line `$Nodes`.
-pub fn read_head(text: &[u8]) -> Skipped
-    ensures { result ≡ tell_skipped (head_of text.now) }
+pub fn read_head(text: &[u8]) -> Option<Reader<'_>>
+    ensures { result ≡ tell_skipped (record { text = text.entry; at = 0 }) (head_of text.now) }
 {
-    let Skipped::To(a) = the_title(text, Cursor { at: 0 }, &MESH_FORMAT) else {
-        return Skipped::Malformed;
-    };
-    let Skipped::To(b) = read_format(text, a) else {
-        return Skipped::Malformed;
-    };
-    let Skipped::To(c) = the_title(text, b, &END_MESH_FORMAT) else {
-        return Skipped::Malformed;
-    };
-    pass_sections(text, c)
+    let format = the_title(Reader::open(text, 0), MESH_FORMAT)?;
+    let format_end = format_line(format)?;
+    pass_sections(the_title(format_end, END_MESH_FORMAT)?)
 }

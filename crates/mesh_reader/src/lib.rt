@@ -4,7 +4,5 @@
 pub mod head;
 pub mod keywords;
 pub mod opening;
-pub mod read;
-pub mod reader;
 pub mod section;
 pub mod title;

@@ -1,54 +1,76 @@
 -- What an answer says of the reading that it tells, and the other way.
---     skipped-malformed, skipped-to, number-malformed, number_read     the reading, from the answer
---     skipped-fails, skipped-goes, number-fails, number-goes           the answer, from the reading
-use mathlib.Core.Path.{◌≡◌, refl, ap}
+--     Moved, skipped-moved, read-moved                          what was read, and the reader behind it
+--     skipped-none, read-none                                   nothing was read
+--     skipped-fails, skipped-goes, read-fails, read-goes        the answer, from the reading
+--     skipped-from                                              the same answer, from another reader of the text
+use mathlib.Core.Path.{◌≡◌, refl, sym, ap}
+use mathlib.Core.List.{List}
 use Prim.Native.Nat.{ℕ}
 use native.Mathlib.Omega.{arith}
+use Rattle.std.specs.Prelude.{Some, None}
+use Rattle.std.specs.Borrow.{Bor}
 use Rattle.mesh_format.specs.Parse.{Parsed, malformed, parsed}
-use Rattle.mesh_words.specs.Tells.{tell_skipped, tell_number}
-use Rattle.mesh_words.specs.declared.answer.Cursor.{Cursor}
-use Rattle.mesh_words.specs.declared.answer.Skipped.{Skipped}
-use Rattle.mesh_words.specs.declared.answer.Skipped.TheVariants as skipped
-use Rattle.mesh_words.specs.declared.answer.Number.{Number}
-use Rattle.mesh_words.specs.declared.answer.Number.TheVariants as number
+use Rattle.mesh_words.specs.Tells.{moved, tell_skipped, tell_read}
+use Rattle.mesh_words.specs.declared.reader.Reader.{Reader}
 
 -- ---- the reading, from the answer
 
-pub skipped-malformed : {r : Skipped} {p : Parsed Unit} → r ≡ tell_skipped p → r ≡ skipped.Malformed → p ≡ malformed
-unfolding tell_skipped
-skipped-malformed {p = malformed} h e = refl
-skipped-malformed {p = parsed x at} h e = absurd (let z : ◌≡◌ {A = ℕ} 0 1 = cc in omega arith)
+-- p reads x from r on, and q stands behind it
+pub record Moved {A : Type 0} (p : Parsed A) (x : A) (r q : Reader) : Type 0 where
+  pub is : p ≡ parsed x q.at
+  pub same : q.text ≡ r.text
 
-pub skipped-to : {r : Skipped} {p : Parsed Unit} {c : Cursor} → r ≡ tell_skipped p → r ≡ skipped.To c → p ≡ parsed tt c.at
-unfolding tell_skipped
-skipped-to {p = malformed} h e = absurd (let z : ◌≡◌ {A = ℕ} 0 1 = cc in omega arith)
-skipped-to {p = parsed tt at} {c = c} h e = let q : record { at = at } ≡ c = cc in ap (λ (k : Cursor). parsed tt k.at) q
+module _ (r : Reader) where
+  pub skipped-none : {p : Parsed Unit} → None ≡ tell_skipped r p → p ≡ malformed
+  unfolding tell_skipped
+  skipped-none {p = malformed} h = refl
+  skipped-none {p = parsed tt at} h = absurd (grind arith)
 
-pub number-malformed : {r : Number} {p : Parsed ℕ} → r ≡ tell_number p → r ≡ number.Malformed → p ≡ malformed
-unfolding tell_number
-number-malformed {p = malformed} h e = refl
-number-malformed {p = parsed x at} h e = absurd (let z : ◌≡◌ {A = ℕ} 0 1 = cc in omega arith)
+  pub skipped-moved : {p : Parsed Unit} {q : Reader} → Some q ≡ tell_skipped r p → Moved p tt r q
+  unfolding tell_skipped
+  skipped-moved {p = malformed} h = absurd (grind arith)
+  skipped-moved {p = parsed tt at} {q} h =
+      let m : moved r at ≡ q = grind arith in record { is = ap (λ (k : Reader). parsed tt k.at) m; same = ap (λ (k : Reader). k.text) (sym m) }
 
-pub number_read : {r : Number} {p : Parsed ℕ} {v : ℕ} {c : Cursor} → r ≡ tell_number p → r ≡ number.Read v c → p ≡ parsed v c.at
-unfolding tell_number
-number_read {p = malformed} h e = absurd (let z : ◌≡◌ {A = ℕ} 0 1 = cc in omega arith)
-number_read {p = parsed x at} {v = v} {c = c} h e =
-    let z : x ≡ v = cc in let q : record { at = at } ≡ c = cc in rw z (ap (λ (k : Cursor). parsed v k.at) q)
+  module _ {A : Type 0} where
+    pub read-none : {p : Parsed A} → None ≡ tell_read r p → p ≡ malformed
+    unfolding tell_read
+    read-none {p = malformed} h = refl
+    read-none {p = parsed x at} h = absurd (grind arith)
+
+    pub read-moved : {p : Parsed A} {x : A} {q : Reader} → Some (x, q) ≡ tell_read r p → Moved p x r q
+    unfolding tell_read
+    read-moved {p = malformed} h = absurd (grind arith)
+    read-moved {p = parsed y at} {x} {q} h =
+        let z : y ≡ x = grind arith in let m : moved r at ≡ q = grind arith in
+        record { is = rw z (ap (λ (k : Reader). parsed x k.at) m); same = ap (λ (k : Reader). k.text) (sym m) }
 
 -- ---- the answer, from the reading
 
-pub skipped-fails : {p : Parsed Unit} → p ≡ malformed → skipped.Malformed ≡ tell_skipped p
-unfolding tell_skipped
-skipped-fails e = rw e
+module _ (r : Reader) where
+  pub skipped-fails : {p : Parsed Unit} → p ≡ malformed → None ≡ tell_skipped r p
+  unfolding tell_skipped
+  skipped-fails e = rw e
 
-pub skipped-goes : {p : Parsed Unit} {c : Cursor} → p ≡ parsed tt c.at → skipped.To c ≡ tell_skipped p
-unfolding tell_skipped
-skipped-goes e = rw e
+  pub skipped-goes : {p : Parsed Unit} {q : Reader} → Moved p tt r q → Some q ≡ tell_skipped r p
+  unfolding tell_skipped
+  skipped-goes {q} m = rw (m.is, ← m.same)
 
-pub number-fails : {p : Parsed ℕ} → p ≡ malformed → number.Malformed ≡ tell_number p
-unfolding tell_number
-number-fails e = rw e
+  module _ {A : Type 0} where
+    pub read-fails : {p : Parsed A} → p ≡ malformed → None ≡ tell_read r p
+    unfolding tell_read
+    read-fails e = rw e
 
-pub number-goes : {p : Parsed ℕ} {v : ℕ} {c : Cursor} → p ≡ parsed v c.at → number.Read v c ≡ tell_number p
-unfolding tell_number
-number-goes e = rw e
+    pub read-goes : {p : Parsed A} {x : A} {q : Reader} → Moved p x r q → Some (x, q) ≡ tell_read r p
+    unfolding tell_read
+    read-goes {q} m = rw (m.is, ← m.same)
+
+-- q stands in the text of r
+module _ (read : List ℕ → ℕ → Parsed Unit) (r q : Reader) (same : q.text ≡ r.text) where
+  pub skipped-from : tell_skipped q (read q.text.now q.at) ≡ tell_skipped r (read r.text.now q.at)
+  unfolding tell_skipped
+  skipped-from = go (read r.text.now q.at) (ap (λ (t : Bor (List ℕ)). read t.now q.at) same)
+    where
+      go : (p : Parsed Unit) → read q.text.now q.at ≡ p → tell_skipped q (read q.text.now q.at) ≡ tell_skipped r p
+      go malformed e = rw e
+      go (parsed x at) e = rw (e, same)

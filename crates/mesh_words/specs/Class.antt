@@ -2,8 +2,8 @@
 use Rattle.std.specs.Prelude.{Bool, not, ◌&&◌, List, ℕ, eqb, ltb, length, get_or, drop}
 use Rattle.mesh_format.specs.Words.{carriage_return, is_space, is_line_feed, in_word, is_digit}
 use Rattle.mesh_format.specs.Parse.{Parsed, run, some_bytes}
-use Rattle.mesh_words.specs.declared.run.Class.{Class}
-use Rattle.mesh_words.specs.declared.run.Class.TheVariants.{Space, CarriageReturn, LineFeed, Digit, Word, Line}
+use Rattle.mesh_words.specs.declared.class.Class.{Class}
+use Rattle.mesh_words.specs.declared.class.Class.TheVariants.{Space, CarriageReturn, LineFeed, Digit, Word, Line}
 
 -- whether the byte b is of the class
 abbrev pub in_class : Class → ℕ → Bool

@@ -1,15 +1,22 @@
 -- What the functions over a mesh text answer, in the words of the definitions of crate `mesh_format`.
-use Rattle.std.specs.Prelude.{ℕ}
+use Rattle.std.specs.Prelude.{List, ℕ, Option, Some, None}
+use Rattle.std.specs.Borrow.{Bor}
 use Rattle.mesh_format.specs.Parse.{Parsed, malformed, parsed}
-use Rattle.mesh_words.specs.declared.answer.Skipped.{Skipped}
-use Rattle.mesh_words.specs.declared.answer.Skipped.TheVariants as skipped
-use Rattle.mesh_words.specs.declared.answer.Number.{Number}
-use Rattle.mesh_words.specs.declared.answer.Number.TheVariants as number
+use Rattle.mesh_words.specs.declared.reader.Reader.{Reader}
 
-unfoldable pub tell_skipped : Parsed Unit → Skipped
-tell_skipped malformed = skipped.Malformed
-tell_skipped (parsed _ at) = skipped.To (record { at = at })
+-- the reader r moved to a position
+abbrev pub moved : Reader → ℕ → Reader
+moved r at = record { text = r.text; at = at }
 
-unfoldable pub tell_number : Parsed ℕ → Number
-tell_number malformed = number.Malformed
-tell_number (parsed v at) = number.Read v (record { at = at })
+unfoldable pub tell_skipped : Reader → Parsed Unit → Option Reader
+tell_skipped r malformed = None
+tell_skipped r (parsed _ at) = Some (moved r at)
+
+unfoldable pub tell_read : {A : Type 0} → Reader → Parsed A → Option (A × Reader)
+tell_read r malformed = None
+tell_read r (parsed x at) = Some (x, moved r at)
+
+-- the bytes in an answer
+abbrev pub bytes_of : Option (Bor (List ℕ) × Reader) → Option (List ℕ × Reader)
+bytes_of None = None
+bytes_of (Some p) = Some (p.0.now, p.1)

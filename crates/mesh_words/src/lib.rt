@@ -2,7 +2,7 @@
 // position.
 #![tactic(auto)]
 
-pub mod answer;
+pub mod class;
 pub mod number;
-pub mod run;
+pub mod reader;
 pub mod word;

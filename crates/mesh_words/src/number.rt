@@ -1,70 +1,40 @@
 // Numbers of one to nine digits.
 ghost use Rattle.std.specs.Prelude.{◌≡◌};
 ghost use Rattle.mesh_format.specs.Parse.{number, node};
-ghost use Rattle.mesh_words.specs.Tells.{tell_number};
-ghost use Rattle.mesh_words.specs.Steps.{spaced};
+ghost use Rattle.mesh_words.specs.Tells.{tell_read};
 
-use crate::answer::{Cursor, Number, Skipped};
-use crate::run::{Class, stands};
-use crate::word::some_of;
+use crate::class::Class;
+use crate::reader::Reader;
 use node_maps::map::NODE_BOUND;
 
 // A number has at most this many digits.
 const MOST_DIGITS: usize = 9;
 
-// A number. Reading stops at the tenth digit.
-pub fn number_at(text: &[u8], c: Cursor) -> Number
-    ensures { result ≡ tell_number (number text.now c.at) }
-{
-    let from = c.at;
-    let mut at = from;
-    let mut value: usize = 0;
-    while stands(text, Class::Digit, at) {
-        if MOST_DIGITS <= at - from {
-            return Number::Malformed;
+impl<'a> Reader<'a> {
+    // A number.
+    pub fn number(self) -> Option<(usize, Self)>
+        ensures { result ≡ tell_read self.entry (number self.entry.text.now self.entry.at) }
+    {
+        let (digits, next) = self.some_of(Class::Digit)?;
+        if MOST_DIGITS < digits.len() || next.stands(Class::Word) {
+            return None;
         }
-        value = 10 * value + (text[at] - b'0') as usize;
-        at = at + 1;
+        let mut value: usize = 0;
+        for digit in digits {
+            value = 10 * value + (*digit - b'0') as usize;
+        }
+        Some((value, next))
     }
-    if at == from {
-        return Number::Malformed;
-    }
-    if stands(text, Class::Word, at) {
-        return Number::Malformed;
-    }
-    Number::Read(value, Cursor { at })
-}
 
-// A number after spaces.
-pub fn number_after(text: &[u8], c: Cursor) -> Number
-    ensures { result ≡ tell_number (spaced number text.now c.at) }
-{
-    let Skipped::To(next) = some_of(text, Class::Space, c) else {
-        return Number::Malformed;
-    };
-    number_at(text, next)
-}
-
-// A node number.
-pub fn node_number_at(text: &[u8], c: Cursor) -> Number
-    ensures { result ≡ tell_number (node text.now c.at) }
-{
-    let Number::Read(v, next) = number_at(text, c) else {
-        return Number::Malformed;
-    };
-    if v < NODE_BOUND {
-        Number::Read(v, next)
-    } else {
-        Number::Malformed
+    // A node number.
+    pub fn node_number(self) -> Option<(usize, Self)>
+        ensures { result ≡ tell_read self.entry (node self.entry.text.now self.entry.at) }
+    {
+        let (v, next) = self.number()?;
+        if v < NODE_BOUND {
+            Some((v, next))
+        } else {
+            None
+        }
     }
-}
-
-// A node number after spaces.
-pub fn node_number_after(text: &[u8], c: Cursor) -> Number
-    ensures { result ≡ tell_number (spaced node text.now c.at) }
-{
-    let Skipped::To(next) = some_of(text, Class::Space, c) else {
-        return Number::Malformed;
-    };
-    node_number_at(text, next)
 }

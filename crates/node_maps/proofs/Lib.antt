@@ -1,3 +1,2 @@
--- Bits of a byte, and the empty map.
-mod Bits
+-- The empty map.
 pub mod EmptyMap

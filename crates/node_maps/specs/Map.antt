@@ -1,5 +1,5 @@
 -- A set of vertex numbers as a map: a bit for each vertex number, eight in a byte.
-use Rattle.std.specs.Prelude.{◌≡◌, ◌≢◌, Bool, true, false, List, ℕ, ◌/◌, ◌%◌, ◌^◌, ◌<◌, eqb, length, get_or}
+use Rattle.std.specs.Prelude.{◌≡◌, ◌≢◌, Bool, true, false, List, ℕ, ◌/◌, ◌%◌, ◌^◌, eqb, length, get_or}
 use Rattle.complexes.specs.Complex.{vertex_bound}
 
 abbrev pub map_length : ℕ
@@ -8,11 +8,6 @@ map_length = vertex_bound / 8
 -- bit k of a byte is set
 unfoldable pub bit_of : ℕ → ℕ → Bool
 bit_of byte k = eqb (byte / 2 ^ k % 2) 1
-
--- the byte y is the byte x with bit k set
-pub record SetsBit (k x y : ℕ) : Type 0 where
-  pub here : bit_of y k ≡ true
-  pub elsewhere : (j : ℕ) → j < 8 → j ≢ k → bit_of y j ≡ bit_of x j
 
 -- the node v is in the map
 abbrev pub in_map : List ℕ → ℕ → Bool

@@ -1,7 +1,7 @@
 // A set of vertex numbers, those listed: a bit for each vertex number, eight in a byte.
-ghost use Rattle.std.specs.Prelude.{◌≡◌, ◌^◌, ◌<◌, length};
+ghost use Rattle.std.specs.Prelude.{◌≡◌, ◌<◌};
 ghost use Rattle.complexes.specs.Complex.{vertex_bound};
-ghost use Rattle.node_maps.specs.Map.{map_length, bit_of, in_map, SetsBit, Lists};
+ghost use Rattle.node_maps.specs.Map.{in_map, Empty, Lists};
 
 // Node numbers are below this.
 pub const NODE_BOUND: usize = 65536;
@@ -9,47 +9,35 @@ pub const NODE_BOUND: usize = 65536;
 // The bytes of the map.
 pub const MAP_LENGTH: usize = NODE_BOUND / 8;
 
-// The value of bit k.
-fn bit(k: usize) -> u8
-    requires { k < 8 }
-    ensures { result ≡ 2 ^ k }
-{
-    1 << k
+// The nodes listed: for node v, bit v % 8 of byte v / 8 is set.
+#[derive(Drop)]
+pub struct NodeMap {
+    pub bytes: [u8; MAP_LENGTH],
 }
 
-// Whether bit k of the byte is set.
-fn has_bit(byte: u8, k: usize) -> bool
-    requires { k < 8 }
-    ensures { result ≡ bit_of byte k }
-{
-    byte / bit(k) % 2 == 1
-}
-
-// The byte with bit k set.
-fn with_bit(byte: u8, k: usize) -> u8
-    requires { k < 8 }
-    ensures { SetsBit k byte result }
-{
-    if has_bit(byte, k) {
-        byte
-    } else {
-        byte + bit(k)
+impl NodeMap {
+    // The map that lists no node.
+    pub fn new() -> Self
+        ensures { Empty result.bytes }
+    {
+        NodeMap {
+            bytes: [0; MAP_LENGTH],
+        }
     }
-}
 
-// Whether the node is listed.
-pub fn is_listed(map: &[u8], node: usize) -> bool
-    requires { (node < vertex_bound) × (length map.now ≡ map_length) }
-    ensures { result ≡ in_map map.now node }
-{
-    has_bit(map[node / 8], node % 8)
-}
+    // Whether the node is listed.
+    pub fn is_listed(&self, node: usize) -> bool
+        requires { node < vertex_bound }
+        ensures { result ≡ in_map self.now.bytes node }
+    {
+        self.bytes[node / 8] >> (node % 8) & 1 == 1
+    }
 
-// Lists the node.
-pub fn list(map: &mut [u8], node: usize)
-    requires { (node < vertex_bound) × (length map.old ≡ map_length) }
-    ensures { Lists node map.old map.new }
-{
-    let i = node / 8;
-    map[i] = with_bit(map[i], node % 8);
+    // Lists the node.
+    pub fn list(&mut self, node: usize)
+        requires { node < vertex_bound }
+        ensures { Lists node self.old.bytes self.new.bytes }
+    {
+        self.bytes[node / 8] |= 1 << (node % 8);
+    }
 }

@@ -1,2 +1,2 @@
 -- What the proofs of the crate share.
-mod Remainder
+mod Euclid

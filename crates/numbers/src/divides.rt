@@ -7,8 +7,5 @@ pub fn divides(d: i64, x: i64) -> bool
     requires { pos 0 ≤ℤ d }
     ensures { result ≡ divides d x }
 {
-    if d == 0 {
-        return x == 0;
-    }
-    x % d == 0
+    x.unsigned_abs().is_multiple_of(d.unsigned_abs())
 }

@@ -8,7 +8,7 @@ pub fn floor(x: i64, d: i64) -> i64
     requires { pos 0 <ℤ d }
     ensures { result ≡ floor x d }
 {
-    if x % d < 0 { x / d - 1 } else { x / d }
+    x.div_euclid(d)
 }
 
 // The quotient of step c and d, of an entry by a pivot: most entries are 0, and most pivots are 1.

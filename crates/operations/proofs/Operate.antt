@@ -1,8 +1,8 @@
--- An operation on a side of the matrix: first the matrix, then the side's follower and its inverse companion. `wide-matrix` and `operated`
+-- An operation on a side of the matrix: first the matrix, then the side's follower and its inverse companion. `wide-matrix` and `comes`
 -- tell what the answers make together: the operation, then the check of the limit. `companions-ready`: what the companions' call asks.
 use mathlib.Core.Path.{◌≡◌, refl, sym, ap, subst, ◌∙◌}
 use mathlib.Core.Logic.{◌⊎◌, inl, inr}
-use mathlib.Core.Bool.{true}
+use mathlib.Core.Bool.{true, false≢true}
 use mathlib.Core.List.{List}
 use Prim.Native.Nat.{ℕ, ◌+◌, ◌≤◌, ◌<◌, max}
 use native.Mathlib.Nat as NatL
@@ -10,6 +10,7 @@ use native.Mathlib.Omega.{arith}
 use borrow.Author.Tests.{le-leb, lt-leb}
 use lib.IntN.{ℤ, nat_abs}
 use lib.ListN.{length}
+use Rattle.std.specs.Prelude.{Result, Ok, Err, IsErr}
 use Rattle.matrices.specs.Matrix.{Eq}
 use Rattle.matrices.specs.Matrix as theory
 use Rattle.matrices.specs.Operation.{Operation, on_rows, inverse}
@@ -24,8 +25,7 @@ use Rattle.elementary_operations.specs.Operations.{Fits, Writes, OnLines}
 use Rattle.matrix_lines.proofs.Peaks.{covered-trans, under-covered}
 use Rattle.reduction_laws.specs.Shape.{lines_anew}
 use Rattle.matrix_lines.specs.declared.matrix.Matrix.{Matrix}
-use Rattle.matrix_lines.specs.declared.line.Effect.{Effect}
-use Rattle.matrix_lines.specs.declared.line.Effect.TheVariants.{Done, TooWide}
+use Rattle.matrix_lines.specs.declared.line.TooWide.{TooWide}
 use Rattle.operations.specs.Laid.{Laid, lines_of, state_of, Operated, Followed}
 use Rattle.operations.specs.declared.workspace.Workspace.{Workspace}
 use Rattle.operations.proofs.Regions.{disjoint-sym, Kept, kept_refl, kept_trans, contents-off, lines-off, lines-on, shaped}
@@ -98,13 +98,13 @@ companion-table M m op e f {w} {w'} h = subst Same e here
 
 module _ (x : Side) (op : Operation) (W : Workspace) where
   -- the call on the matrix, which leaves w₁, the one on the follower, which leaves w₂, and the one on the inverse companion
-  abbrev pub OnMatrix : List ℤ → Effect → List ℤ → Type 0
+  abbrev pub OnMatrix : List ℤ → Result ℕ TooWide → List ℤ → Type 0
   OnMatrix w r w₁ = Became W.matrix w (written x op) (on_side x op (contents W.matrix w)) 0 r w₁
 
-  abbrev pub OnFollower : List ℤ → ℕ → Effect → List ℤ → Type 0
+  abbrev pub OnFollower : List ℤ → ℕ → Result ℕ TooWide → List ℤ → Type 0
   OnFollower w₁ before r w₂ = OnLines (follower x W) w₁ op before r w₂
 
-  abbrev pub OnUndone : List ℤ → ℕ → Effect → List ℤ → Type 0
+  abbrev pub OnUndone : List ℤ → ℕ → Result ℕ TooWide → List ℤ → Type 0
   OnUndone w₂ before r w₃ = OnLines (undone x W) w₂ (inverse op) before r w₃
 
   -- the tables that they make
@@ -191,17 +191,17 @@ module _ (x : Side) (op : Operation) (W : Workspace) (w : List ℤ) (l : Laid (l
           ∙ ap largest (sym (noted-put x (new_matrix x op W w) (new_follower x op W w₁) (new_undone x op W w₂) (lines_of (follower (across x) W) w) (lines_of (undone (across x) W) w) peak))
 
   -- what the operation answers and leaves
-  abbrev Comes' : Effect → List ℤ → Type 0
+  abbrev Comes' : Result ℕ TooWide → List ℤ → Type 0
   Comes' r w' = Operated W (λ peak. outcome_on x W op (state_of W peak w)) (SideEntry x W op) w r w'
 
-  wide-first : {w₁ : List ℤ} → OnMatrix x op W w TooWide w₁ → Comes' TooWide w₁
+  wide-first : {e : TooWide} {w₁ : List ℤ} → OnMatrix x op W w (Err e) w₁ → Comes' (Err e) w₁
   wide-first h = record {
     outcome = λ peak u.
         goes-wide peak (kept_refl (follower x W) w) (kept_refl (undone x W) w) (NatL.lt_of_lt_of_le (exceeds-largest h) (parts peak w w).matrix);
     answer = tt;
   }
 
-  wide-second : {w₁ w₂ : List ℤ} {a : ℕ} → OnMatrix x op W w (Done a) w₁ → OnFollower x op W w₁ a TooWide w₂ → Comes' TooWide w₂
+  wide-second : {e : TooWide} {w₁ w₂ : List ℤ} {a : ℕ} → OnMatrix x op W w (Ok a) w₁ → OnFollower x op W w₁ a (Err e) w₂ → Comes' (Err e) w₂
   wide-second {w₁} h k = record {
     outcome = λ peak u.
         goes-wide peak (contents-off apart.ab h) (kept_refl (undone x W) w) (NatL.lt_of_lt_of_le (exceeds-largest k) (parts peak w₁ w).follower);
@@ -209,15 +209,15 @@ module _ (x : Side) (op : Operation) (W : Workspace) (w : List ℤ) (l : Laid (l
   }
 
   pub ends :
-      {w₁ w₂ w₃ : List ℤ} {a b : ℕ} → OnMatrix x op W w (Done a) w₁ → OnFollower x op W w₁ a (Done b) w₂ → (r : Effect)
+      {w₁ w₂ w₃ : List ℤ} {a b : ℕ} → OnMatrix x op W w (Ok a) w₁ → OnFollower x op W w₁ a (Ok b) w₂ → (r : Result ℕ TooWide)
       → OnUndone x op W w₂ b r w₃ → Comes' r w₃
-  ends {w₁} {w₂} {w₃} h k TooWide g = record {
+  ends {w₁} {w₂} {w₃} h k (Err e) g = record {
     outcome = λ peak u.
         goes-wide peak (contents-off apart.ab h) (kept_trans (contents-off apart.ac h) (contents-off apart.bc k))
         (NatL.lt_of_lt_of_le (exceeds-largest g) (parts peak w₁ w₂).undone);
     answer = tt;
   }
-  ends {w₁} {w₂} {w₃} {a} {b} h k (Done d) g = record {
+  ends {w₁} {w₂} {w₃} {a} {b} h k (Ok d) g = record {
     outcome = λ peak u.
         sym
         (outcome-is peak (contents-off apart.ab h) (kept_trans (contents-off apart.ac h) (contents-off apart.bc k))
@@ -310,7 +310,7 @@ pub record Task : Type 0 where
   pub fits : Fits (count side workspace) operation
 
 -- what the operation answers and leaves
-abbrev pub Comes : Task → Effect → List ℤ → Type 0
+abbrev pub Comes : Task → Result ℕ TooWide → List ℤ → Type 0
 Comes t r w' =
     Operated t.workspace (λ peak. outcome_on t.side t.workspace t.operation (state_of t.workspace peak t.slice))
     (SideEntry t.side t.workspace t.operation) t.slice r w'
@@ -319,39 +319,35 @@ Comes t r w' =
 pub record MatrixCalled : Type 0 where
   pub task : Task
   pub left : List ℤ
-  pub result : Effect
+  pub result : Result ℕ TooWide
   pub became : OnMatrix task.side task.operation task.workspace task.slice result left
 
 module _ (c : MatrixCalled) where
   abbrev t : Task
   t = c.task
 
-  turned : (r : Effect) → c.result ≡ r → OnMatrix t.side t.operation t.workspace t.slice r c.left
-  turned r e = subst (λ (x : Effect). OnMatrix t.side t.operation t.workspace t.slice x c.left) e c.became
+  turned : (r : Result ℕ TooWide) → c.result ≡ r → OnMatrix t.side t.operation t.workspace t.slice r c.left
+  turned r e = subst (λ (x : Result ℕ TooWide). OnMatrix t.side t.operation t.workspace t.slice x c.left) e c.became
 
   -- the matrix goes too wide
-  pub wide-matrix : c.result ≡ TooWide → Comes t TooWide c.left
-  wide-matrix e = wide-first t.side t.operation t.workspace t.slice t.laid t.fits.within (turned TooWide e)
+  pub wide-matrix : {e : TooWide} → c.result ≡ Err e → (r : Result ℕ TooWide) → IsErr r → Comes t r c.left
+  wide-matrix {e} is (Ok x) wide = absurd (false≢true wide)
+  wide-matrix {e} is (Err d) wide = wide-first t.side t.operation t.workspace t.slice t.laid t.fits.within (turned (Err e) is)
 
-  module _ {a : ℕ} (e : c.result ≡ Done a) where
+  module _ {a : ℕ} (e : c.result ≡ Ok a) where
     -- what the companions' call asks
     pub companions-ready : Companions (follower t.side t.workspace) (undone t.side t.workspace) t.operation a c.left
     companions-ready = record {
-      follower-held = record { ends = rw (turned (Done a) e).same_length (follower-inside t.laid t.side) };
-      inverse-held = record { ends = rw (turned (Done a) e).same_length (undone-inside t.laid t.side) };
-      bounded = (turned (Done a) e).bounded;
+      follower-held = record { ends = rw (turned (Ok a) e).same_length (follower-inside t.laid t.side) };
+      inverse-held = record { ends = rw (turned (Ok a) e).same_length (undone-inside t.laid t.side) };
+      bounded = (turned (Ok a) e).bounded;
       follower-fits = follower-fits t.laid t.side t.fits;
       inverse-fits = undone-fits t.laid t.side t.fits;
     }
 
     -- a companion goes too wide, or all is done
-    comes :
-        {r : Effect} {w₃ : List ℤ} → Followed (follower t.side t.workspace) (undone t.side t.workspace) t.operation a c.left r w₃
+    pub comes :
+        {r : Result ℕ TooWide} {w₃ : List ℤ} → Followed (follower t.side t.workspace) (undone t.side t.workspace) t.operation a c.left r w₃
         → Comes t r w₃
-    comes (Followed.stopped h) = wide-second t.side t.operation t.workspace t.slice t.laid t.fits.within (turned (Done a) e) h
-    comes (Followed.followed h r g) = ends t.side t.operation t.workspace t.slice t.laid t.fits.within (turned (Done a) e) h r g
-
-    pub operated :
-        {r : Effect} {w₃ : List ℤ} (r' : Effect) → r ≡ r'
-        → Followed (follower t.side t.workspace) (undone t.side t.workspace) t.operation a c.left r w₃ → Comes t r' w₃
-    operated {w₃ = w₃} r' same h = subst (λ (x : Effect). Comes t x w₃) same (comes h)
+    comes (Followed.stopped h) = wide-second t.side t.operation t.workspace t.slice t.laid t.fits.within (turned (Ok a) e) h
+    comes (Followed.followed h r g) = ends t.side t.operation t.workspace t.slice t.laid t.fits.within (turned (Ok a) e) h r g

@@ -7,6 +7,7 @@ use Prim.Native.Nat.{ℕ, ◌<◌}
 use native.Mathlib.Nat as NatL
 use native.Mathlib.Decide.{ℕ_discrete}
 use lib.IntN.{ℤ, pos, neg_ℤ}
+use Rattle.std.specs.Prelude.{Ok}
 use Rattle.integers.proofs.Ring.{zero-mul, add-zero}
 use Rattle.matrices.specs.Matrix.{transpose}
 use Rattle.matrices.specs.Matrix as theory
@@ -19,7 +20,6 @@ use Rattle.matrix_lines.specs.Matrices.{contents, Entries, Holds}
 use Rattle.elementary_operations.specs.Operations.{Fits, Writes}
 use Rattle.matrix_lines.proofs.Peaks.{under-small, small-bounded, covered_same}
 use Rattle.matrix_lines.specs.declared.matrix.Matrix.{Matrix}
-use Rattle.matrix_lines.specs.declared.line.Effect.TheVariants.{Done}
 use Rattle.operations.specs.Laid.{Laid, sizes_of, state_of}
 use Rattle.operations.specs.declared.workspace.Workspace.{Workspace}
 use Rattle.operations.proofs.Side.{Side, rows, columns, follower, undone, on_side, written}
@@ -68,13 +68,13 @@ holds_same M w among A s e = record {
   wrote = inl refl;
 }
 
-pub unchanged : (t : Task) → Small t.slice → Identity t.operation → Comes t (Done 0) t.slice
+pub unchanged : (t : Task) → Small t.slice → Identity t.operation → Comes t (Ok 0) t.slice
 unchanged t small e =
     let x = t.side in let op = t.operation in let W = t.workspace in let w = t.slice in let s = small-bounded small in
     ends x op W w t.laid t.fits.within
     (holds_same W.matrix w (written x op) (on_side x op (contents W.matrix w)) s (on_side-identity x op e (contents W.matrix w)))
     (holds_same (follower x W) w (λ i j. Writes op i) (on_rows op (contents (follower x W) w)) s (on_rows-identity op e (contents (follower x W) w)))
-    (Done 0)
+    (Ok 0)
     (holds_same (undone x W) w (λ i j. Writes (inverse op) i) (on_rows (inverse op) (contents (undone x W) w)) s (on_rows-identity (inverse op) (identity-inverse op e) (contents (undone x W) w)))
 
 -- ---- what the passes need: no operation is called where it would change nothing

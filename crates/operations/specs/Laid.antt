@@ -1,5 +1,5 @@
 -- How the matrix of a reduction and its companions lie in the slice, and what an operation on them answers.
-use Rattle.std.specs.Prelude.{◌≡◌, List, ◌⊎◌, ℕ, ◌≤◌, max, ℤ}
+use Rattle.std.specs.Prelude.{◌≡◌, List, ◌⊎◌, ℕ, ◌≤◌, max, ℤ, Result, Ok, Err}
 use Rattle.matrices.specs.Operation.{Operation, inverse}
 use Rattle.reduction_steps.specs.Table.{Table, table}
 use Rattle.reduction_steps.specs.State.{Sizes, State, Outcome, made, too_wide, on_row, on_column}
@@ -7,8 +7,7 @@ use Rattle.matrix_lines.specs.Slice.{entry_limit, Under, Bounded, Covered}
 use Rattle.matrix_lines.specs.Matrices.{end, contents, EntryOf}
 use Rattle.elementary_operations.specs.Operations.{Writes, OnLines}
 use Rattle.matrix_lines.specs.declared.matrix.Matrix.{Matrix}
-use Rattle.matrix_lines.specs.declared.line.Effect.{Effect}
-use Rattle.matrix_lines.specs.declared.line.Effect.TheVariants.{Done, TooWide}
+use Rattle.matrix_lines.specs.declared.line.TooWide.{TooWide}
 use Rattle.operations.specs.declared.workspace.Workspace.{Workspace}
 
 -- The five matrices follow one another in a slice of length n, gaps allowed. The companions of the row operations have a line for each row of
@@ -55,9 +54,9 @@ state_of W peak w =
 -- ---- what an operation answers and leaves
 
 -- what it has come to: the state that it made, with the larger one of the peak before and the answer, or too wide
-abbrev pub outcome_of : Workspace → ℕ → Effect → List ℤ → Outcome
-outcome_of W peak (Done x) w' = made (state_of W (max peak x) w')
-outcome_of W peak TooWide w' = too_wide
+abbrev pub outcome_of : Workspace → ℕ → Result ℕ TooWide → List ℤ → Outcome
+outcome_of W peak (Ok x) w' = made (state_of W (max peak x) w')
+outcome_of W peak (Err e) w' = too_wide
 
 -- n is the absolute value of an entry of w, which an operation on the rows writes in the matrix, its follower or its inverse companion
 abbrev pub RowEntry : Workspace → Operation → List ℤ → ℕ → Type 0
@@ -80,24 +79,24 @@ pub record Wrote (entry : List ℤ → ℕ → Type 0) (w : List ℤ) (x : ℕ) 
   pub covered : Covered w w' x
   pub attained : (x ≡ 0) ⊎ entry w' x
 
-abbrev pub Answered : (List ℤ → ℕ → Type 0) → List ℤ → Effect → List ℤ → Type 0
-Answered entry w (Done x) w' = Wrote entry w x w'
-Answered entry w TooWide w' = Unit {0}
+abbrev pub Answered : (List ℤ → ℕ → Type 0) → List ℤ → Result ℕ TooWide → List ℤ → Type 0
+Answered entry w (Ok x) w' = Wrote entry w x w'
+Answered entry w (Err e) w' = Unit {0}
 
 -- With a peak that bounds the slice, the operation's outcome is the one answered, and the slice holds the state that it made.
-pub record Operated (W : Workspace) (outcome_at : ℕ → Outcome) (entry : List ℤ → ℕ → Type 0) (w : List ℤ) (r : Effect) (w' : List ℤ) : Type 0 where
+pub record Operated (W : Workspace) (outcome_at : ℕ → Outcome) (entry : List ℤ → ℕ → Type 0) (w : List ℤ) (r : Result ℕ TooWide) (w' : List ℤ) : Type 0 where
   pub outcome : (peak : ℕ) → Under peak w → outcome_of W peak r w' ≡ outcome_at peak
   pub answer : Answered entry w r w'
 
-abbrev pub RowsOperated : Workspace → Operation → List ℤ → Effect → List ℤ → Type 0
+abbrev pub RowsOperated : Workspace → Operation → List ℤ → Result ℕ TooWide → List ℤ → Type 0
 RowsOperated W op w r w' = Operated W (λ peak. on_row entry_limit (sizes_of W) op (state_of W peak w)) (RowEntry W op) w r w'
 
-abbrev pub ColumnsOperated : Workspace → Operation → List ℤ → Effect → List ℤ → Type 0
+abbrev pub ColumnsOperated : Workspace → Operation → List ℤ → Result ℕ TooWide → List ℤ → Type 0
 ColumnsOperated W op w r w' = Operated W (λ peak. on_column entry_limit (sizes_of W) op (state_of W peak w)) (ColumnEntry W op) w r w'
 
 -- a follower F undergoes the operation and an inverse companion U its inverse: F goes too wide, or U comes to r after it
-pub data Followed (F U : Matrix) (op : Operation) (before : ℕ) (w : List ℤ) : Effect → List ℤ → Type 0 where
-  stopped : {w' : List ℤ} → OnLines F w op before TooWide w' → Followed F U op before w TooWide w'
+pub data Followed (F U : Matrix) (op : Operation) (before : ℕ) (w : List ℤ) : Result ℕ TooWide → List ℤ → Type 0 where
+  stopped : {e : TooWide} {w' : List ℤ} → OnLines F w op before (Err e) w' → Followed F U op before w (Err e) w'
   followed :
-      {x : ℕ} {w₁ : List ℤ} → OnLines F w op before (Done x) w₁ → (r : Effect) {w' : List ℤ} → OnLines U w₁ (inverse op) x r w'
+      {x : ℕ} {w₁ : List ℤ} → OnLines F w op before (Ok x) w₁ → (r : Result ℕ TooWide) {w' : List ℤ} → OnLines U w₁ (inverse op) x r w'
       → Followed F U op before w r w'

@@ -74,14 +74,6 @@ pub record RowPassing (W : Workspace) (k peak₀ : ℕ) (w₀ : List ℤ) (i pea
       row_pass entry_limit (sizes_of W) k (W.matrix.lines - i) i (state_of W peak w)
       ≡ row_pass_of W k peak₀ w₀
 
-pub rows_start : {W : Workspace} {k peak : ℕ} {w : List ℤ} → Placed W k peak w → RowPassing W k peak w (k + 1) peak w
-rows_start {W} {k} {w = w} h = record {
-  same_length = refl;
-  from = omega arith;
-  placed = h;
-  rest = rw (add-one k);
-}
-
 module _ {W : Workspace} {k peak₀ : ℕ} {w₀ : List ℤ} {i peak : ℕ} {w : List ℤ} (h : RowPassing W k peak₀ w₀ i peak w) (below : i < W.matrix.lines) where
   -- the operation of the pass is the one that the code makes
   row-operation :

@@ -6,6 +6,7 @@ use Prim.Native.Nat.{ℕ, ◌<◌, max}
 use native.Mathlib.Omega.{arith}
 use lib.ListN.{length}
 use lib.IntN.{ℤ}
+use Rattle.std.specs.Prelude.{Result, Ok, Err}
 use Rattle.matrices.specs.Matrix as theory
 use Rattle.reduction_steps.specs.Table.{entry}
 use Rattle.reduction_steps.specs.State.{Sizes, State, Outcome, made, too_wide}
@@ -15,8 +16,7 @@ use Rattle.reduction_laws.specs.Moves.{Moves, Keeps, moves-keep}
 use Rattle.reduction_laws.specs.StageLaws as stage_laws
 use Rattle.matrix_lines.specs.Slice.{Under}
 use Rattle.matrix_lines.specs.Matrices.{Held, contents}
-use Rattle.matrix_lines.specs.declared.line.Effect.{Effect}
-use Rattle.matrix_lines.specs.declared.line.Effect.TheVariants.{Done, TooWide}
+use Rattle.matrix_lines.specs.declared.line.TooWide.{TooWide}
 use Rattle.operations.specs.Laid.{Laid, lines_of, state_of, outcome_of, Wrote, Answered, Operated}
 use Rattle.matrix_lines.proofs.Peaks.{under-covered}
 use Rattle.operations.specs.declared.workspace.Workspace.{Workspace}
@@ -36,21 +36,21 @@ held-matrix h = record { ends = omega (arith, h.after-matrix, h.after-row-invers
 
 -- ---- what an operation came to
 
-module _ {W : Workspace} {o : ℕ → Outcome} {written : List ℤ → ℕ → Type 0} {r : Effect} {w w' : List ℤ} (h : Operated W o written w r w') where
+module _ {W : Workspace} {o : ℕ → Outcome} {written : List ℤ → ℕ → Type 0} {r : Result ℕ TooWide} {w w' : List ℤ} (h : Operated W o written w r w') where
   -- the peak after it is the larger one of the peak before and the answer
-  pub operated-done : {a : ℕ} → r ≡ Done a → {peak n : ℕ} → Under peak w → n ≡ max peak a → o peak ≡ made (state_of W n w')
+  pub operated-done : {a : ℕ} → r ≡ Ok a → {peak n : ℕ} → Under peak w → n ≡ max peak a → o peak ≡ made (state_of W n w')
   operated-done e {peak} u is =
-      sym (h.outcome peak u) ∙ ap (λ (x : Effect). outcome_of W peak x w') e ∙ ap (λ (n : ℕ). made (state_of W n w')) (sym is)
+      sym (h.outcome peak u) ∙ ap (λ (x : Result ℕ TooWide). outcome_of W peak x w') e ∙ ap (λ (n : ℕ). made (state_of W n w')) (sym is)
 
-  pub operated-under : {a : ℕ} → r ≡ Done a → {peak n : ℕ} → Under peak w → n ≡ max peak a → Under n w'
+  pub operated-under : {a : ℕ} → r ≡ Ok a → {peak n : ℕ} → Under peak w → n ≡ max peak a → Under n w'
   operated-under {a} e u is =
       subst (λ (n : ℕ). Under n w') (sym is) (under-covered u wrote.covered wrote.bounded)
     where
       wrote : Wrote written w a w'
-      wrote = subst (λ (x : Effect). Answered written w x w') e h.answer
+      wrote = subst (λ (x : Result ℕ TooWide). Answered written w x w') e h.answer
 
-  pub operated-wide : r ≡ TooWide → {peak : ℕ} → Under peak w → o peak ≡ too_wide
-  operated-wide e {peak} u = sym (h.outcome peak u) ∙ ap (λ (x : Effect). outcome_of W peak x w') e
+  pub operated-wide : {wide : TooWide} → r ≡ Err wide → {peak : ℕ} → Under peak w → o peak ≡ too_wide
+  operated-wide e {peak} u = sym (h.outcome peak u) ∙ ap (λ (x : Result ℕ TooWide). outcome_of W peak x w') e
 
 -- ---- what a stage's operations keep
 

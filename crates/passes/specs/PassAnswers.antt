@@ -1,5 +1,5 @@
 -- What steps b, c and d answer and leave in the slice, and what the passes start from.
-use Rattle.std.specs.Prelude.{◌≡◌, List, ℕ, suc, ◌-◌, length, replicate, ℤ, pos}
+use Rattle.std.specs.Prelude.{◌≡◌, List, ℕ, suc, ◌-◌, length, replicate, ℤ, pos, Result, Ok, Err}
 use Rattle.matrices.specs.Matrix.{Matrix}
 use Rattle.reduction_steps.specs.Table.{entry}
 use Rattle.reduction_steps.specs.State.{Outcome, made, too_wide}
@@ -11,8 +11,6 @@ use Rattle.refusal.specs.Number.{number_of}
 use Rattle.refusal.specs.declared.Refusal.{Refusal}
 use Rattle.operations.specs.Laid.{Laid, sizes_of, lines_of, state_of}
 use Rattle.operations.specs.declared.workspace.Workspace.{Workspace}
-use Rattle.passes.specs.declared.pass.Pass.{Pass}
-use Rattle.passes.specs.declared.pass.Pass.TheVariants as pass
 
 -- ---- what the passes of stage k start from
 
@@ -73,6 +71,6 @@ pub record PassRefused (o : Outcome) (n : ℕ) (x : Refusal) (w' : List ℤ) : T
   pub outcome : o ≡ too_wide
   pub cleared : Cleared n x w'
 
-abbrev pub Passed : Workspace → Outcome → ℕ → Pass → List ℤ → Type 0
-Passed W o n (pass.Made peak) w' = PassMade W o n peak w'
-Passed W o n (pass.Refused x) w' = PassRefused o n x w'
+abbrev pub Passed : Workspace → Outcome → ℕ → Result ℕ Refusal → List ℤ → Type 0
+Passed W o n (Ok peak) w' = PassMade W o n peak w'
+Passed W o n (Err x) w' = PassRefused o n x w'

@@ -4,10 +4,8 @@ ghost use Rattle.matrix_lines.specs.Slice.{Under};
 ghost use Rattle.operations.specs.Laid.{Laid};
 ghost use Rattle.passes.specs.PassAnswers.{bring_of, Passed};
 
-use crate::pass::Pass;
 use elementary_operations::operation::Operation;
-use matrix_lines::line::{Effect, clear};
-use numbers::absolute::larger;
+use matrix_lines::line::clear;
 use operations::workspace::Workspace;
 use refusal::Refusal;
 
@@ -19,29 +17,29 @@ pub fn bring_pivot(
     i: usize,
     j: usize,
     peak: u64,
-) -> Pass
+) -> Result<u64, Refusal>
     requires laid { Laid (length w.old) workspace }
     requires under { Under peak w.old }
     requires k_lt_lines { (k < workspace.matrix.lines) × (k < workspace.matrix.width) × (i < workspace.matrix.lines) × (j < workspace.matrix.width) }
     ensures { Passed workspace (bring_of workspace k i j peak w.old) (length w.old) result w.new }
 {
-    let Effect::Done(rows) = workspace.swap_rows(w, i, k) else {
+    let Ok(rows) = workspace.swap_rows(w, i, k) else {
         clear(w);
-        return Pass::Refused(Refusal::TooWide);
+        return Err(Refusal::TooWide);
     };
-    let swapped = larger(peak, rows);
-    let Effect::Done(columns) = workspace.swap_columns(w, j, k) else {
+    let swapped = peak.max(rows);
+    let Ok(columns) = workspace.swap_columns(w, j, k) else {
         clear(w);
-        return Pass::Refused(Refusal::TooWide);
+        return Err(Refusal::TooWide);
     };
-    let brought = larger(swapped, columns);
+    let brought = swapped.max(columns);
     let m = workspace.matrix;
     if m.entry(w, k, k) < 0 {
-        let Effect::Done(negated) = workspace.on_rows(w, Operation::Negate(k)) else {
+        let Ok(negated) = workspace.on_rows(w, Operation::Negate(k)) else {
             clear(w);
-            return Pass::Refused(Refusal::TooWide);
+            return Err(Refusal::TooWide);
         };
-        return Pass::Made(larger(brought, negated));
+        return Ok(brought.max(negated));
     }
-    Pass::Made(brought)
+    Ok(brought)
 }

@@ -4,46 +4,40 @@ ghost use Rattle.std.specs.Prelude.{length};
 ghost use Rattle.passes.specs.PassAnswers.{Placed, ColumnClear, row_pass_of, column_pass_of, Passed};
 
 use elementary_operations::operation::Operation;
-use matrix_lines::line::{Effect, clear};
+use matrix_lines::line::clear;
 use matrix_lines::zero::first_nonzero;
-use numbers::absolute::larger;
 use numbers::quotient::quotient;
 use operations::workspace::Workspace;
 use refusal::Refusal;
 
-#[derive(Clone, Copy)]
-pub enum Pass {
-    Made(u64),
-    Refused(Refusal),
-}
-
 // Step c: for each lower row in rising order, subtracts quotient times row k.
-pub fn clear_column(workspace: Workspace, w: &mut [i32], k: usize, peak: u64) -> Pass
+pub fn clear_column(
+    workspace: Workspace,
+    w: &mut [i32],
+    k: usize,
+    peak: u64,
+) -> Result<u64, Refusal>
     requires { Placed workspace k peak w.old }
     ensures { Passed workspace (row_pass_of workspace k peak w.old) (length w.old) result w.new }
 {
     let m = workspace.matrix;
-    let rows = m.lines;
     let mut largest = peak;
-    let mut i = k + 1;
-    while i < rows {
+    for i in k + 1..m.lines {
         let q = quotient(m.entry(w, i, k), m.entry(w, k, k));
         if q == 0 {
-            i = i + 1;
             continue;
         }
-        let Effect::Done(written) = workspace.on_rows(w, Operation::Subtract(i, k, q)) else {
+        let Ok(written) = workspace.on_rows(w, Operation::Subtract(i, k, q)) else {
             clear(w);
-            return Pass::Refused(Refusal::TooWide);
+            return Err(Refusal::TooWide);
         };
-        largest = larger(largest, written);
-        i = i + 1;
+        largest = largest.max(written);
     }
-    Pass::Made(largest)
+    Ok(largest)
 }
 
 // Step d: for each later column in rising order, subtracts quotient times column k, whose one nonzero entry is the pivot.
-pub fn clear_row(workspace: Workspace, w: &mut [i32], k: usize, peak: u64) -> Pass
+pub fn clear_row(workspace: Workspace, w: &mut [i32], k: usize, peak: u64) -> Result<u64, Refusal>
     requires { ColumnClear workspace k peak w.old }
     ensures { Passed workspace (column_pass_of workspace k peak w.old) (length w.old) result w.new }
 {
@@ -53,12 +47,12 @@ pub fn clear_row(workspace: Workspace, w: &mut [i32], k: usize, peak: u64) -> Pa
     let mut j = first_nonzero(w, m.line(k), k + 1, columns);
     while j < columns {
         let q = quotient(m.entry(w, k, j), m.entry(w, k, k));
-        let Effect::Done(written) = workspace.on_columns(w, Operation::Subtract(j, k, q)) else {
+        let Ok(written) = workspace.on_columns(w, Operation::Subtract(j, k, q)) else {
             clear(w);
-            return Pass::Refused(Refusal::TooWide);
+            return Err(Refusal::TooWide);
         };
-        reached = larger(reached, written);
+        reached = reached.max(written);
         j = first_nonzero(w, m.line(k), j + 1, columns);
     }
-    Pass::Made(reached)
+    Ok(reached)
 }

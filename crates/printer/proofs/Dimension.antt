@@ -6,6 +6,7 @@ use Prim.Native.Nat.{ℕ, ◌+◌, ◌*◌, ◌≤◌}
 use native.Mathlib.Omega.{arith}
 use lib.ListN.{length, drop}
 use lib.IntN.{ℤ}
+use Rattle.std.specs.Prelude.{Result, Ok, Err}
 use Rattle.sheet_format.specs.Layout.{top}
 use Rattle.sheet_format.specs.Check.{count_field, refusal}
 use Rattle.sheet_format.specs.Sheet.{Bytes}
@@ -34,8 +35,6 @@ use Rattle.text.specs.Put.{PutsWithin}
 use Rattle.text.specs.Room.{line_room, dimension_room}
 use Rattle.text.specs.PutLaws.{within_more}
 use Rattle.writers.specs.declared.counts.Counts.{Counts}
-use Rattle.calls.specs.declared.answer.Answer.{Answer}
-use Rattle.calls.specs.declared.answer.Answer.TheVariants.{Done, Refused}
 use Rattle.calls.specs.CallAnswers.{answered, counts_in, CallAnswers}
 
 -- the text of dimension p of the sheet b
@@ -49,31 +48,39 @@ pub record ReportRoom (cells t f : ℕ) (report : List ℤ) : Type 0 where
   pub generators-within : t + f ≤ cells
   pub report-within : 2 + t + (t + f) * cells ≤ length report
 
-module _ (limit : ℕ) (host : limit ≡ host_limit) (b : List ℕ) (accepted : refusal host_limit b ≡ 0) (p : ℕ) (dimension : p ≤ top) (report work : List ℤ)
-    (size : length report ≡ report_room) (space : length work ≡ work_room) (at : ℕ) (out : List ℕ) where
+-- the report of dimension p of the sheet b is asked for at the host's limit, with slots enough
+pub record Asks (limit : ℕ) (b : List ℕ) (p : ℕ) (report work : List ℤ) : Type 0 where
+  pub host : limit ≡ host_limit
+  pub bytes : Bytes b
+  pub accepted : refusal host_limit b ≡ 0
+  pub dimension : p ≤ top
+  pub report-size : length report ≡ report_room
+  pub work-size : length work ≡ work_room
+
+module _ {limit : ℕ} {b : List ℕ} {p : ℕ} {report work : List ℤ} (asks : Asks limit b p report work) where
   abbrev q : Question
   q = asked b p
 
   -- what the call comes to at the host's limit
-  at-host : {r : Answer} {after work' : List ℤ} → CallAnswers (call limit q requests.report report work) r after work'
+  at-host : {r : Result Counts Refusal} {after work' : List ℤ} → CallAnswers (call limit q requests.report report work) r after work'
       → call host_limit q requests.report report work ≡ record { answer = answered r; output = after; work = work' }
-  at-host a = rw host at a.is
+  at-host a = rw asks.host at a.is
 
-  pub refused-text : (x : Refusal) (after work' : List ℤ) (r : ℕ) (out' : List ℕ) → CallAnswers (call limit q requests.report report work) (Refused x) after work'
+  pub refused-text : {x : Refusal} {after work' : List ℤ} {at r : ℕ} {out out' : List ℕ} → CallAnswers (call limit q requests.report report work) (Err x) after work'
       → PutsWithin (line_room 1) (refusal_line (number_of x)) at out r out' → PutsWithin dimension_room (text_of b p) at out r out'
   unfolding dimension_text
-  refused-text x after work' r out' a puts =
+  refused-text {x} {after} {work'} {at} {r} {out} {out'} a puts =
       subst (λ (text : List ℕ). PutsWithin dimension_room text at out r out') same (within_more (omega arith) puts)
     where
       w : WentWide q (number_of x)
-      w = accepted-refused q accepted dimension report work size space (number_of x) (ap (λ (c : Called reports.Counts ℤ). c.answer) (at-host a))
+      w = accepted-refused q asks.accepted asks.dimension report work asks.report-size asks.work-size (number_of x) (ap (λ (c : Called reports.Counts ℤ). c.answer) (at-host a))
 
       same : refusal_line (number_of x) ≡ text_of b p
       same = ap refusal_line w.number_is ∙ ap (dimension_text p (cell_count q)) (sym w.is_wide)
 
-  module _ (bytes : Bytes b) (x : Counts) (after work' : List ℤ) (a : CallAnswers (call limit q requests.report report work) (Done x) after work') where
+  module _ {x : Counts} {after work' : List ℤ} (a : CallAnswers (call limit q requests.report report work) (Ok x) after work') where
     sizes : ReportSized q (length report) (counts_in x)
-    sizes = report-sized q bytes report work (counts_in x) (ap (λ (c : Called reports.Counts ℤ). c.answer) (at-host a))
+    sizes = report-sized q asks.bytes report work (counts_in x) (ap (λ (c : Called reports.Counts ℤ). c.answer) (at-host a))
 
     cells_are : {cells : ℕ} → cells ≡ count_field b p → cells ≡ cell_count q
     unfolding question.cells
@@ -96,14 +103,14 @@ module _ (limit : ℕ) (host : limit ≡ host_limit) (b : List ℕ) (accepted : 
         (sym (at-host a)
         ∙ with-done (first_refusal (early_checks host_limit q requests.report (length report) (length work))) no_ending (two q no_transforms)
         (λ s r y. splices (list_slots q requests.report) (numbers_of q requests.report s r y) 1 report) report work
-        (accepted-passes q accepted dimension report work size space) k.rows k.rank k.state k.reductions-are refl)
+        (accepted-passes q asks.accepted asks.dimension report work asks.report-size asks.work-size) k.rows k.rank k.state k.reductions-are refl)
         ∙ splices-single (list_slots q requests.report) (numbers_of q requests.report k.rows k.rank k.state) report
 
     pub total-within : x.torsion + x.free ≤ host_limit
     total-within = omega (arith, sizes.is-sized.total-within, sizes.is-sized.cells-within)
 
-    pub done-room : (cells : ℕ) → cells ≡ count_field b p → ReportRoom cells x.torsion x.free report
-    done-room cells is =
+    pub done-room : {cells : ℕ} → cells ≡ count_field b p → ReportRoom cells x.torsion x.free report
+    done-room is =
         rw (cells_are is) (record {
           cells-within = sizes.is-sized.cells-within;
           torsion-within = omega (arith, sizes.is-sized.total-within);
@@ -111,9 +118,9 @@ module _ (limit : ℕ) (host : limit ≡ host_limit) (b : List ℕ) (accepted : 
           report-within = sizes.fits;
         })
 
-    pub done-text : (cells r : ℕ) (out' : List ℕ) → cells ≡ count_field b p
+    pub done-text : {cells at r : ℕ} {out out' : List ℕ} → cells ≡ count_field b p
         → PutsWithin dimension_room (report_text p cells x.torsion (x.torsion + x.free) after) at out r out' → PutsWithin dimension_room (text_of b p) at out r out'
-    done-text cells r out' is puts = subst (λ (text : List ℕ). PutsWithin dimension_room text at out r out') same puts
+    done-text {cells} {at} {r} {out} {out'} is puts = subst (λ (text : List ℕ). PutsWithin dimension_room text at out r out') same puts
       where
         n : ℕ
         n = cell_count q

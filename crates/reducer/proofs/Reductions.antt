@@ -11,6 +11,7 @@ use Rattle.reduction_steps.specs.Pivot.{Choice, none, place, Rule, IsRule}
 use Rattle.reduction_steps.specs.Step.{Letter, Machine, at, Ended}
 use Rattle.reduction_laws.proofs.Run.{reaches-refl, reaches-trans}
 use Rattle.reduction_laws.proofs.Ends.{reaches-reduce}
+use Rattle.std.specs.Prelude.{Result, Ok, Err}
 use Rattle.matrix_lines.specs.Slice.{entry_limit, Under}
 use Rattle.refusal.specs.declared.Refusal.{Refusal}
 use Rattle.operations.specs.Laid.{Laid, sizes_of, state_of}
@@ -65,23 +66,20 @@ module _ {rule : Rule} {W : Workspace} {peak₀ : ℕ} {w₀ : List ℤ} {k peak
   ended is g = reaches-reduce entry_limit (sizes_of W) rule is (state_of W peak₀ w₀) (shaped-state peak₀ w₀ h.laid) (within-under W h.under) (reaches-trans entry_limit (sizes_of W) rule h.goes g)
 
 -- the stage k that begins with the slice w has come to r and the slice w'
-module _ {rule : Rule} (is : IsRule rule) {W : Workspace} {peak₀ : ℕ} {w₀ : List ℤ} {k peak : ℕ} {w : List ℤ} (h : Reducing rule W peak₀ w₀ k peak w) (rounds : ℕ) {r : Stage} (w' : List ℤ) (e : ChoiceEnds rule W k rounds peak w r w') where
-  ends_as : {r' : Stage} → r ≡ r' → ChoiceEnds rule W k rounds peak w r' w'
-  ends_as i = subst (λ (r : Stage). ChoiceEnds rule W k rounds peak w r w') i e
+module _ {rule : Rule} (is : IsRule rule) {W : Workspace} {peak₀ : ℕ} {w₀ : List ℤ} {k peak : ℕ} {w : List ℤ} (h : Reducing rule W peak₀ w₀ k peak w) (rounds : ℕ) {r : Result Stage Refusal} (w' : List ℤ) (e : ChoiceEnds rule W k rounds peak w r w') where
+  ends_as : {r' : Result Stage Refusal} → r ≡ r' → ChoiceEnds rule W k rounds peak w r' w'
+  ends_as i = subst (λ (r : Result Stage Refusal). ChoiceEnds rule W k rounds peak w r w') i e
 
-  pub reducing-next : {peak' : ℕ} → r ≡ stage.Cleared peak' → Reducing rule W peak₀ w₀ (k + 1) peak' w'
+  pub reducing-next : {peak' : ℕ} → r ≡ Ok (stage.Cleared peak') → Reducing rule W peak₀ w₀ (k + 1) peak' w'
   reducing-next {peak'} i = let c = ends_as i in subst (λ (n : ℕ). Reducing rule W peak₀ w₀ n peak' w') (sym (add-one k)) (onward h c.goes c.begun c.same_length)
 
-  pub next-less : {peak' : ℕ} → r ≡ stage.Cleared peak' → stages_left rule W (k + 1) w' < stages_left rule W k w
+  pub next-less : {peak' : ℕ} → r ≡ Ok (stage.Cleared peak') → stages_left rule W (k + 1) w' < stages_left rule W k w
   next-less i = let n = reducing-next i in omega (arith, n.begun.row-bound, chosen-small is n.begun)
 
-  pub reducing-again : {peak' : ℕ} → r ≡ stage.Again peak' → Reducing rule W peak₀ w₀ k peak' w'
+  pub reducing-again : {peak' : ℕ} → r ≡ Ok (stage.Again peak') → Reducing rule W peak₀ w₀ k peak' w'
   reducing-again i = let c = ends_as i in onward h c.goes c.begun c.same_length
 
-  pub again-less : {peak' : ℕ} → 0 < rounds → r ≡ stage.Again peak' → stages_left rule W k w' < stages_left rule W k w
-  again-less p i = omega (arith, (ends_as i).falls)
-
-  pub reduced : {peak' : ℕ} → r ≡ stage.Exhausted peak' → ReductionDone W (reduction_of rule W peak₀ w₀) (length w₀) k peak' w'
+  pub reduced : {peak' : ℕ} → r ≡ Ok (stage.Exhausted peak') → ReductionDone W (reduction_of rule W peak₀ w₀) (length w₀) k peak' w'
   reduced i =
       let c = ends_as i in
       record {
@@ -89,7 +87,7 @@ module _ {rule : Rule} (is : IsRule rule) {W : Workspace} {peak₀ : ℕ} {w₀ 
         kept = record { same_length = c.kept.same_length ∙ h.same_length; under = c.kept.under };
       }
 
-  pub reduction-refused : {y : Refusal} → r ≡ stage.Refused y → ReductionRefused (reduction_of rule W peak₀ w₀) (length w₀) y w'
+  pub reduction-refused : {y : Refusal} → r ≡ Err y → ReductionRefused (reduction_of rule W peak₀ w₀) (length w₀) y w'
   reduction-refused i =
       let c = ends_as i in
       record {

@@ -10,6 +10,7 @@ use native.Mathlib.Decide.{ℕ_discrete}
 use native.Mathlib.Omega.{arith}
 use lib.IntN.{ℤ, pos, negsuc, nat_abs}
 use lib.ListN.{length, replicate}
+use Rattle.std.specs.Prelude.{Result, Ok, Err}
 use Rattle.integers.specs.Division.{◌∣ℤ◌}
 use Rattle.integers.proofs.Floor.{dvd-iff-modulo, nat_abs-modulo}
 use Rattle.matrices.specs.Operation.{subtract}
@@ -29,8 +30,6 @@ use Rattle.operations.specs.Laid.{Laid, sizes_of, state_of}
 use Rattle.scans.specs.Scan.{ColumnReduced}
 use Rattle.operations.specs.declared.workspace.Workspace.{Workspace}
 use Rattle.operations.proofs.Side.{shaped-state}
-use Rattle.passes.specs.declared.pass.Pass.{Pass}
-use Rattle.passes.specs.declared.pass.Pass.TheVariants as pass
 use Rattle.reducer.specs.declared.stage.Stage.{Stage}
 use Rattle.reducer.specs.declared.stage.Stage.TheVariants as stage
 use Rattle.passes.specs.PassAnswers.{matrix_of, RowsDone, Placed, ColumnClear, bring_of, row_pass_of, column_pass_of, Passed, PassMade, PassRefused}
@@ -61,24 +60,24 @@ ToColumns rule l W k peak w peak' w' = Onward rule ColumnClear pivot_size Letter
 
 -- a stage that goes on from y ends as one from x that comes to y
 pub stage-after :
-    {rule : Rule} (W : Workspace) (k rounds' rounds size' size : ℕ) (x y : Machine) (n : ℕ) (w : List ℤ) (r : Stage) (w' : List ℤ) → size' + rounds ≤ size + rounds' → Goes rule W x y → length w ≡ n
+    {rule : Rule} (W : Workspace) (k rounds' rounds size' size : ℕ) (x y : Machine) (n : ℕ) (w : List ℤ) (r : Result Stage Refusal) (w' : List ℤ) → size' + rounds ≤ size + rounds' → Goes rule W x y → length w ≡ n
     → StageEnds rule W k rounds' size' y (length w) r w' → StageEnds rule W k rounds size x n r w'
-stage-after {rule} W k rounds' rounds size' size x y n w (stage.Cleared peak) w' b g l e = record {
+stage-after {rule} W k rounds' rounds size' size x y n w (Ok (stage.Cleared peak)) w' b g l e = record {
   goes = reaches-trans entry_limit (sizes_of W) rule g e.goes;
   begun = e.begun;
   same_length = e.same_length ∙ l;
 }
-stage-after {rule} W k rounds' rounds size' size x y n w (stage.Exhausted peak) w' b g l e = record {
+stage-after {rule} W k rounds' rounds size' size x y n w (Ok (stage.Exhausted peak)) w' b g l e = record {
   goes = reaches-trans entry_limit (sizes_of W) rule g e.goes;
   kept = record { same_length = e.kept.same_length ∙ l; under = e.kept.under };
 }
-stage-after {rule} W k rounds' rounds size' size x y n w (stage.Again peak) w' b g l e = record {
+stage-after {rule} W k rounds' rounds size' size x y n w (Ok (stage.Again peak)) w' b g l e = record {
   goes = reaches-trans entry_limit (sizes_of W) rule g e.goes;
   begun = e.begun;
   falls = omega (arith, e.falls);
   same_length = e.same_length ∙ l;
 }
-stage-after {rule} W k rounds' rounds size' size x y n w (stage.Refused z) w' b g l e = record {
+stage-after {rule} W k rounds' rounds size' size x y n w (Err z) w' b g l e = record {
   goes = reaches-trans entry_limit (sizes_of W) rule g e.goes;
   cleared = record { number = e.cleared.number; zeros = e.cleared.zeros ∙ ap (λ (n : ℕ). replicate n (pos 0)) l };
 }
@@ -86,7 +85,7 @@ stage-after {rule} W k rounds' rounds size' size x y n w (stage.Refused z) w' b 
 -- what is spent is the rounds that the callee does not count
 pub onward-ends :
     {rule : Rule} {P : Workspace → ℕ → ℕ → List ℤ → Type 0} {size : Workspace → ℕ → List ℤ → ℕ} {l : Letter} {W : Workspace} {k : ℕ} {x : Machine} {n spent bound peak : ℕ} {w : List ℤ}
-    → Onward rule P size l W k x n spent bound peak w → (rounds' rounds : ℕ) → rounds ≤ rounds' + spent → (r : Stage) (w' : List ℤ)
+    → Onward rule P size l W k x n spent bound peak w → (rounds' rounds : ℕ) → rounds ≤ rounds' + spent → (r : Result Stage Refusal) (w' : List ℤ)
     → StageEnds rule W k rounds' (size W k w) (at l k (state_of W peak w)) (length w) r w' → StageEnds rule W k rounds bound x n r w'
 onward-ends {rule} {P} {size} {l} {W} {k} {x} {n} {spent} {bound} {peak} {w} o rounds' rounds b r w' e =
     stage-after W k rounds' rounds (size W k w) bound x (at l k (state_of W peak w)) n w r w' (omega (arith, o.falls)) o.goes o.same_length e
@@ -101,16 +100,16 @@ again {rule} {W} {k} {peak} {w} h rounds e = record {
 }
 
 -- what a pass answered
-pub passed-made : {W : Workspace} {o : Outcome} {n : ℕ} {r : Pass} {peak' : ℕ} {w' : List ℤ} → r ≡ pass.Made peak' → Passed W o n r w' → PassMade W o n peak' w'
-passed-made {W} {o} {n} {r} {w' = w'} e h = subst (λ (x : Pass). Passed W o n x w') e h
+pub passed-made : {W : Workspace} {o : Outcome} {n : ℕ} {r : Result ℕ Refusal} {peak' : ℕ} {w' : List ℤ} → r ≡ Ok peak' → Passed W o n r w' → PassMade W o n peak' w'
+passed-made {W} {o} {n} {r} {w' = w'} e h = subst (λ (x : Result ℕ Refusal). Passed W o n x w') e h
 
 -- a pass that went too wide ends the stage
 pub pass-stops :
-    {rule : Rule} (W : Workspace) (x : Machine) {o : Outcome} {n : ℕ} (r : Pass) {y : Refusal} (w' : List ℤ) → (o ≡ too_wide → Goes rule W x wide) → r ≡ pass.Refused y → Passed W o n r w'
-    → StageRefused rule W x n refusal.TooWide w'
+    {rule : Rule} (W : Workspace) (x : Machine) {o : Outcome} {n : ℕ} (r : Result ℕ Refusal) {y : Refusal} (w' : List ℤ) → (o ≡ too_wide → Goes rule W x wide) → r ≡ Err y → Passed W o n r w'
+    → StageRefused rule W x n y w'
 pass-stops W x {o} {n} r {y} w' f e h =
-    let p : PassRefused o n y w' = subst (λ (x : Pass). Passed W o n x w') e h in
-    record { goes = f p.outcome; cleared = record { number = refl; zeros = p.cleared.zeros } }
+    let p : PassRefused o n y w' = subst (λ (x : Result ℕ Refusal). Passed W o n x w') e h in
+    record { goes = f p.outcome; cleared = p.cleared }
 
 -- ---- letter a
 

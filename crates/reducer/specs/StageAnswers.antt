@@ -1,6 +1,6 @@
 -- What a stage and the whole reduction answer and leave in the slice, and what a stage starts from. `Placed` and `ColumnClear`, from which the passes
 -- start, stand in crate `passes`.
-use Rattle.std.specs.Prelude.{◌≡◌, List, ℕ, suc, ◌+◌, ◌≤◌, length, ℤ, nat_abs}
+use Rattle.std.specs.Prelude.{◌≡◌, List, ℕ, suc, ◌+◌, ◌≤◌, length, ℤ, nat_abs, Result, Ok, Err}
 use Rattle.matrices.specs.Matrix.{Matrix}
 use Rattle.reduction_steps.specs.Pivot.{Choice, none, place, Rule}
 use Rattle.reduction_steps.specs.Step.{Letter, Machine, at, done, wide, a, reduce, Reaches}
@@ -12,7 +12,6 @@ use Rattle.passes.specs.PassAnswers.{matrix_of, RowsDone, Cleared, StillUnder}
 use Rattle.reducer.specs.declared.stage.Stage.{Stage}
 use Rattle.reducer.specs.declared.stage.Stage.TheVariants as stage
 use Rattle.reducer.specs.declared.reduction.Reduction.{Reduction}
-use Rattle.reducer.specs.declared.reduction.Reduction.TheVariants as reduction
 
 -- ---- what a stage starts from
 
@@ -74,18 +73,18 @@ pub record StageRefused (rule : Rule) (W : Workspace) (x : Machine) (n : ℕ) (y
   pub goes : Goes rule W x wide
   pub cleared : Cleared n y w'
 
-abbrev pub StageEnds : Rule → Workspace → ℕ → ℕ → ℕ → Machine → ℕ → Stage → List ℤ → Type 0
-StageEnds rule W k rounds size x n (stage.Cleared peak) w' = StageCleared rule W k x n peak w'
-StageEnds rule W k rounds size x n (stage.Exhausted peak) w' = StageExhausted rule W k x n peak w'
-StageEnds rule W k rounds size x n (stage.Again peak) w' = StageAgain rule W k rounds size x n peak w'
-StageEnds rule W k rounds size x n (stage.Refused y) w' = StageRefused rule W x n y w'
+abbrev pub StageEnds : Rule → Workspace → ℕ → ℕ → ℕ → Machine → ℕ → Result Stage Refusal → List ℤ → Type 0
+StageEnds rule W k rounds size x n (Ok (stage.Cleared peak)) w' = StageCleared rule W k x n peak w'
+StageEnds rule W k rounds size x n (Ok (stage.Exhausted peak)) w' = StageExhausted rule W k x n peak w'
+StageEnds rule W k rounds size x n (Ok (stage.Again peak)) w' = StageAgain rule W k rounds size x n peak w'
+StageEnds rule W k rounds size x n (Err y) w' = StageRefused rule W x n y w'
 
 -- from the choice, with the slice w, the peak so far and so many rounds left
-abbrev pub ChoiceEnds : Rule → Workspace → ℕ → ℕ → ℕ → List ℤ → Stage → List ℤ → Type 0
+abbrev pub ChoiceEnds : Rule → Workspace → ℕ → ℕ → ℕ → List ℤ → Result Stage Refusal → List ℤ → Type 0
 ChoiceEnds rule W k rounds peak w r w' = StageEnds rule W k rounds (chosen_size rule W k w) (at a k (state_of W peak w)) (length w) r w'
 
 -- from the pass of letter l, in a round after which so many are left
-abbrev pub PassEnds : Rule → Letter → Workspace → ℕ → ℕ → ℕ → List ℤ → Stage → List ℤ → Type 0
+abbrev pub PassEnds : Rule → Letter → Workspace → ℕ → ℕ → ℕ → List ℤ → Result Stage Refusal → List ℤ → Type 0
 PassEnds rule l W k rounds peak w r w' = StageEnds rule W k (suc rounds) (pivot_size W k w) (at l k (state_of W peak w)) (length w) r w'
 
 -- the whole reduction, which ends at the machine y
@@ -97,6 +96,6 @@ pub record ReductionRefused (y : Machine) (n : ℕ) (x : Refusal) (w' : List ℤ
   pub outcome : y ≡ wide
   pub cleared : Cleared n x w'
 
-abbrev pub Reduces : Workspace → Machine → ℕ → Reduction → List ℤ → Type 0
-Reduces W y n (reduction.Done r peak) w' = ReductionDone W y n r peak w'
-Reduces W y n (reduction.Refused x) w' = ReductionRefused y n x w'
+abbrev pub Reduces : Workspace → Machine → ℕ → Result Reduction Refusal → List ℤ → Type 0
+Reduces W y n (Ok r) w' = ReductionDone W y n r.rank r.peak w'
+Reduces W y n (Err x) w' = ReductionRefused y n x w'

@@ -6,14 +6,13 @@ ghost use Rattle.passes.specs.PassAnswers.{Placed, ColumnClear};
 ghost use Rattle.reducer.specs.StageAnswers.{Begun, ChoiceEnds, PassEnds};
 
 use elementary_operations::operation::Operation;
-use matrix_lines::line::{Effect, clear};
-use numbers::absolute::larger;
+use matrix_lines::line::clear;
 use operations::workspace::Workspace;
 use passes::bring::bring_pivot;
-use passes::pass::{Pass, clear_column, clear_row};
+use passes::pass::{clear_column, clear_row};
 use refusal::Refusal;
-use scans::pivot::{Pivot, find_pivot};
-use scans::remainder::{Indivisible, column_keeps, first_indivisible, row_keeps};
+use scans::pivot::find_pivot;
+use scans::remainder::{column_keeps, first_indivisible, row_keeps};
 
 // How many pivots one call of the cycle tries. A round takes at most four frames: the choice, the row pass, the column pass, and the column pass
 // after step e. The choice that finds no round left is one more, so that the cycle is at most 4 * ROUNDS + 1 = 33 frames deep. Its proof shows this:
@@ -27,7 +26,6 @@ pub enum Stage {
     Cleared(u64),
     Exhausted(u64),
     Again(u64),
-    Refused(Refusal),
 }
 
 // Steps a and b, where a round is left.
@@ -38,31 +36,33 @@ pub fn choose_pivot(
     k: usize,
     rounds: usize,
     peak: u64,
-) -> Stage
+) -> Result<Stage, Refusal>
     requires { Begun workspace k peak w.old }
     ensures { ChoiceEnds pivot_rule workspace k rounds peak w.old result w.new }
 {
     if rounds == 0 {
-        return Stage::Again(peak);
+        return Ok(Stage::Again(peak));
     }
-    let Pivot::At(i, j) = find_pivot(workspace.matrix, w, k) else {
-        return Stage::Exhausted(peak);
+    let Some((i, j)) = find_pivot(workspace.matrix, w, k) else {
+        return Ok(Stage::Exhausted(peak));
     };
-    let Pass::Made(brought) = bring_pivot(workspace, w, k, i, j, peak) else {
-        return Stage::Refused(Refusal::TooWide);
-    };
+    let brought = bring_pivot(workspace, w, k, i, j, peak)?;
     row_pass(workspace, w, k, rounds - 1, brought)
 }
 
 // Step c.
 #[cycle(choose_pivot_column_pass_row_pass)]
-fn row_pass(workspace: Workspace, w: &mut [i32], k: usize, rounds: usize, peak: u64) -> Stage
+fn row_pass(
+    workspace: Workspace,
+    w: &mut [i32],
+    k: usize,
+    rounds: usize,
+    peak: u64,
+) -> Result<Stage, Refusal>
     requires { Placed workspace k peak w.old }
     ensures { PassEnds pivot_rule steps.c workspace k rounds peak w.old result w.new }
 {
-    let Pass::Made(cleared) = clear_column(workspace, w, k, peak) else {
-        return Stage::Refused(Refusal::TooWide);
-    };
+    let cleared = clear_column(workspace, w, k, peak)?;
     if column_keeps(workspace.matrix, w, k) {
         return choose_pivot(workspace, w, k, rounds, cleared);
     }
@@ -71,23 +71,27 @@ fn row_pass(workspace: Workspace, w: &mut [i32], k: usize, rounds: usize, peak: 
 
 // Steps d and e.
 #[cycle(choose_pivot_column_pass_row_pass)]
-fn column_pass(workspace: Workspace, w: &mut [i32], k: usize, rounds: usize, peak: u64) -> Stage
+fn column_pass(
+    workspace: Workspace,
+    w: &mut [i32],
+    k: usize,
+    rounds: usize,
+    peak: u64,
+) -> Result<Stage, Refusal>
     requires { ColumnClear workspace k peak w.old }
     ensures { PassEnds pivot_rule steps.d workspace k rounds peak w.old result w.new }
 {
-    let Pass::Made(cleared) = clear_row(workspace, w, k, peak) else {
-        return Stage::Refused(Refusal::TooWide);
-    };
+    let cleared = clear_row(workspace, w, k, peak)?;
     if row_keeps(workspace.matrix, w, k) {
         return choose_pivot(workspace, w, k, rounds, cleared);
     }
-    let Indivisible::Row(i) = first_indivisible(workspace.matrix, w, k) else {
-        return Stage::Cleared(cleared);
+    let Some(i) = first_indivisible(workspace.matrix, w, k) else {
+        return Ok(Stage::Cleared(cleared));
     };
-    let Effect::Done(added) = workspace.on_rows(w, Operation::Subtract(k, i, -1)) else {
+    let Ok(added) = workspace.on_rows(w, Operation::Subtract(k, i, -1)) else {
         clear(w);
-        return Stage::Refused(Refusal::TooWide);
+        return Err(Refusal::TooWide);
     };
-    let reached = larger(cleared, added);
+    let reached = cleared.max(added);
     column_pass(workspace, w, k, rounds, reached)
 }

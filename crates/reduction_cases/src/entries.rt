@@ -1,88 +1,54 @@
 // The slots as the reduction finds them: the entries read from the input, and an identity for each companion.
-ghost use Rattle.std.specs.Prelude.{◌≡◌, ◌+◌, ◌*◌, ◌<◌, ◌≤◌, length};
-ghost use Rattle.matrix_lines.specs.Slice.{Small};
-ghost use Rattle.reduction_cases.specs.Workspace.{slots, Slotted, LaidOut};
+ghost use Rattle.std.specs.Prelude.{◌≡◌, ◌*◌, ◌<◌, ◌≤◌, length, nat_abs};
+ghost use Rattle.matrix_lines.specs.Slice.{entry_limit, Small};
+ghost use Rattle.reduction_cases.specs.Workspace.{Slotted, LaidOut};
 
+use crate::workspace::SLOTS;
+use matrix_lines::line::TooWide;
 use matrix_lines::matrix::Matrix;
 use operations::workspace::Workspace;
 
-fn byte(s: &[u8], i: usize) -> u32
-    requires { i < length s.now }
-    ensures { result < 256 }
-{
-    s[i] as u32
-}
-
-// The number that n is in two's complement.
-fn signed(n: u32) -> i64 {
-    if n < 2147483648 {
-        n as i64
-    } else {
-        n as i64 - 4294967296
-    }
-}
-
-// The number of four bytes, low byte first.
-fn entry(s: &[u8], at: usize) -> i64
-    requires { at + 4 ≤ length s.now }
-{
-    let low = byte(s, at) + 256 * byte(s, at + 1);
-    let high = byte(s, at + 2) + 256 * byte(s, at + 3);
-    signed(low + 65536 * high)
-}
-
-// Stores x at place i. Answers false, and stores nothing, where x lies beyond the limit.
-fn store(w: &mut [i32], i: usize, x: i64) -> bool
+// Stores x at place i.
+fn store(w: &mut [i32], i: usize, x: i32)
     requires i_in_bounds { i < length w.old }
     requires small { Small w.old }
+    requires within { nat_abs x ≤ entry_limit }
     ensures { Small w.new }
 {
-    if x < -Matrix::ENTRY_LIMIT {
-        return false;
-    }
-    if Matrix::ENTRY_LIMIT < x {
-        return false;
-    }
-    w[i] = x as i32;
-    true
+    w[i] = x;
 }
 
-// Stores the entries of the input from the first place on. Answers whether all of them lie within the limit.
-pub fn read_entries(input: &[u8], w: &mut [i32]) -> bool
+// Stores the entries of the input, four bytes each, from the first place on. One that lies beyond the limit ends it.
+pub fn read_entries(input: &[u8], w: &mut [i32]) -> Result<(), TooWide>
     requires input_len_bound { length input.now ≤ 4 * length w.old }
     requires small { Small w.old }
     ensures { Small w.new }
 {
-    let mut i: usize = 0;
-    while 4 * i + 4 <= input.len() {
-        if !store(w, i, entry(input, 4 * i)) {
-            return false;
+    let (words, _) = input.as_chunks::<4>();
+    for (i, word) in words.iter().enumerate() {
+        let x = i32::from_le_bytes(*word);
+        if i64::from(x).abs() > Matrix::ENTRY_LIMIT {
+            return Err(TooWide);
         }
-        i = i + 1;
+        store(w, i, x);
     }
-    true
+    Ok(())
 }
 
 // Stores 1 at place i of line i, for each line.
-fn write_identity(m: Matrix, w: &mut [i32])
+fn write_identity(m: Matrix, w: &mut [i32; SLOTS])
     requires slotted { Slotted m }
-    requires w_len { length w.old ≡ slots }
     requires small { Small w.old }
     ensures { Small w.new }
 {
-    let mut place = m.at;
-    let mut i: usize = 0;
-    while i < m.width {
-        store(w, place, 1);
-        place = place + m.width + 1;
-        i = i + 1;
+    for i in 0..m.width {
+        store(w, m.at + i * (m.width + 1), 1);
     }
 }
 
 // Makes every companion an identity.
-pub fn write_identities(workspace: Workspace, w: &mut [i32])
+pub fn write_identities(workspace: Workspace, w: &mut [i32; SLOTS])
     requires laid_out { LaidOut workspace }
-    requires w_len { length w.old ≡ slots }
     requires small { Small w.old }
     ensures { Small w.new }
 {

@@ -7,81 +7,63 @@ mod entries;
 mod print;
 mod workspace;
 
-ghost use Rattle.std.specs.Prelude.{◌≤◌, length};
+ghost use Rattle.std.specs.Prelude.{◌≤◌};
+ghost use Rattle.matrix_lines.specs.Slice.{Small};
 ghost use Rattle.reduction_cases.specs.Workspace.{side};
 
 use crate::entries::{read_entries, write_identities};
 use crate::print::print_reduced;
-use crate::workspace::{SIDE, SLOTS, asked_for, lay_out};
+use crate::workspace::{Asked, SIDE, SLOTS, lay_out};
 use matrix_lines::matrix::Matrix;
-use reducer::reduction::{Reduction, reduce_matrix};
+use reducer::reduction::reduce_matrix;
 use std::io;
-use std::io::Read;
-use streams::read_full;
+use streams::read_front;
 
 const ROOM: usize = 131072;
 
-// Writes the outcome for one matrix. Answers false, and writes nothing, where an entry lies beyond the limit.
+// Writes the outcome for one matrix, whose entries stand in the first slots.
 fn answer(
     rt: &impl Print,
     rows: usize,
     columns: usize,
     companions: u8,
-    entries: &[u8],
-) -> io::Result<bool>
+    w: &mut [i32; SLOTS],
+) -> io::Result<()>
     requires rows_le_side { (rows ≤ side) × (columns ≤ side) }
-    requires entries_len_bound { length entries.now ≤ 256 }
+    requires small { Small w.old }
 {
-    let asked = asked_for(companions);
+    let asked = Asked::from(companions);
     let workspace = lay_out(rows, columns, asked);
-    let mut w = [0i32; SLOTS];
-    if !read_entries(entries, &mut w) {
-        return Ok(false);
+    write_identities(workspace, w);
+    match reduce_matrix(workspace, w, Matrix::ENTRY_LIMIT as u64) {
+        Ok(reduced) => print_reduced(rt, reduced.rank, asked, workspace, w),
+        Err(_) => println!(rt; "T"),
     }
-    write_identities(workspace, &mut w);
-    match reduce_matrix(workspace, &mut w, Matrix::ENTRY_LIMIT as u64) {
-        Reduction::Done(rank, _) => print_reduced(rt, rank, asked, workspace, &w)?,
-        Reduction::Refused(_) => println!(rt; "T")?,
-    }
-    Ok(true)
 }
 
 // Answers matrix after matrix, up to the first that is cut short, has too many rows or columns or holds an entry beyond the limit.
 fn answer_all(rt: &impl Print, input: &[u8]) -> io::Result<()> {
-    let mut at: usize = 0;
-    while at + 3 <= input.len() {
-        let rows = input[at] as usize;
-        let columns = input[at + 1] as usize;
-        if SIDE < rows {
+    let mut rest = input;
+    while let [rows, columns, companions, tail @ ..] = rest {
+        let rows = usize::from(*rows);
+        let columns = usize::from(*columns);
+        if rows > SIDE || columns > SIDE {
             return Ok(());
         }
-        if SIDE < columns {
+        let Some((entries, next)) = tail.split_at_checked(4 * rows * columns) else {
+            return Ok(());
+        };
+        let mut w = [0i32; SLOTS];
+        if read_entries(entries, &mut w).is_err() {
             return Ok(());
         }
-        let from = at + 3;
-        let to = from + 4 * (rows * columns);
-        if input.len() < to {
-            return Ok(());
-        }
-        if !answer(rt, rows, columns, input[at + 2], &input[from..to])? {
-            return Ok(());
-        }
-        at = to;
+        answer(rt, rows, columns, *companions, &mut w)?;
+        rest = next;
     }
     Ok(())
 }
 
-// Reads the matrices into the array, and answers them.
-fn answer_stream<R: Read>(
-    rt: &impl Print,
-    stream: &mut R,
-    input: &mut [u8; ROOM],
-) -> io::Result<()> {
-    let length = read_full(stream, input);
-    answer_all(rt, &input[..length])
-}
-
 fn main(rt: HostRuntime) -> io::Result<()> {
     let mut input = [0u8; ROOM];
-    answer_stream(&rt, &mut rt.stdin(), &mut input)
+    answer_all(&rt, read_front(&mut rt.stdin(), &mut input))
 }

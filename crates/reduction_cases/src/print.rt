@@ -1,8 +1,8 @@
 // Writes the outcome of a reduction.
 ghost use Rattle.std.specs.Prelude.{◌≡◌, ◌+◌, ◌*◌, ◌<◌, ◌≤◌, length};
-ghost use Rattle.reduction_cases.specs.Workspace.{side, slots, Slotted, LaidOut};
+ghost use Rattle.reduction_cases.specs.Workspace.{side, Slotted, LaidOut};
 
-use crate::workspace::Asked;
+use crate::workspace::{Asked, SLOTS};
 use matrix_lines::matrix::Matrix;
 use operations::workspace::Workspace;
 use std::io;
@@ -11,25 +11,26 @@ use std::io;
 fn print_line(rt: &impl Print, w: &[i32], at: usize, step: usize, count: usize) -> io::Result<()>
     requires { (count ≤ side) × (at + 7 * step < length w.now) }
 {
-    let mut i: usize = 0;
-    while i < count {
+    for i in 0..count {
         let entry = w[at + i * step];
         print!(rt; " {entry}")?;
-        i = i + 1;
     }
     Ok(())
 }
 
 // Writes as many lines as the matrix has, each of as many entries as its lines have: the first entries stand `outer` apart, those of a line `inner`.
-fn print_lines(rt: &impl Print, w: &[i32], m: Matrix, outer: usize, inner: usize) -> io::Result<()>
+fn print_lines(
+    rt: &impl Print,
+    w: &[i32; SLOTS],
+    m: Matrix,
+    outer: usize,
+    inner: usize,
+) -> io::Result<()>
     requires slotted { Slotted m }
-    requires w_len { length w.now ≡ slots }
     requires inner_bound { outer + inner ≤ 9 }
 {
-    let mut i: usize = 0;
-    while i < m.lines {
+    for i in 0..m.lines {
         print_line(rt, w, m.at + i * outer, inner, m.width)?;
-        i = i + 1;
     }
     Ok(())
 }
@@ -38,13 +39,12 @@ fn print_lines(rt: &impl Print, w: &[i32], m: Matrix, outer: usize, inner: usize
 fn print_matrix(
     rt: &impl Print,
     mark: &str,
-    w: &[i32],
+    w: &[i32; SLOTS],
     m: Matrix,
     outer: usize,
     inner: usize,
 ) -> io::Result<()>
     requires slotted { Slotted m }
-    requires w_len { length w.now ≡ slots }
     requires inner_bound { outer + inner ≤ 9 }
 {
     print!(rt; "{mark}")?;
@@ -53,17 +53,15 @@ fn print_matrix(
 }
 
 // A matrix whose lines are its rows.
-fn print_rows(rt: &impl Print, mark: &str, w: &[i32], m: Matrix) -> io::Result<()>
+fn print_rows(rt: &impl Print, mark: &str, w: &[i32; SLOTS], m: Matrix) -> io::Result<()>
     requires slotted { Slotted m }
-    requires w_len { length w.now ≡ slots }
 {
     print_matrix(rt, mark, w, m, m.width, 1)
 }
 
 // A square matrix whose lines are its columns.
-fn print_columns(rt: &impl Print, mark: &str, w: &[i32], m: Matrix) -> io::Result<()>
+fn print_columns(rt: &impl Print, mark: &str, w: &[i32; SLOTS], m: Matrix) -> io::Result<()>
     requires slotted { Slotted m }
-    requires w_len { length w.now ≡ slots }
 {
     print_matrix(rt, mark, w, m, 1, m.width)
 }
@@ -74,10 +72,9 @@ pub fn print_reduced(
     rank: usize,
     asked: Asked,
     workspace: Workspace,
-    w: &[i32],
+    w: &[i32; SLOTS],
 ) -> io::Result<()>
     requires laid_out { LaidOut workspace }
-    requires w_len { length w.now ≡ slots }
 {
     println!(rt; "D {rank}")?;
     print_rows(rt, "M", w, workspace.matrix)?;

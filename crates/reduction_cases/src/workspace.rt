@@ -20,12 +20,14 @@ pub struct Asked {
 }
 
 // The companions that a byte asks for: the sum of 1 row follower, 2 its inverse, 4 column follower, 8 its inverse.
-pub fn asked_for(companions: u8) -> Asked {
-    Asked {
-        row_follower: companions % 2 == 1,
-        row_inverse: companions / 2 % 2 == 1,
-        column_follower: companions / 4 % 2 == 1,
-        column_inverse: companions / 8 % 2 == 1,
+impl From<u8> for Asked {
+    fn from(companions: u8) -> Asked {
+        Asked {
+            row_follower: companions & 1 != 0,
+            row_inverse: companions & 2 != 0,
+            column_follower: companions & 4 != 0,
+            column_inverse: companions & 8 != 0,
+        }
     }
 }
 
@@ -34,17 +36,10 @@ fn companion(at: usize, lines: usize, asked: bool) -> Matrix
     requires { lines ≤ side }
     ensures { Companion at lines result }
 {
-    if asked {
-        return Matrix {
-            at,
-            lines,
-            width: lines,
-        };
-    }
     Matrix {
         at,
         lines,
-        width: 0,
+        width: if asked { lines } else { 0 },
     }
 }
 

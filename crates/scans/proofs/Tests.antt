@@ -1,9 +1,9 @@
--- Scans that look for an entry. `any` is what a scan of a row or a column answers (`column_keeps-any`, `row_keeps-any`,
--- `row_indivisible-any`), and `first_indivisible` the scan of step e: each with what a turn of the loop that finds the entry, one that
--- does not, and the loop's end make of it. `first_indivisible-one`: a pivot of 1 divides all.
+-- Scans that look for an entry. `any` is what a scan of a row or a column answers (`any-range`, `column_keeps-any`, `row_keeps-any`,
+-- `row_indivisible-any`), and `first_indivisible` the scan of step e (`first_row`): each with what a place that passes, one that
+-- does not, and the end make of it. `first_indivisible-one`: a pivot of 1 divides all.
 use mathlib.Core.Path.{◌≡◌, refl, sym, ap, subst, ◌∙◌}
 use mathlib.Core.List.{List}
-use native.Mathlib.Decide.{dec_lt}
+use native.Mathlib.Decide.{dec_lt, ℕ_discrete}
 use mathlib.Core.Bool.{Bool, true, false, not, ◌||◌}
 use Prim.Native.Nat.{ℕ, zero, suc, ◌+◌, ◌-◌, ◌<◌, ◌≤◌}
 use native.Mathlib.Nat as NatL
@@ -16,6 +16,8 @@ use lib.Signed.{◌<ℤ◌, rem_z}
 use mir.Syntax.{w64}
 use mir.Val.{SFits, of_z}
 use mir.Facts.{to_z-of_z}
+use Rattle.std.specs.Prelude.{Option, None, Some, MatchOption}
+use Rattle.std.specs.List.{range_with_len, list_any}
 use Rattle.integers.proofs.Order.{nat_abs-zero}
 use Rattle.integers.specs.Division.{divides}
 use Rattle.integers.proofs.Truncate.{nat_abs-rem_z}
@@ -24,9 +26,9 @@ use Rattle.integers.specs.Slot.{slot}
 use Rattle.matrix_lines.specs.Slice.{line_at, FirstNonzero}
 use Rattle.matrix_lines.specs.Matrices.{contents}
 use Rattle.matrix_lines.specs.declared.matrix.Matrix as lines
-use Rattle.machine_words.specs.Read.{read, of-bits}
+use Rattle.machine_words.specs.Read.{read}
 use Rattle.machine_words.proofs.Division.{remainder-zero, zero-remainder}
-use Rattle.scans.specs.Scan.{ColumnReduced}
+use Rattle.scans.specs.Scan.{ColumnReduced, indivisible_row}
 use Rattle.reduction_steps.specs.Step.{column_keeps, row_keeps, row_indivisible, no_row, row, first_indivisible}
 
 -- ---- whether one of some places passes a test
@@ -54,6 +56,12 @@ module _ (f : ℕ → Bool) {n i : ℕ} where
   pub any-end : n ≤ i → any f (n - i) i ≡ false
   unfolding any
   any-end l = rw (none_left l)
+
+-- as the test of a list of places
+pub any-range : (f : ℕ → Bool) (more i : ℕ) → list_any f (range_with_len i more) ≡ any f more i
+unfolding any
+any-range f zero i = refl
+any-range f (suc more) i = rw (add-one i) (ap (λ (b : Bool). f i || b) (any-range f more (suc i)))
 
 -- a scan of the places from s on, of n, has come to place i and found none that passes
 pub record Looking (f : ℕ → Bool) (s n i : ℕ) : Type 0 where
@@ -144,22 +152,25 @@ row_keeps-first m w k a r below e first = pick (dec_lt r m.width) ∙ sym (row_k
     pick (no l) = le-ltb r m.width (omega arith) ∙ sym (looking-ends there (omega arith))
 
 -- the tests as the machine makes them, on the bits of the entry r that was read
-module _ (x r : ℤ) (fits : SFits w64 r) (is : r ≡ x) where
-  pub nonzero-true : (of_z w64 r ≡ 0 → ⊥) → nonzero x ≡ true
-  nonzero-true f = rw (ne_eqb (nat_abs x) 0 (λ e. f (ap (of_z w64) (is ∙ nat_abs-zero x e))))
+module _ (x r : ℤ) (fits : SFits w64 r) (is : r ≡ x) (d : ℤ) (d-fits : SFits w64 d) (p : pos 0 <ℤ d) where
+  indivisible-true : (of_z w64 (rem_z (read w64 r) (read w64 d)) ≡ 0 → ⊥) → indivisible d x ≡ true
+  unfolding divides
+  indivisible-true f =
+      rw (← is, ← nat_abs-rem_z r d, ne_eqb (nat_abs (rem_z r d)) 0 (λ e. f (zero-remainder r d fits d-fits p (nat_abs-zero (rem_z r d) e))))
 
-  pub nonzero-false : of_z w64 r ≡ 0 → nonzero x ≡ false
-  nonzero-false e = rw (sym is ∙ of-bits fits e)
+  indivisible-false : of_z w64 (rem_z (read w64 r) (read w64 d)) ≡ 0 → indivisible d x ≡ false
+  unfolding divides
+  indivisible-false e = rw (← is, ← nat_abs-rem_z r d, remainder-zero r d fits d-fits p e)
 
-  module _ (d : ℤ) (d-fits : SFits w64 d) (p : pos 0 <ℤ d) where
-    pub indivisible-true : (of_z w64 (rem_z (read w64 r) (read w64 d)) ≡ 0 → ⊥) → indivisible d x ≡ true
-    unfolding divides
-    indivisible-true f =
-        rw (← is, ← nat_abs-rem_z r d, ne_eqb (nat_abs (rem_z r d)) 0 (λ e. f (zero-remainder r d fits d-fits p (nat_abs-zero (rem_z r d) e))))
-
-    pub indivisible-false : of_z w64 (rem_z (read w64 r) (read w64 d)) ≡ 0 → indivisible d x ≡ false
-    unfolding divides
-    indivisible-false e = rw (← is, ← nat_abs-rem_z r d, remainder-zero r d fits d-fits p e)
+-- the test for a remainder, as the machine makes it on the entry r that was read
+pub indivisible-told :
+    (d : ℤ) → SFits w64 d → pos 0 <ℤ d → {x r : ℤ} {b : Bool} → SFits w64 r → r ≡ x
+    → b ≡ not (eqb (of_z w64 (rem_z (read w64 r) (read w64 d))) 0) → b ≡ indivisible d x
+indivisible-told d d-fits p {x} {r} fits is e = e ∙ by (ℕ_discrete (of_z w64 (rem_z (read w64 r) (read w64 d))) 0)
+  where
+    by : Dec (of_z w64 (rem_z (read w64 r) (read w64 d)) ≡ 0) → not (eqb (of_z w64 (rem_z (read w64 r) (read w64 d))) 0) ≡ indivisible d x
+    by (yes e) = rw e (sym (indivisible-false x r fits is d d-fits p e))
+    by (no f) = rw (ne_eqb (of_z w64 (rem_z (read w64 r) (read w64 d))) 0 f) (sym (indivisible-true x r fits is d d-fits p f))
 
 -- ---- the first row with an entry that is not divisible
 
@@ -191,9 +202,6 @@ pub record Seeking (A : Matrix) (d : ℤ) (j across s n i : ℕ) : Type 0 where
   pub below : i ≤ n
   pub rest : first_indivisible A d j across (n - s) s ≡ first_indivisible A d j across (n - i) i
 
-pub seeking-after : (A : Matrix) (d : ℤ) (j across : ℕ) {k n : ℕ} → k < n → Seeking A d j across (suc k) n (k + 1)
-seeking-after A d j across {k} {n} l = rw (add-one k) (record { below = l; rest = refl })
-
 module _ {A : Matrix} {d : ℤ} {j across s n i : ℕ} (h : Seeking A d j across s n i) where
   pub seeking-found : i < n → row_indivisible A d i across j ≡ true → first_indivisible A d j across (n - s) s ≡ row i
   seeking-found l e = h.rest ∙ first_found A d j across l e
@@ -203,6 +211,28 @@ module _ {A : Matrix} {d : ℤ} {j across s n i : ℕ} (h : Seeking A d j across
 
   pub seeking-ends : n ≤ i → first_indivisible A d j across (n - s) s ≡ no_row
   seeking-ends l = h.rest ∙ first-end A d j across l
+
+-- rows that the scan passes
+seeking_none : {A : Matrix} {d : ℤ} {j across s n i : ℕ} → Seeking A d j across s n i → (t : ℕ) → i + t ≤ n
+    → ((x : ℕ) → x < t → row_indivisible A d (i + x) across j ≡ false) → Seeking A d j across s n (i + t)
+seeking_none {A} {d} {j} {across} {s} {n} {i} h zero l none = subst (λ (x : ℕ). Seeking A d j across s n x) (omega arith) h
+seeking_none {A} {d} {j} {across} {s} {n} {i} h (suc t) l none =
+    subst (λ (x : ℕ). Seeking A d j across s n x) (omega arith)
+    (seeking-next (seeking_none h t (omega arith) (λ x m. none x (omega arith))) (omega arith) (none t (omega arith)))
+
+-- what `find` over the rows below row k answers
+pub first_row : (A : Matrix) (d : ℤ) (k across n : ℕ) → k < n → (r : Option ℕ)
+    → MatchOption r ((x : ℕ) → k + 1 ≤ x → x < n → row_indivisible A d x across (suc k) ≡ false)
+    (λ i. (k + 1 ≤ i) × (i < n) × (row_indivisible A d i across (suc k) ≡ true) × ((x : ℕ) → k + 1 ≤ x → x < i → row_indivisible A d x across (suc k) ≡ false))
+    → indivisible_row r ≡ first_indivisible A d (suc k) across (n - suc k) (suc k)
+first_row A d k across n l None none =
+    let start : Seeking A d (suc k) across (suc k) n (suc k) = record { below = omega arith; rest = refl } in
+    sym (seeking-ends (seeking_none start (n - suc k) (omega arith) (λ x m. none (suc k + x) (omega arith) (omega arith))) (omega arith))
+first_row A d k across n l (Some i) (after, before, found, none) =
+    let start : Seeking A d (suc k) across (suc k) n (suc k) = record { below = omega arith; rest = refl } in
+    let e : suc k + (i - suc k) ≡ i = omega arith in
+    sym (seeking-found (subst (λ (x : ℕ). Seeking A d (suc k) across (suc k) n x) e
+    (seeking_none start (i - suc k) (omega arith) (λ x m. none (suc k + x) (omega arith) (omega arith)))) before found)
 
 module _ (A : Matrix) where
   row_one : (i more j : ℕ) → row_indivisible A (pos 1) i more j ≡ false

@@ -17,15 +17,7 @@ pub fn column_keeps(m: Matrix, w: &[i32], k: usize) -> bool
     if m.entry(w, k, k) == 1 {
         return false;
     }
-    let mut i = k + 1;
-    let lines = m.lines;
-    while i < lines {
-        if m.entry(w, i, k) != 0 {
-            return true;
-        }
-        i = i + 1;
-    }
-    false
+    (k + 1..m.lines).any(|i| m.entry(w, i, k) != 0)
 }
 
 // Step d: whether row k keeps a nonzero entry to the right of column k.
@@ -37,31 +29,17 @@ pub fn row_keeps(m: Matrix, w: &[i32], k: usize) -> bool
     first_nonzero(w, m.line(k), k + 1, m.width) < m.width
 }
 
-#[derive(Clone, Copy)]
-pub enum Indivisible {
-    Row(usize),
-    Nothing,
-}
-
 // Whether row i has an entry from column j on that is not divisible by d.
 fn row_indivisible(m: Matrix, w: &[i32], d: i64, i: usize, from: usize) -> bool
     requires held { Held (length w.now) m }
     requires i_lt_lines { (i < m.lines) × (from ≤ m.width) × (pos 0 <ℤ d) }
     ensures { result ≡ row_indivisible (contents m w.now) d i (m.width - from) from }
 {
-    let mut j = from;
-    let width = m.width;
-    while j < width {
-        if m.entry(w, i, j) % d != 0 {
-            return true;
-        }
-        j = j + 1;
-    }
-    false
+    (from..m.width).any(|j| m.entry(w, i, j) % d != 0)
 }
 
 // Step e: the first row below row k with an entry to the right of column k that is not divisible by the pivot. A pivot of 1 divides all.
-pub fn first_indivisible(m: Matrix, w: &[i32], k: usize) -> Indivisible
+pub fn first_indivisible(m: Matrix, w: &[i32], k: usize) -> Option<usize>
     requires held { Held (length w.now) m }
     requires k_lt_lines { (k < m.lines) × (k < m.width) × (pos 0 <ℤ contents m w.now k k) }
     ensures { indivisible_row result ≡ first_indivisible (contents m w.now) (contents m w.now k k) (suc k)
@@ -69,15 +47,7 @@ pub fn first_indivisible(m: Matrix, w: &[i32], k: usize) -> Indivisible
 {
     let d = m.entry(w, k, k);
     if d == 1 {
-        return Indivisible::Nothing;
+        return None;
     }
-    let mut i = k + 1;
-    let lines = m.lines;
-    while i < lines {
-        if row_indivisible(m, w, d, i, k + 1) {
-            return Indivisible::Row(i);
-        }
-        i = i + 1;
-    }
-    Indivisible::Nothing
+    (k + 1..m.lines).find(|i| row_indivisible(m, w, d, *i, k + 1))
 }

@@ -7,6 +7,7 @@ use mathlib.Core.Bool.{Bool, true, false}
 use mathlib.Core.List.{List, [], ◌∷◌}
 use Prim.Native.Nat.{ℕ, ◌≤◌}
 use native.Mathlib.Omega.{arith}
+use Rattle.std.specs.Prelude.{Ok, Err}
 use Rattle.limits.specs.Limits.{library_limit}
 use Rattle.trials.specs.Trial.{first_refusal}
 use Rattle.trials.proofs.FirstLaws.{first-append-told, first-append-passed}
@@ -15,21 +16,20 @@ use Rattle.sheet_format.specs.Sheet.{Bytes, IsSheet}
 use Rattle.sheet_format.proofs.Accept.{accepted-iff}
 use Rattle.refusal.specs.declared.Refusal.{Refusal}
 use Rattle.refusal.specs.declared.Refusal.TheVariants.{LooseNode}
+use Rattle.refusal.specs.Told.{told}
 use Rattle.refusal.specs.NumberLaws.{number-positive}
-use Rattle.sheet.specs.Number.{reading_number, ReadsComplex, ReadsSheet}
-use Rattle.sheet.specs.declared.reader.Reading.{Reading}
-use Rattle.sheet.specs.declared.reader.Reading.TheVariants.{Accepted, Refused}
+use Rattle.sheet.specs.Number.{Reading, ReadsComplex, ReadsSheet}
 
-reading-zero : (r : Reading) → reading_number r ≡ 0 → r ≡ Accepted
-reading-zero Accepted e = refl
-reading-zero (Refused x) e = absurd (omega (arith, number-positive x))
+reading-zero : (r : Reading) → told r ≡ 0 → r ≡ Ok tt
+reading-zero (Ok tt) e = refl
+reading-zero (Err x) e = absurd (omega (arith, number-positive x))
 
-pub reads-sheet : {limit : ℕ} {b : List ℕ} {r : Reading} → Bytes b → reading_number r ≡ refusal limit b → ReadsSheet limit b r
+pub reads-sheet : {limit : ℕ} {b : List ℕ} {r : Reading} → Bytes b → told r ≡ refusal limit b → ReadsSheet limit b r
 reads-sheet {limit} {b} {r} bytes e = record { number = e; accepted = accepted; bytes = bytes }
   where
-    accepted : limit ≤ library_limit → (r ≡ Accepted) ↔ IsSheet limit b
+    accepted : limit ≤ library_limit → (r ≡ Ok tt) ↔ IsSheet limit b
     accepted small = (
-      λ h. (accepted-iff limit small b bytes).0 (sym e ∙ ap reading_number h),
+      λ h. (accepted-iff limit small b bytes).0 (sym e ∙ ap told h),
       λ h. reading-zero r (e ∙ (accepted-iff limit small b bytes).1 h),
     )
 
@@ -38,20 +38,20 @@ abbrev last : List ℕ → List (ℕ × Bool)
 last b = (18, loose_node (sections_of b)) ∷ []
 
 module _ {limit : ℕ} {b : List ℕ} where
-  pub refused-before : {r : Reading} {x : Refusal} → ReadsComplex limit b r → r ≡ Refused x → ReadsSheet limit b r
+  pub refused-before : {x : Refusal} → ReadsComplex limit b (Err x) → ReadsSheet limit b (Err x)
   unfolding refusal complex_refusal
-  refused-before {r} {x} h e = reads-sheet h.bytes (h.number ∙ sym (first-append-told (complex_checks limit b) (last b) refl told))
+  refused-before {x} h = reads-sheet h.bytes (h.number ∙ sym (first-append-told (complex_checks limit b) (last b) refl refuses))
     where
-      told : first_refusal (complex_checks limit b) ≢ 0
-      told z = omega (arith, number-positive x, sym (ap reading_number e) ∙ h.number ∙ z)
+      refuses : first_refusal (complex_checks limit b) ≢ 0
+      refuses z = omega (arith, number-positive x, h.number ∙ z)
 
-  module _ {r : Reading} (h : ReadsComplex limit b r) (e : r ≡ Accepted) where
+  module _ (h : ReadsComplex limit b (Ok tt)) where
     all-passed : refusal limit b ≡ first_refusal (last b)
     unfolding refusal complex_refusal
-    all-passed = first-append-passed (complex_checks limit b) (last b) refl (sym h.number ∙ ap reading_number e)
+    all-passed = first-append-passed (complex_checks limit b) (last b) refl (sym h.number)
 
-    pub refused-loose : loose_node (sections_of b) ≡ true → ReadsSheet limit b (Refused LooseNode)
+    pub refused-loose : loose_node (sections_of b) ≡ true → ReadsSheet limit b (Err LooseNode)
     refused-loose t = reads-sheet h.bytes (sym (all-passed ∙ ap (λ (fault : Bool). first_refusal ((18, fault) ∷ [])) t))
 
-    pub accepted-last : loose_node (sections_of b) ≡ false → ReadsSheet limit b Accepted
+    pub accepted-last : loose_node (sections_of b) ≡ false → ReadsSheet limit b (Ok tt)
     accepted-last f = reads-sheet h.bytes (sym (all-passed ∙ ap (λ (fault : Bool). first_refusal ((18, fault) ∷ [])) f))

@@ -1,4 +1,4 @@
-// The checks 1 to 7 in document 01's order, and 18 after them.
+// The checks 1 to 7 in order, and 18 after them.
 ghost use Rattle.std.specs.Prelude.{◌≡◌};
 ghost use Rattle.limits.specs.Limits.{library_limit, host_limit};
 ghost use Rattle.sheet.specs.Number.{ReadsComplex, ReadsSheet};
@@ -14,13 +14,6 @@ use refusal::Refusal;
 #[derive(Clone, Copy)]
 pub struct Sheet {
     pub limit: usize,
-}
-
-// Accepted where none of the checks that were tried tells a fault.
-#[derive(Clone, Copy)]
-pub enum Reading {
-    Accepted,
-    Refused(Refusal),
 }
 
 impl Sheet {
@@ -55,44 +48,41 @@ impl Sheet {
     }
 
     // Accepted, where the bytes are the layout of a complex within the limit, loose nodes or not, or the first of the refusals 1 to 7 that applies.
-    pub fn read_complex(self, s: &[u8]) -> Reading
+    pub fn read_complex(self, s: &[u8]) -> Result<(), Refusal>
         ensures { ReadsComplex self.limit s.now result }
     {
         if s.len() < HEADER_LENGTH {
-            return Reading::Refused(Refusal::SheetTooShort);
+            return Err(Refusal::SheetTooShort);
         }
         if count_exceeds(s, self.limit) {
-            return Reading::Refused(Refusal::CountExceedsLimit);
+            return Err(Refusal::CountExceedsLimit);
         }
         if offset_differs(s) {
-            return Reading::Refused(Refusal::OffsetDiffers);
+            return Err(Refusal::OffsetDiffers);
         }
         if s.len() != start(s, TOP + 1) {
-            return Reading::Refused(Refusal::LengthDiffers);
+            return Err(Refusal::LengthDiffers);
         }
         if vertices_do_not_rise(s) {
-            return Reading::Refused(Refusal::VerticesDoNotRise);
+            return Err(Refusal::VerticesDoNotRise);
         }
         if cells_do_not_rise(s) {
-            return Reading::Refused(Refusal::CellsDoNotRise);
+            return Err(Refusal::CellsDoNotRise);
         }
         if face_missing(s) {
-            return Reading::Refused(Refusal::FaceMissing);
+            return Err(Refusal::FaceMissing);
         }
-        Reading::Accepted
+        Ok(())
     }
 
     // Accepted, exactly where the bytes are the layout of a complex within the limit without loose nodes, or the first refusal that applies.
-    pub fn read(self, s: &[u8]) -> Reading
+    pub fn read(self, s: &[u8]) -> Result<(), Refusal>
         ensures { ReadsSheet self.limit s.now result }
     {
-        let reading = self.read_complex(s);
-        let Reading::Accepted = reading else {
-            return reading;
-        };
+        self.read_complex(s)?;
         if loose_node(s) {
-            return Reading::Refused(Refusal::LooseNode);
+            return Err(Refusal::LooseNode);
         }
-        Reading::Accepted
+        Ok(())
     }
 }

@@ -3,37 +3,29 @@
 // by an independent implementation of document 01, the output that is due.
 #![tactic(auto)]
 
-use fields::field::field;
-use sheet::reader::{Reading, Sheet};
+use refusal::number_told;
+use sheet::reader::Sheet;
 use std::io;
 use std::io::Read;
-use streams::read_full;
+use streams::read_front;
 
 const ROOM: usize = 524288;
 
-fn number(reading: Reading) -> u32 {
-    match reading {
-        Reading::Accepted => 0,
-        Reading::Refused(refusal) => refusal.number(),
-    }
-}
-
 fn answer(rt: &impl Print, s: &[u8]) -> io::Result<()> {
-    let library = number(Sheet::library().read(s));
-    let host = number(Sheet::host().read(s));
+    let library = number_told(Sheet::library().read(s));
+    let host = number_told(Sheet::host().read(s));
     println!(rt; "{library} {host}")
 }
 
 fn answer_all(rt: &impl Print, sheets: &[u8]) -> io::Result<()> {
-    let mut at: usize = 0;
-    while at < sheets.len() {
-        let from = at + 2;
-        let to = from + field(sheets, at);
-        if sheets.len() < to {
+    let mut rest = sheets;
+    while let Some((length, after)) = rest.split_first_chunk() {
+        let length = usize::from(u16::from_le_bytes(*length));
+        let Some((sheet, next)) = after.split_at_checked(length) else {
             return Ok(());
-        }
-        answer(rt, &sheets[from..to])?;
-        at = to;
+        };
+        answer(rt, sheet)?;
+        rest = next;
     }
     Ok(())
 }
@@ -44,8 +36,7 @@ fn answer_stream<R: Read>(
     stream: &mut R,
     input: &mut [u8; ROOM],
 ) -> io::Result<()> {
-    let length = read_full(stream, input);
-    answer_all(rt, &input[..length])
+    answer_all(rt, read_front(stream, input))
 }
 
 fn main(rt: HostRuntime) -> io::Result<()> {

@@ -3,8 +3,8 @@
 --     cell_bytes-next, section_bytes-next, sections_bytes-next, header-next    one vertex, one cell, one section, one entry of the header more
 --     section_bytes-append, section_bytes-one, sections_bytes-le               some cells and more of them, one cell, some of the sections
 --     layout-put                                                            the sections behind the header
---     start_small, counts-are, counts-small                                 the counts of the cells held, and where their sections start
---     length-sections, length-held, header-fits, section-fits               the length of their sheet
+--     start_small, header-fits, section-fits, counts-small                  where the sections of a set start, and its counts
+--     counts-are, length-sections, length-held                              the counts of the cells held, and the length of their sheet
 use mathlib.Core.Path.{◌≡◌, refl, sym, ap, ap₂, ◌∙◌, fun_ext}
 use mathlib.Core.List.{List, [], ◌∷◌, ◌++◌, append_assoc, append-nil}
 use Prim.Native.Nat.{ℕ, zero, suc, ◌+◌, ◌*◌, ◌≤◌, ◌<◌}
@@ -22,6 +22,7 @@ use Rattle.sheet_format.specs.Layout.{top, header_length, field, cell_bytes, sec
 use Rattle.sheet_format.proofs.LayoutLaws.{length-header_bytes, length-section_bytes, length-parts}
 use Rattle.sheet_format.specs.SheetLaws.{count-beyond, start-mono, start-le}
 use Rattle.cell_sets.specs.Set.{Holds}
+use Rattle.cell_sets.specs.declared.set.CellSet.{CellSet}
 use Rattle.sheet_writer.specs.Write.{count_of, Small}
 
 pub splice-behind : (at place : ℕ) (xs ys l l' l'' : List ℕ) → at ≤ length l → place ≡ at + length xs → l' ≡ splice at xs l → l'' ≡ splice place ys l'
@@ -116,17 +117,25 @@ start-next n p = refl
 pub start_small : (n : ℕ → ℕ) → ((p : ℕ) → p ≤ top → n p ≤ library_limit) → (p : ℕ) → p ≤ suc top → start n p ≤ longest library_limit
 start_small n small p h = omega (arith, start-mono n p (suc top) h, start-le n library_limit (suc top) (λ q l. small q (omega arith)))
 
-module _ {limit : ℕ} {cells counts : List ℕ} {K : Sections} (holds : Holds limit cells counts K) where
-  pub counts-are : count_of counts ≡ count K
+-- the sections of a set end within its sheet
+pub section-fits : (s : CellSet) (p : ℕ) → p ≤ top → start (count_of s.counts) p + 2 * (suc p * count_of s.counts p) ≤ start (count_of s.counts) (suc top)
+section-fits s p h = omega (arith, start-next (count_of s.counts) p, start-mono (count_of s.counts) (suc p) (suc top) (omega arith))
+
+pub header-fits : (s : CellSet) → header_length ≤ start (count_of s.counts) (suc top)
+unfolding start
+header-fits s = omega (arith, start-mono (count_of s.counts) 0 (suc top) (omega arith))
+
+pub counts-small : (s : CellSet) → Small s.counts
+counts-small s = record { within = λ p l. omega (arith, (s.rise p l).0, s.small) }
+
+module _ {s : CellSet} {K : Sections} (holds : Holds s K) where
+  pub counts-are : count_of s.counts ≡ count K
   counts-are = fun_ext (λ p. at p (dec_lt p (suc top)))
     where
-      at : (p : ℕ) → Dec (p < suc top) → count_of counts p ≡ count K p
+      at : (p : ℕ) → Dec (p < suc top) → count_of s.counts p ≡ count K p
       at p (yes l) = (holds.sections p (omega arith)).counted
       at p (no l) =
-          get_or-eq_default counts 0 {n = p} (omega (arith, holds.sized)) ∙ sym (count-beyond K p (omega (arith, holds.dimensions)))
-
-  pub counts-small : Small counts
-  counts-small = record { within = λ p l. let s = holds.sections p l in omega (arith, s.counted, s.within, holds.small) }
+          get_or-eq_default s.counts 0 {n = p} (omega (arith, holds.sized)) ∙ sym (count-beyond K p (omega (arith, holds.dimensions)))
 
   -- the first p sections end where the next one starts
   pub length-sections : (p : ℕ) → p ≤ suc top → header_length + length (sections_bytes (take p K)) ≡ start (count K) p
@@ -141,17 +150,9 @@ module _ {limit : ℕ} {cells counts : List ℕ} {K : Sections} (holds : Holds l
         length-section_bytes (suc p) (section K p) (λ i l. ((holds.sections p (omega arith)).vertices i l).sized),
       )
 
-  pub length-held : length (layout K) ≡ start (count_of counts) (suc top)
+  pub length-held : length (layout K) ≡ start (count_of s.counts) (suc top)
   length-held =
       length-parts K
       ∙ ap (λ (t : Sections). header_length + length (sections_bytes t)) (sym (take_all (suc top) K (omega (arith, holds.dimensions))))
       ∙ length-sections (suc top) (omega arith)
       ∙ ap (λ (n : ℕ → ℕ). start n (suc top)) (sym counts-are)
-
-  -- the sheet has room for its parts
-  pub header-fits : header_length ≤ length (layout K)
-  unfolding start
-  header-fits = omega (arith, length-held, start-mono (count_of counts) 0 (suc top) (omega arith))
-
-  pub section-fits : (p : ℕ) → p ≤ top → start (count_of counts) p + 2 * (suc p * count_of counts p) ≤ length (layout K)
-  section-fits p h = omega (arith, start-next (count_of counts) p, start-mono (count_of counts) (suc p) (suc top) (omega arith), length-held)

@@ -1,14 +1,15 @@
 -- What writing the sheet of the cells held leaves.
-use Rattle.std.specs.Prelude.{◌≡◌, List, [], ◌++◌, map, ℕ, ◌≤◌, length, get_or, drop}
+use Rattle.std.specs.Prelude.{◌≡◌, List, [], ◌++◌, map, ℕ, suc, ◌≤◌, length, get_or, drop}
 use Rattle.lists.specs.Splice.{splice}
 use Rattle.limits.specs.Limits.{library_limit}
 use Rattle.complexes.specs.Cell.{Cell}
 use Rattle.complexes.specs.Complex.{Sections}
 use Rattle.complexes.specs.Packed.{packed}
-use Rattle.sheet_format.specs.Layout.{top, header_length, cell_bytes, section_bytes, sections_bytes, layout}
+use Rattle.sheet_format.specs.Layout.{top, header_length, cell_bytes, section_bytes, sections_bytes, start, layout}
 use Rattle.closures.specs.Rising.{All, HasVertices}
 use Rattle.cells.specs.Word.{Packs}
 use Rattle.cell_sets.specs.Set.{Holds}
+use Rattle.cell_sets.specs.declared.set.CellSet.{CellSet}
 
 -- the number of cells of dimension p
 abbrev pub count_of : List ℕ → ℕ → ℕ
@@ -27,22 +28,18 @@ abbrev pub WritesSection : ℕ → List ℕ → ℕ → List ℕ → List ℕ �
 WritesSection n ws at sheet sheet' =
     (l : List Cell) → All (HasVertices n) [] l → ws ≡ map packed l → sheet' ≡ splice at (section_bytes l) sheet
 
--- r is the length of the sheet of the cells that a slice with these counts holds
-abbrev pub Measures : List ℕ → ℕ → Type 0
-Measures counts r = (limit : ℕ) (cells : List ℕ) (K : Sections) → Holds limit cells counts K → r ≡ length (layout K)
+-- r is the length of the sheet of the cells that the set holds
+abbrev pub Measures : CellSet → ℕ → Type 0
+Measures s r = (K : Sections) → Holds s K → r ≡ length (layout K)
 
 -- there is room for the sheet of the cells held
-pub record Writable (limit : ℕ) (cells counts sheet : List ℕ) : Type 0 where
-  pub complex : Sections
-  pub holds : Holds limit cells counts complex
-  pub fits : length (layout complex) ≤ length sheet
+abbrev pub Fits : CellSet → List ℕ → Type 0
+Fits s sheet = start (count_of s.counts) (suc top) ≤ length sheet
 
 -- its sections were put over behind the header
-abbrev pub WritesSections : ℕ → List ℕ → List ℕ → List ℕ → List ℕ → Type 0
-WritesSections limit cells counts sheet sheet' =
-    (K : Sections) → Holds limit cells counts K → sheet' ≡ splice header_length (sections_bytes K) sheet
+abbrev pub WritesSections : CellSet → List ℕ → List ℕ → Type 0
+WritesSections s sheet sheet' = (K : Sections) → Holds s K → sheet' ≡ splice header_length (sections_bytes K) sheet
 
 -- all of it was written from the start on, and the rest is untouched
-abbrev pub WritesSheet : ℕ → List ℕ → List ℕ → List ℕ → List ℕ → Type 0
-WritesSheet limit cells counts sheet sheet' =
-    (K : Sections) → Holds limit cells counts K → sheet' ≡ layout K ++ drop (length (layout K)) sheet
+abbrev pub WritesSheet : CellSet → List ℕ → List ℕ → Type 0
+WritesSheet s sheet sheet' = (K : Sections) → Holds s K → sheet' ≡ layout K ++ drop (length (layout K)) sheet

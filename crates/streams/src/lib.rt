@@ -9,10 +9,7 @@ use std::io::Read;
 fn read_some<R: Read>(stream: &mut R, bytes: &mut [u8]) -> usize
     ensures { result ≤ length bytes.new }
 {
-    match stream.read(bytes) {
-        Ok(n) => n,
-        Err(_) => 0,
-    }
+    stream.read(bytes).unwrap_or(0)
 }
 
 // Reads until the array is full, the stream ends or a read fails. Answers how many bytes it put at the start of the array.
@@ -28,6 +25,14 @@ pub fn read_full<R: Read>(stream: &mut R, bytes: &mut [u8]) -> usize
         filled = filled + n;
     }
     filled
+}
+
+// Reads as `read_full` does, and answers the bytes that it put into the array.
+pub fn read_front<'a, R: Read>(stream: &mut R, bytes: &'a mut [u8]) -> &'a [u8]
+    ensures { length result.now ≤ length bytes.old }
+{
+    let filled = read_full(stream, bytes);
+    &bytes[..filled]
 }
 
 // Whether a stream has ended: a read at its end puts no byte, and one that fails is no end.

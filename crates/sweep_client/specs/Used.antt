@@ -1,10 +1,10 @@
 -- What the sweeps answer and leave on sheets and slices written out: a sheet and the bytes past it, and refusals.
-use Rattle.std.specs.Prelude.{◌≡◌, List, [], ◌∷◌, ℕ}
+use Rattle.std.specs.Prelude.{◌≡◌, List, [], ◌∷◌, ℕ, Result}
 use Rattle.trials.specs.Trial.{done, number_told}
 use Rattle.sheet_format.specs.OrderCases.{face_and_loose_node, edge_and_node}
 use Rattle.sweeps.specs.Cases.{lent}
 use Rattle.refusal.specs.Written.{answered}
-use Rattle.refusal.specs.declared.written.Written.{Written}
+use Rattle.refusal.specs.declared.Refusal.{Refusal}
 
 -- the sheet of the edge 02, 24 bytes, without the loose node 1, and 6 of the 30 bytes lent
 abbrev pub edge_left : List ℕ
@@ -25,6 +25,6 @@ pub record Used (sheet before : List ℕ) (number : ℕ) (after : List ℕ) : Ty
   pub short : sheet ≡ edge_and_node → before ≡ lent 23 → Told number 16 after before
 
 -- the library's sweep, with the length that it answers
-pub record LibraryUsed (sheet before : List ℕ) (r : Written) (after : List ℕ) : Type 0 where
+pub record LibraryUsed (sheet before : List ℕ) (r : Result ℕ Refusal) (after : List ℕ) : Type 0 where
   pub length-told : sheet ≡ edge_and_node → before ≡ lent 30 → answered r ≡ done 24
   pub used : Used sheet before (number_told (answered r)) after

@@ -5,11 +5,11 @@ ghost use Rattle.sweep_client.specs.Used.{Used, LibraryUsed};
 
 use fildwuk::fildwuk_sweep;
 use library_host::fildwuk_library_sweep;
-use refusal::written::Written;
+use refusal::Refusal;
 use sweeper::sweep::sweep;
 
 // The library's sweep.
-pub fn sweep_library(sheet: &[u8], swept: &mut [u8]) -> Written
+pub fn sweep_library(sheet: &[u8], swept: &mut [u8]) -> Result<usize, Refusal>
     ensures { LibraryUsed sheet.now swept.old result swept.new }
 {
     sweep(sheet, swept)

@@ -9,6 +9,7 @@ use native.Mathlib.Decide.{dec_le}
 use native.Mathlib.Omega.{arith}
 use lib.Dec.{ltb}
 use lib.ListN.{length}
+use Rattle.std.specs.Prelude.{Result, Err}
 use Rattle.limits.specs.Limits.{library_limit}
 use Rattle.trials.specs.Trial.{first_refusal, refused}
 use Rattle.trials.specs.Write.{answer_with}
@@ -21,24 +22,22 @@ use Rattle.refusal.specs.Number.{number_of}
 use Rattle.refusal.specs.NumberLaws.{number-positive}
 use Rattle.refusal.specs.Written.{WriteAnswers}
 use Rattle.refusal.specs.declared.Refusal.{Refusal}
-use Rattle.refusal.specs.declared.written.Written.{Written}
-use Rattle.refusal.specs.declared.written.Written.TheVariants.{Refused}
 use Rattle.cell_keeper.specs.Keeps.{write_over}
 use Rattle.sweeps.specs.Sweep.{swept_sheet, sweep_call}
 
 module _ (limit : ℕ) (b slice : List ℕ) where
   -- the number told, where it is not 0
-  pub sweep-refused : (x : Refusal) → number_of x ≡ complex_refusal limit b → WriteAnswers (sweep_call limit b slice) (Refused x) slice
+  pub sweep-refused : (x : Refusal) → number_of x ≡ complex_refusal limit b → WriteAnswers (sweep_call limit b slice) (Err x) slice
   unfolding sweep_call complex_refusal answer_with
   sweep-refused x e =
       rw (first-append-told (complex_checks limit b) ((16, ltb (length slice) (length (swept_sheet (sections_of b)))) ∷ []) refl (λ z. omega (arith, number-positive x, e, z)))
       (told (first_refusal (complex_checks limit b)) e)
     where
-      told : (k : ℕ) → number_of x ≡ k → WriteAnswers (answer_with k (swept_sheet (sections_of b)) slice) (Refused x) slice
+      told : (k : ℕ) → number_of x ≡ k → WriteAnswers (answer_with k (swept_sheet (sections_of b)) slice) (Err x) slice
       told zero e = absurd (omega (arith, number-positive x, e))
       told (suc k) e = record { answer = ap refused e; output-is = refl }
 
-  pub sweep-passed : complex_refusal limit b ≡ 0 → {r : Written} {after : List ℕ} → WriteAnswers (write_over (swept_sheet (sections_of b)) slice) r after
+  pub sweep-passed : complex_refusal limit b ≡ 0 → {r : Result ℕ Refusal} {after : List ℕ} → WriteAnswers (write_over (swept_sheet (sections_of b)) slice) r after
       → WriteAnswers (sweep_call limit b slice) r after
   unfolding sweep_call complex_refusal
   sweep-passed e w = rw (first-append-passed (complex_checks limit b) ((16, ltb (length slice) (length (swept_sheet (sections_of b)))) ∷ []) refl e) w

@@ -1,4 +1,4 @@
-// The sweep of a sheet: document 02, Note 7.
+// The sweep of a sheet.
 #![tactic(auto)]
 
 pub mod sweep;

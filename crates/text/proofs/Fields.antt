@@ -1,81 +1,47 @@
--- The loop of `line::put_fields`: the invariant `Fields` is that the numbers passed are put, each after a space.
---     fields-none, fields-room, fields-more, fields-all     where the loop starts, in a turn, after a turn, where it ends
+-- The loop of `put_fields`: the invariant `Fields` is that the first i numbers are put, each after a space.
+--     fields-none, fields-more, fields-all     where the loop starts, after a turn, where it ends
 use mathlib.Core.Path.{◌≡◌, refl, sym, ap, ◌∙◌, subst}
 use mathlib.Core.List.{List, [], ◌∷◌, ◌++◌}
-use Prim.Native.Nat.{ℕ, suc, ◌+◌, ◌*◌, ◌-◌, ◌^◌, ◌≤◌, ◌<◌}
-use native.Mathlib.Nat.{sub_self, le_antisymm}
+use Prim.Native.Nat.{ℕ, ◌+◌, ◌*◌, ◌≤◌, ◌<◌}
+use native.Mathlib.Numerals.{add-one}
 use native.Mathlib.Omega.{arith}
-use lib.ListN.{length, get_or, take, drop, length-drop}
-use lib.Seq.{get_or-drop}
+use lib.ListN.{length, get_or, take}
+use lib.Seq.{take_all}
 use lib.IntN.{ℤ, pos}
-use lib.Signed.{mag}
-use mir.Syntax.{w64}
-use mir.Facts.{to_z-of_z}
-use Rattle.machine_words.specs.Read.{read}
 use Rattle.program_text.specs.Text.{decimal, spaced}
 use Rattle.program_text.proofs.TextLaws.{spaced-suc}
-use Rattle.text.specs.Put.{Puts, PutsWithin}
+use Rattle.text.specs.Put.{PutsWithin}
 use Rattle.text.specs.Room.{number_room, field_room}
-use Rattle.text.specs.PutLaws.{within-nothing, within-length, within-append, within_more, within-next}
+use Rattle.text.specs.PutLaws.{within-nothing, within-append, within_more, within-next, within-kept, within-left}
 
-pub record Fields (numbers : List ℤ) (from to : ℕ) (out₀ : List ℕ) (at next i : ℕ) (out : List ℕ) : Type 0 where
-  pub low : from ≤ i
-  pub high : i ≤ to
-  pub put : PutsWithin (field_room * (i - from)) (spaced (take (i - from) (drop from numbers))) at out₀ next out
+pub record Fields (numbers : List ℤ) (out₀ : List ℕ) (at next i : ℕ) (out : List ℕ) : Type 0 where
+  pub put : PutsWithin (field_room * i) (spaced (take i numbers)) at out₀ next out
   pub kept : length out ≡ length out₀
 
-module _ {numbers : List ℤ} {from to : ℕ} {out₀ : List ℕ} {at : ℕ} where
-  -- the room is enough for a space and a number where one is left
-  fields-room : {next i : ℕ} {out : List ℕ} → Fields numbers from to out₀ at next i out
-      → i < to → at + field_room * (to - from) ≤ length out₀ → next + field_room ≤ length out
-  fields-room h l room = omega (arith, within-next h.put)
-
-  pub fields-none : from ≤ to → Fields numbers from to out₀ at at from out₀
+module _ {numbers : List ℤ} {out₀ : List ℕ} {at : ℕ} where
+  pub fields-none : Fields numbers out₀ at at 0 out₀
   unfolding spaced
-  fields-none h =
-      record {
-        low = omega arith;
-        high = h;
-        put =
-            subst (λ (k : ℕ). PutsWithin (field_room * k) (spaced (take k (drop from numbers))) at out₀ at out₀) (sym (sub_self from)) (within-nothing at out₀);
-        kept = refl;
-      }
+  fields-none = record { put = within-nothing at out₀; kept = refl }
 
-  pub fields-more : {next i : ℕ} {out : List ℕ} → Fields numbers from to out₀ at next i out
-      → i < to → to ≤ length numbers → at + field_room * (to - from) ≤ length out₀
-      → {r r' : ℕ} {out' out'' : List ℕ}
-      → mag (get_or numbers i (pos 0)) < 2 ^ 63
-      → Puts (32 ∷ []) next out r out' → PutsWithin number_room (decimal (read w64 (get_or numbers i (pos 0)))) r out' r' out'' → length out'' ≡ length out
-      → Fields numbers from to out₀ at r' (i + 1) out''
-  fields-more {next} {i} {out} h l to_in room {r} {r'} {out'} {out''} f a b e =
-      record {
-        low = omega arith;
-        high = omega arith;
-        put =
-            subst (λ (text : List ℕ). PutsWithin (field_room * (i + 1 - from)) text at out₀ r' out'')
-            (sym text-is)
-            (within_more (omega arith) (within-append (omega arith) h.put (within-append (omega (arith, fields-room h l room)) (within-length a) field)));
-        kept = e ∙ h.kept;
-      }
-    where
-      field : PutsWithin number_room (decimal (get_or numbers i (pos 0))) r out' r' out''
-      field = subst (λ (z : ℤ). PutsWithin number_room (decimal z) r out' r' out'') (to_z-of_z {w = w64} (record { sfits = f })) b
+  module _ {next i : ℕ} {out : List ℕ} (h : Fields numbers out₀ at next i out) (l : i < length numbers) (room : at + field_room * length numbers ≤ length out₀) where
+    -- the room is enough for a space and a number
+    pub fields-room : next + field_room ≤ length out
+    fields-room = omega (arith, within-next h.put, h.kept)
 
-      more : i + 1 - from ≡ suc (i - from)
-      more = omega arith
+    pub fields-more : {r r' : ℕ} {out' out'' : List ℕ} → PutsWithin 1 (32 ∷ []) next out r out'
+        → PutsWithin number_room (decimal (get_or numbers i (pos 0))) r out' r' out'' → Fields numbers out₀ at r' (i + 1) out''
+    fields-more {r} {r'} {out'} {out''} a b = record {
+      put = subst (λ (text : List ℕ). PutsWithin (field_room * (i + 1)) text at out₀ r' out'') (sym text-is)
+          (within_more (omega arith) (within-append (omega arith) h.put (within-append (omega (arith, fields-room)) a b)));
+      kept = within-kept (within-left number_room fields-room a) b ∙ within-kept (omega (arith, fields-room)) a ∙ h.kept;
+    }
+      where
+        text-is : spaced (take (i + 1) numbers) ≡ spaced (take i numbers) ++ (32 ∷ decimal (get_or numbers i (pos 0)))
+        text-is = ap (λ (k : ℕ). spaced (take k numbers)) (add-one i) ∙ spaced-suc i numbers l
 
-      place : from + (i - from) ≡ i
-      place = omega arith
-
-      number_is : get_or (drop from numbers) (i - from) (pos 0) ≡ get_or numbers i (pos 0)
-      number_is = get_or-drop from numbers (i - from) (pos 0) ∙ ap (λ (k : ℕ). get_or numbers k (pos 0)) place
-
-      text-is : spaced (take (i + 1 - from) (drop from numbers)) ≡ spaced (take (i - from) (drop from numbers)) ++ (32 ∷ decimal (get_or numbers i (pos 0)))
-      text-is =
-          ap (λ (k : ℕ). spaced (take k (drop from numbers))) more
-          ∙ spaced-suc (i - from) (drop from numbers) (omega (arith, length-drop from numbers))
-          ∙ ap (λ (z : ℤ). spaced (take (i - from) (drop from numbers)) ++ (32 ∷ decimal z)) number_is
-
-  pub fields-all : {next i : ℕ} {out : List ℕ} → Fields numbers from to out₀ at next i out → to ≤ i
-      → PutsWithin (field_room * (to - from)) (spaced (take (to - from) (drop from numbers))) at out₀ next out
-  fields-all h l = rw (le_antisymm l h.high) h.put
+  pub fields-all : {next i : ℕ} {out : List ℕ} → Fields numbers out₀ at next i out → i ≡ length numbers
+      → PutsWithin (field_room * length numbers) (spaced numbers) at out₀ next out
+  fields-all {next} {i} {out} h e =
+      subst (λ (text : List ℕ). PutsWithin (field_room * length numbers) text at out₀ next out)
+      (ap spaced (take_all (length numbers) numbers (omega arith)))
+      (subst (λ (k : ℕ). PutsWithin (field_room * k) (spaced (take k numbers)) at out₀ next out) e h.put)

@@ -1,5 +1,5 @@
 -- Texts put one behind the other: puts-nothing, puts-byte, puts-append and length-puts; within-nothing, within-length, within-append and
--- within_more say how much room they take, within-next where they end.
+-- within_more say how much room they take, within-next where they end, within-kept that the length stays, within-left what room is left.
 use Rattle.std.specs.Prelude.{◌≡◌, refl, List, [], ◌∷◌, ◌++◌, ℕ, ◌+◌, ◌≤◌, ◌<◌, length, set}
 use Rattle.std.proofs.Common.{sym, ◌∙◌, ap, le_refl, le_trans, arith, length-append}
 use Rattle.lists.specs.SpliceLaws.{splice-nil, splice-set, splice-splice, length-splice}
@@ -43,3 +43,11 @@ within_more h a = record { puts = a.puts; fits = le_trans a.fits h }
 -- the place after the text
 pub within-next : {m : ℕ} {text : List ℕ} {at r : ℕ} {out out' : List ℕ} → PutsWithin m text at out r out' → r ≤ at + m
 within-next a = omega (arith, a.puts.next, a.fits)
+
+-- where there is that room, the length stays
+pub within-kept : {m : ℕ} {text : List ℕ} {at r : ℕ} {out out' : List ℕ} → at + m ≤ length out → PutsWithin m text at out r out' → length out' ≡ length out
+within-kept h a = length-puts (omega (arith, within-next a)) a.puts
+
+-- the room that is left
+pub within-left : {m : ℕ} {text : List ℕ} {at r : ℕ} {out out' : List ℕ} (k : ℕ) → at + (m + k) ≤ length out → PutsWithin m text at out r out' → r + k ≤ length out'
+within-left k h a = omega (arith, within-next a, within-kept (omega arith) a)

@@ -1,5 +1,6 @@
 // Writing the text of a report.
 #![tactic(auto)]
 
-pub mod decimal;
-pub mod line;
+mod decimal;
+mod line;
+pub mod writer;

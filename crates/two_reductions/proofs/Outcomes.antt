@@ -3,10 +3,11 @@
 use mathlib.Core.Path.{◌≡◌, refl, sym, subst, ◌∙◌, ap}
 use mathlib.Core.Bool.{Bool, true}
 use mathlib.Core.List.{List}
+use Rattle.std.proofs.Common.{Result, Ok, Err}
 use Prim.Native.Nat.{ℕ, suc, ◌≤◌, max}
 use native.Mathlib.Omega.{arith}
 use lib.IntN.{ℤ, pos}
-use lib.ListN.{length, replicate, length-replicate}
+use lib.ListN.{length, replicate}
 use Rattle.matrices.specs.Matrix.{mul}
 use Rattle.matrices.specs.Matrix as theory
 use Rattle.complexes.specs.Complex.{Sections, count}
@@ -14,55 +15,30 @@ use Rattle.complexes.proofs.ChainComplex.{ChainComplex}
 use Rattle.complexes.specs.Boundary.{boundary}
 use Rattle.reduction_steps.specs.Table.{table_within}
 use Rattle.reduction_steps.specs.Pivot.{Rule, IsRule}
-use Rattle.reduction_steps.specs.Step.{Machine, done, wide, reduce}
+use Rattle.reduction_steps.specs.Step.{done, wide, reduce}
 use Rattle.reports.specs.Reductions as reports
 use Rattle.reports.specs.Reductions.{Transforms, second_columns_only, no_transforms, width, first_sizes, first_start, second_sizes, second_start, product, after_second, reductions_of}
 use Rattle.reports.proofs.ReductionsLaws.{first-wide, product_wide, after-second, second-wide}
 use Rattle.requests.specs.Call.{work_slots_for}
 use Rattle.limits.specs.Limits.{entry_limit, library_limit}
 use Rattle.answers.proofs.TwoReductions.{reductions-right}
-use Rattle.matrix_lines.specs.Matrices.{contents, Held, Holds, Exceeds, Became, everywhere}
+use Rattle.matrix_lines.specs.Matrices.{contents, Held, Holds, Exceeds, everywhere}
 use Rattle.matrix_lines.proofs.Peaks.{under-covered}
-use Rattle.matrix_lines.specs.declared.matrix.Matrix.{Matrix}
-use Rattle.matrix_lines.specs.declared.line.Effect.{Effect}
-use Rattle.matrix_lines.specs.declared.line.Effect.TheVariants as effect
 use Rattle.refusal.specs.declared.Refusal.{Refusal}
-use Rattle.refusal.specs.declared.Refusal.TheVariants as refusal
 use Rattle.operations.specs.Laid.{Laid, state_of}
 use Rattle.operations.specs.declared.workspace.Workspace.{Workspace}
 use Rattle.passes.specs.PassAnswers.{Cleared, StillUnder}
 use Rattle.reducer.specs.StageAnswers.{Reduces, ReductionDone, ReductionRefused, reduction_of}
 use Rattle.reducer.specs.declared.reduction.Reduction.{Reduction}
-use Rattle.reducer.specs.declared.reduction.Reduction.TheVariants as reduction
 use Rattle.two_reductions.specs.Workspaces.{first_workspace, second_workspace}
 use Rattle.two_reductions.specs.Slices.{first_workspace_of, second_workspace_of, first_reduction, start_peak, Filled, TwiceReduced}
-use Rattle.two_reductions.specs.declared.reductions.Reductions.TheVariants.{Done, Refused}
 use Rattle.two_reductions.proofs.Places.{held-row-follower}
 use Rattle.two_reductions.proofs.Between.{laid-second, second-state, product_narrow, product-beyond}
 use Rattle.two_reductions.proofs.Kept.{Begun}
 
--- refusal 13, with the slice cleared by a callee that was lent one of length m
-cleared : {m n : ℕ} {x : Refusal} {w : List ℤ} → m ≡ n → Cleared m x w → Cleared n refusal.TooWide w
-cleared e h = record { number = refl; zeros = h.zeros ∙ ap (λ (k : ℕ). replicate k (pos 0)) e }
-
-pub cleared-length : {n : ℕ} {x : Refusal} {w : List ℤ} → Cleared n x w → length w ≡ n
-cleared-length {n} h = ap length h.zeros ∙ length-replicate n (pos 0)
-
--- ---- the case that a call answered
-
-module _ (W : Workspace) {y : Machine} {n : ℕ} {w : List ℤ} (x : Reduction) where
-  pub reduces-done : {r peak : ℕ} → x ≡ reduction.Done r peak → Reduces W y n x w → ReductionDone W y n r peak w
-  reduces-done e h = subst (λ (z : Reduction). Reduces W y n z w) e h
-
-  pub reduces-refused : {z : Refusal} → x ≡ reduction.Refused z → Reduces W y n x w → ReductionRefused y n z w
-  reduces-refused e h = subst (λ (z : Reduction). Reduces W y n z w) e h
-
-module _ {M : Matrix} {w w' : List ℤ} {A : theory.Matrix} (x : Effect) where
-  pub became-done : {a : ℕ} → x ≡ effect.Done a → Became M w everywhere A 0 x w' → Holds M w everywhere A 0 a w'
-  became-done e h = subst (λ (z : Effect). Became M w everywhere A 0 z w') e h
-
-  pub became-wide : x ≡ effect.TooWide → Became M w everywhere A 0 x w' → Exceeds M w A w'
-  became-wide e h = subst (λ (z : Effect). Became M w everywhere A 0 z w') e h
+-- the slice cleared by a callee that was lent one of length m
+cleared : {m n : ℕ} {x : Refusal} {w : List ℤ} → m ≡ n → Cleared m x w → Cleared n x w
+cleared e h = record { number = h.number; zeros = h.zeros ∙ ap (λ (k : ℕ). replicate k (pos 0)) e }
 
 -- ---- the first reduction
 
@@ -74,12 +50,12 @@ module _ (rule : Rule) (K : Sections) (p n : ℕ) (W : Workspace) (is : W ≡ fi
   starts = rw (is, from) (ap (reduce entry_limit (first_sizes no_transforms K p) rule) f.state)
 
   -- what it answers is the definition's
-  pub first-reduces : (x : Reduction) (w' : List ℤ) → Reduces W (reduction_of rule W peak w) (length w) x w' → Reduces (first_workspace_of K p) (first_reduction rule K p) n x w'
-  first-reduces (reduction.Done r peak') w' h = record {
-    outcome = sym starts ∙ h.outcome ∙ ap (λ (X : Workspace). done r (state_of X peak' w')) is;
+  pub first-reduces : (x : Result Reduction Refusal) (w' : List ℤ) → Reduces W (reduction_of rule W peak w) (length w) x w' → Reduces (first_workspace_of K p) (first_reduction rule K p) n x w'
+  first-reduces (Ok r) w' h = record {
+    outcome = sym starts ∙ h.outcome ∙ ap (λ (X : Workspace). done r.rank (state_of X r.peak w')) is;
     kept = record { same_length = h.kept.same_length ∙ f.kept.same_length; under = h.kept.under };
   }
-  first-reduces (reduction.Refused x) w' h = record {
+  first-reduces (Err x) w' h = record {
     outcome = sym starts ∙ h.outcome;
     cleared = record { number = h.cleared.number; zeros = h.cleared.zeros ∙ ap (λ (k : ℕ). replicate k (pos 0)) f.kept.same_length };
   }
@@ -99,7 +75,7 @@ module _ {rule : Rule} (is-rule : IsRule rule) (K : Sections) (p n : ℕ) (compl
 
   -- the first goes too wide
   pub first-refused : {m : ℕ} {x : Refusal} {w : List ℤ} → m ≡ n → first_reduction rule K p ≡ wide → Cleared m x w
-      → TwiceReduced K p kept (reductions_of t rule K p) n (Refused refusal.TooWide) w
+      → TwiceReduced K p kept (reductions_of t rule K p) n (Err x) w
   first-refused e h c = (first-wide t rule entry_limit K p (first-same ∙ h), cleared e c)
 
   -- the product lies within the limit, and the slice holds the start of the second reduction
@@ -156,14 +132,14 @@ module _ {rule : Rule} (is-rule : IsRule rule) (K : Sections) (p n : ℕ) (compl
     starts-again = rw is (ap (reduce entry_limit (second_sizes t K p r) rule) s.state)
 
     pub second-refused : {x : Refusal} {w'' : List ℤ} → ReductionRefused (reduction_of rule W peak' w') (length w') x w''
-        → TwiceReduced K p kept (reductions_of t rule K p) n (Refused refusal.TooWide) w''
+        → TwiceReduced K p kept (reductions_of t rule K p) n (Err x) w''
     second-refused h = (
       second-wide t rule entry_limit K p r (state_of (first_workspace_of K p) peak w) (first-same ∙ s.begun.outcome) s.narrow (sym starts-again ∙ h.outcome),
       cleared s.still.same_length h.cleared,
     )
 
     pub second-done : {last peak'' : ℕ} {w'' : List ℤ} → ReductionDone W (reduction_of rule W peak' w') (length w') last peak'' w''
-        → TwiceReduced K p kept (reductions_of t rule K p) n (Done (record { workspace = W; rank = last; peak = peak'' })) w''
+        → TwiceReduced K p kept (reductions_of t rule K p) n (Ok (record { workspace = W; rank = last; peak = peak'' })) w''
     unfolding second_workspace after_second
     second-done {last} {peak''} {w''} h = record {
       first-rank = r;

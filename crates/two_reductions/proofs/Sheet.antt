@@ -23,7 +23,7 @@ use Rattle.reports.specs.Reductions.{width}
 use Rattle.requests.specs.Call.{work_slots}
 use Rattle.faces.specs.Face.{Accepted}
 use Rattle.two_reductions.specs.Workspaces.{first_workspace, second_workspace}
-use Rattle.two_reductions.specs.CellCounts.{CellCountsRead}
+use Rattle.two_reductions.specs.CellCounts.{DimensionCounts, CellCountsRead}
 use Rattle.two_reductions.specs.declared.cell_counts.CellCounts.{CellCounts}
 use Rattle.two_reductions.specs.Slices.{first_workspace_of, second_workspace_of}
 
@@ -62,32 +62,29 @@ accepted-library {limit} {b} h e = record {
 pub sheet-chains : {b : List ℕ} → Bytes b → Accepted b → ChainComplex library_limit (sections_of b)
 sheet-chains {b} bytes h = accepted-chains library_limit b bytes h.none-applies
 
-pub cell-counts-read : (b : List ℕ) {p cells rows columns : ℕ} → ReadsBelow 65536 (count_field b p) cells → ReadsBelow 65536 (count_below (sections_of b) p) rows
-    → ReadsBelow 65536 (count_field b (p + 1)) columns → CellCountsRead (sections_of b) p (record { cells = cells; rows = rows; columns = columns })
-cell-counts-read b {p} c r d = record {
+pub cell-counts-read : (b : List ℕ) {p : ℕ} (n : CellCounts) → ReadsBelow 65536 (count_field b p) n.cells → ReadsBelow 65536 (count_below (sections_of b) p) n.rows
+    → ReadsBelow 65536 (count_field b (p + 1)) n.columns → CellCountsRead (sections_of b) p n
+cell-counts-read b {p} n c r d = record {
   is =
       cc (
         c.is ∙ sym (count-sections_of b p),
         r.is,
         d.is ∙ ap (count_field b) (add-one p) ∙ sym (count-sections_of b (suc p)),
       );
-  cells-below = c.below;
-  rows-below = r.below;
-  columns-below = d.below;
 }
 
 module _ {K : Sections} {p : ℕ} {n : CellCounts} (h : CellCountsRead K p n) where
   pub cells-of : n.cells ≡ count K p
-  cells-of = ap (λ (k : CellCounts). k.cells) h.is
+  cells-of = ap (λ (k : DimensionCounts). k.cells) h.is
 
   pub slots-of : n.cells * (2 * n.cells + max n.rows n.columns) ≡ work_slots K p
-  slots-of = ap (λ (k : CellCounts). k.cells * (2 * k.cells + max k.rows k.columns)) h.is
+  slots-of = ap (λ (k : DimensionCounts). k.cells * (2 * k.cells + max k.rows k.columns)) h.is
 
   pub first_of : first_workspace n.cells n.rows n.columns ≡ first_workspace_of K p
-  first_of = ap (λ (k : CellCounts). first_workspace k.cells k.rows k.columns) h.is
+  first_of = ap (λ (k : DimensionCounts). first_workspace k.cells k.rows k.columns) h.is
 
   pub columns_of : n.columns ≡ count K (suc p)
-  columns_of = ap (λ (k : CellCounts). k.columns) h.is
+  columns_of = ap (λ (k : DimensionCounts). k.columns) h.is
 
   pub second-of : (kept : Bool) (rank : ℕ) → second_workspace n.cells n.rows n.columns (width kept n.columns) rank ≡ second_workspace_of K p kept rank
-  second-of kept rank = ap (λ (k : CellCounts). second_workspace k.cells k.rows k.columns (width kept k.columns) rank) h.is
+  second-of kept rank = ap (λ (k : DimensionCounts). second_workspace k.cells k.rows k.columns (width kept k.columns) rank) h.is

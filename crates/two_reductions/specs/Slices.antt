@@ -1,5 +1,5 @@
 -- Where the matrices of the two reductions stand in the work slice, and what the two come to.
-use Rattle.std.specs.Prelude.{◌≡◌, Bool, List, ℕ, zero, suc, ◌≤◌, ℤ, pos}
+use Rattle.std.specs.Prelude.{◌≡◌, Bool, List, ℕ, zero, suc, ◌≤◌, ℤ, pos, Result, Ok, Err}
 use Rattle.complexes.specs.Complex.{Sections, count}
 use Rattle.complexes.specs.Boundary.{count_below}
 use Rattle.reduction_steps.specs.State.{State}
@@ -8,14 +8,13 @@ use Rattle.reports.specs.Reductions.{no_transforms, width, first_sizes, first_st
 use Rattle.reduction_steps.specs.Pivot.{Rule}
 use Rattle.reduction_steps.specs.Step.{Machine, reduce}
 use Rattle.limits.specs.Limits.{entry_limit}
+use Rattle.refusal.specs.declared.Refusal.{Refusal}
 use Rattle.integers.specs.Slot.{slot}
 use Rattle.operations.specs.Laid.{state_of}
 use Rattle.two_reductions.specs.Workspaces.{first_workspace, second_workspace}
 use Rattle.operations.specs.declared.workspace.Workspace.{Workspace}
 use Rattle.passes.specs.PassAnswers.{Cleared, StillUnder}
 use Rattle.two_reductions.specs.declared.reduced.Reduced.{Reduced}
-use Rattle.two_reductions.specs.declared.reductions.Reductions.{Reductions}
-use Rattle.two_reductions.specs.declared.reductions.Reductions.TheVariants.{Done, Refused}
 
 -- ---- where the matrices of dimension p of the cells K stand
 
@@ -53,9 +52,9 @@ pub record ReducedTwice (K : Sections) (p : ℕ) (kept-columns : Bool) (y : repo
   pub rank_below : x.rank ≤ x.workspace.matrix.lines
   pub kept : StillUnder n x.peak w'
 
-abbrev pub TwiceReduced : Sections → ℕ → Bool → reports.Reductions → ℕ → Reductions → List ℤ → Type 0
-TwiceReduced K p kept-columns y n (Done x) w' = ReducedTwice K p kept-columns y n x w'
-TwiceReduced K p kept-columns y n (Refused x) w' = (y ≡ reports.too_wide) × Cleared n x w'
+abbrev pub TwiceReduced : Sections → ℕ → Bool → reports.Reductions → ℕ → Result Reduced Refusal → List ℤ → Type 0
+TwiceReduced K p kept-columns y n (Ok x) w' = ReducedTwice K p kept-columns y n x w'
+TwiceReduced K p kept-columns y n (Err x) w' = (y ≡ reports.too_wide) × Cleared n x w'
 
 -- the slice reads 0 from place n on
 pub record ZeroFrom (n : ℕ) (w' : List ℤ) : Type 0 where

@@ -15,21 +15,14 @@ ghost use Rattle.two_reductions.specs.Slices.{first_workspace_of, first_reductio
 
 use crate::cell_counts::CellCounts;
 use crate::reduced::Reduced;
-use crate::workspaces::{first_workspace, kept_width, second_workspace, work_slots};
+use crate::workspaces::kept_width;
 use boundaries::fill::{fill_boundary, fill_identity};
 use boundaries::product::multiply;
-use matrix_lines::line::{Effect, clear};
+use matrix_lines::line::clear;
 use matrix_lines::matrix::Matrix;
-use numbers::absolute::larger;
 use operations::workspace::Workspace;
 use reducer::reduction::{Reduction, reduce_matrix};
 use refusal::Refusal;
-
-#[derive(Clone, Copy)]
-pub enum Reductions {
-    Done(Reduced),
-    Refused(Refusal),
-}
 
 // Sets up the first reduction in a slice that reads 0: the boundary matrix of dimension p, V and its inverse.
 fn fill_first(s: &[u8], p: usize, workspace: Workspace, w: &mut [i32])
@@ -58,73 +51,73 @@ fn fill_transform(m: Matrix, w: &mut [i32])
     requires { Held (length w.old) m × (0 < m.width → m.lines ≡ m.width) × Eq m.lines m.width (contents m w.old) null }
     ensures { MatrixFilled m w.old identity w.new }
 {
-    let width = m.width;
-    if 0 < width {
+    if 0 < m.width {
         fill_identity(m, w);
     }
 }
 
 // Reduces the boundary matrix of dimension p in a slice that reads 0.
-fn reduce_first(s: &[u8], p: usize, n: CellCounts, w: &mut [i32]) -> Reduction
+fn reduce_first(s: &[u8], p: usize, n: CellCounts, w: &mut [i32]) -> Result<Reduction, Refusal>
     requires accepted { Accepted s.now × (p ≤ top) }
     requires p_in_bounds { work_slots (sections_of s.now) p ≤ length w.old }
     requires cell_counts_read { CellCountsRead (sections_of s.now) p n }
     requires w_value { w.old ≡ replicate (length w.old) (pos 0) }
     ensures { let K = sections_of s.now in Reduces (first_workspace_of K p) (first_reduction pivot_rule K p) (length w.old) result w.new }
 {
-    let first = first_workspace(n.cells, n.rows, n.columns);
+    let first = n.first_workspace();
     fill_first(s, p, first, w);
     reduce_matrix(first, w, start_peak(n.cells))
 }
 
-// Reduces Q times the boundary matrix of dimension p + 1, after a first reduction of this rank and peak, with the transform of the columns where it is
-// tracked. The slots behind those of the first reduction read 0.
+// Reduces Q times the boundary matrix of dimension p + 1 after the first reduction, with the transform of the columns where it is tracked. The slots
+// behind those of the first reduction read 0.
 fn reduce_second(
     s: &[u8],
     p: usize,
     n: CellCounts,
     tracked: bool,
-    rank: usize,
-    peak: u64,
+    first: Reduction,
     w: &mut [i32],
-) -> Reductions
+) -> Result<Reduced, Refusal>
     requires accepted { Accepted s.now × (p ≤ top) }
     requires p_in_bounds { work_slots_for (second_columns_only tracked) (sections_of s.now) p ≤ length w.old }
     requires cell_counts_read { CellCountsRead (sections_of s.now) p n }
-    requires reduction_done { ReductionDone (first_workspace_of (sections_of s.now) p) (first_reduction pivot_rule (sections_of s.now) p) (length w.old) rank peak w.old }
+    requires reduction_done { ReductionDone (first_workspace_of (sections_of s.now) p) (first_reduction pivot_rule (sections_of s.now) p) (length w.old) first.rank first.peak w.old }
     requires zero_from { ZeroFrom (work_slots (sections_of s.now) p) w.old }
     ensures { let K = sections_of s.now in TwiceReduced K p tracked (reductions_of (second_columns_only tracked) pivot_rule K p) (length w.old) result w.new }
 {
     let kept = kept_width(tracked, n.columns);
-    let second = second_workspace(n.cells, n.rows, n.columns, kept, rank);
+    let second = n.second_workspace(kept, first.rank);
     fill_transform(second.column_follower, w);
-    let Effect::Done(product) = multiply(s, p, second.row_follower, second.matrix, w) else {
+    let Ok(product) = multiply(s, p, second.row_follower, second.matrix, w) else {
         clear(w);
-        return Reductions::Refused(Refusal::TooWide);
+        return Err(Refusal::TooWide);
     };
-    let started = larger(larger(peak, start_peak(kept)), product);
-    let Reduction::Done(last, reached) = reduce_matrix(second, w, started) else {
-        return Reductions::Refused(Refusal::TooWide);
-    };
-    Reductions::Done(Reduced {
+    let started = first.peak.max(start_peak(kept)).max(product);
+    let last = reduce_matrix(second, w, started)?;
+    Ok(Reduced {
         workspace: second,
-        rank: last,
-        peak: reached,
+        rank: last.rank,
+        peak: last.peak,
     })
 }
 
 // The two reductions of dimension p. The work slice is cleared, and the first reduction is lent the slots that it uses, so that the room for the transform
 // reads 0 when the second begins.
-pub fn reduce_twice(s: &[u8], p: usize, n: CellCounts, tracked: bool, w: &mut [i32]) -> Reductions
+pub fn reduce_twice(
+    s: &[u8],
+    p: usize,
+    n: CellCounts,
+    tracked: bool,
+    w: &mut [i32],
+) -> Result<Reduced, Refusal>
     requires accepted { Accepted s.now × (p ≤ top) }
     requires p_in_bounds { work_slots_for (second_columns_only tracked) (sections_of s.now) p ≤ length w.old }
     requires cell_counts_read { CellCountsRead (sections_of s.now) p n }
     ensures { let K = sections_of s.now in TwiceReduced K p tracked (reductions_of (second_columns_only tracked) pivot_rule K p) (length w.old) result w.new }
 {
     clear(w);
-    let slots = work_slots(n.cells, n.rows, n.columns);
-    let Reduction::Done(rank, peak) = reduce_first(s, p, n, &mut w[..slots]) else {
-        return Reductions::Refused(Refusal::TooWide);
-    };
-    reduce_second(s, p, n, tracked, rank, peak, w)
+    let slots = n.work_slots();
+    let first = reduce_first(s, p, n, &mut w[..slots])?;
+    reduce_second(s, p, n, tracked, first, w)
 }

@@ -1,12 +1,14 @@
 -- A slice that is written from a slot on: `written_none`, `written-more`, `written_one`, `written-length`, and `written-whole` for one that is
--- written from its start on. `Progress`: what the loops over the rows have written after some rows.
+-- written from its start on; `put-splice` for a part that is written. `Progress`: what the loops over the rows have written after some rows.
 use mathlib.Core.Path.{◌≡◌, sym, subst, ap, ◌∙◌}
 use mathlib.Core.Logic.{◌≢◌}
 use mathlib.Core.List.{List, [], ◌∷◌, ◌++◌}
 use Prim.Native.Nat.{ℕ, ◌+◌, ◌*◌, ◌≤◌, ◌<◌}
 use native.Mathlib.Nat as NatL
 use native.Mathlib.Omega.{arith}
-use lib.ListN.{length, set, length-append}
+use borrow.Rule.Slice.PartMut.{put_mid}
+use lib.ListN.{length, set, take, drop, length-append}
+use lib.Seq.{drop-drop}
 use lib.IntN.{ℤ, pos}
 use lib.Signed.{◌≤ℤ◌}
 use Rattle.lists.specs.Splice.{splice}
@@ -48,6 +50,11 @@ written_then {from} {next} {next'} {xs} {ys} {slice₀} {slice} {slice'} h k r =
 -- from the slice's start on
 pub written-whole : {next : ℕ} {xs slice₀ slice : List ℤ} → WrittenFrom 0 xs slice₀ next slice → slice ≡ written xs slice₀
 written-whole {next} {xs} {slice₀} {slice} h = h.is ∙ splice-zero xs slice₀
+
+-- a part of the slice, from `at` on, that has been given other numbers
+pub put-splice : (at k : ℕ) (xs slice : List ℤ) → k ≡ length xs → put_mid at k slice xs ≡ splice at xs slice
+unfolding splice
+put-splice at k xs slice h = rw (drop-drop, h) (ap (λ (n : ℕ). take at slice ++ (xs ++ drop n slice)) (omega arith))
 
 -- ---- a loop over the rows
 

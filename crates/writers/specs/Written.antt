@@ -1,6 +1,5 @@
 -- What the writers of the report, of the coordinates and of the surface leave.
 use Rattle.std.specs.Prelude.{◌≡◌, List, ℕ, ◌+◌, ◌*◌, ◌^◌, ◌≤◌, ◌<◌, length, ℤ, pos, nat_abs, ◌≤ℤ◌, ◌<ℤ◌}
-use Rattle.lists.specs.Tabulate.{tabulate}
 use Rattle.lists.specs.Splice.{splice}
 use Rattle.reduction_steps.specs.Table.{entry}
 use Rattle.reports.specs.Report as report
@@ -10,7 +9,7 @@ use Rattle.requests.specs.Chains.{chain_at}
 use Rattle.limits.specs.Limits.{library_limit, entry_limit, coefficient_limit, surface_coefficient_limit}
 use Rattle.integers.specs.Slot.{slot}
 use Rattle.matrix_lines.specs.Slice.{Small}
-use Rattle.matrix_lines.specs.Matrices.{Held, contents}
+use Rattle.matrix_lines.specs.Matrices.{Held}
 use Rattle.matrix_lines.specs.declared.matrix.Matrix.{Matrix}
 use Rattle.operations.specs.Laid.{Laid, lines_of}
 use Rattle.two_reductions.specs.Slices.{state_in}
@@ -29,10 +28,6 @@ pub record Kinds (M : Matrix) (w : List ℤ) : Type 0 where
 pub record WrittenFrom (from : ℕ) (numbers slice : List ℤ) (r : ℕ) (slice' : List ℤ) : Type 0 where
   pub next : r ≡ from + length numbers
   pub is : slice' ≡ splice from numbers slice
-
--- line i of the matrix stands from slot `from` on, and nothing else has changed
-pub record CopiedLine (M : Matrix) (w : List ℤ) (i from : ℕ) (slice slice' : List ℤ) : Type 0 where
-  pub is : slice' ≡ splice from (tabulate M.width (contents M w i)) slice
 
 -- what the counts are read from
 pub record CanCount (x : Reduced) (w : List ℤ) : Type 0 where
@@ -102,17 +97,11 @@ row_limit = library_limit * (entry_limit * surface_coefficient_limit)
 abbrev pub term_limit : ℕ
 term_limit = row_limit * entry_limit
 
--- y times line i of the matrix can be added to the first slots: no sum wraps
+-- y times line i of the matrix can be added to the sums in the slice: none wraps
 pub record CanAdd (M : Matrix) (w : List ℤ) (i : ℕ) (y : ℤ) (slice : List ℤ) : Type 0 where
   pub held : Held (length w) M
   pub small : Small w
   pub line : i < M.lines
   pub factor : nat_abs y ≤ row_limit
-  pub room : M.width ≤ length slice
+  pub size : length slice ≡ M.width
   pub headroom : (j : ℕ) → j < M.width → nat_abs (slot slice j) + term_limit < 2 ^ 63
-
--- the first n slots hold f, and nothing else has changed
-pub record FirstSlots (n : ℕ) (f : ℕ → ℤ) (slice slice' : List ℤ) : Type 0 where
-  pub same_length : length slice' ≡ length slice
-  pub on : (j : ℕ) → j < n → slot slice' j ≡ f j
-  pub off : (j : ℕ) → n ≤ j → slot slice' j ≡ slot slice j

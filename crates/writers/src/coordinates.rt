@@ -24,13 +24,10 @@ pub fn row_times_chain(q: Matrix, w: &[i32], i: usize, chain: &[i32]) -> i64
 {
     let line = q.line(i);
     let mut total: i64 = 0;
-    let mut j: usize = 0;
-    while j < chain.len() {
-        let x = chain[j];
-        if x != 0 {
-            total = total + w[line + j] as i64 * x as i64;
+    for (j, x) in chain.iter().enumerate() {
+        if *x != 0 {
+            total += i64::from(w[line + j]) * i64::from(*x);
         }
-        j = j + 1;
     }
     total
 }
@@ -49,16 +46,13 @@ pub fn write_coordinates(
 {
     let m = reduced.workspace.matrix;
     let q = reduced.workspace.row_follower;
-    let lines = m.lines;
     let mut next = from;
-    let mut i: usize = 0;
-    while i < lines {
+    for i in 0..m.lines {
         let order = kind(m, w, i);
         if order != 1 {
             coordinates[next] = residue(row_times_chain(q, w, i, chain), order);
-            next = next + 1;
+            next += 1;
         }
-        i = i + 1;
     }
     next
 }
@@ -76,10 +70,8 @@ pub fn write_lists(
     ensures { coordinates.new ≡
         splices cells (λ i. coordinates_of reduced w.now (chain_at cells chains.now i)) many coordinates.old }
 {
-    let mut i: usize = 0;
-    while i < many {
+    for i in 0..many {
         let at = i * cells;
         write_coordinates(reduced, w, &chains[at..at + cells], coordinates, at);
-        i = i + 1;
     }
 }

@@ -22,15 +22,7 @@ pub fn reported_count(m: Matrix, w: &[i32], n: usize) -> usize
     requires { Held (length w.now) m × (n ≤ m.lines) × Kinds m w.now }
     ensures { result ≡ length (reported (kind_in m w.now) n) }
 {
-    let mut number: usize = 0;
-    let mut i: usize = 0;
-    while i < n {
-        if kind(m, w, i) != 1 {
-            number = number + 1;
-        }
-        i = i + 1;
-    }
-    number
+    (0..n).filter(|i| kind(m, w, *i) != 1).count()
 }
 
 // The report's counts.

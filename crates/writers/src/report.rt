@@ -1,9 +1,11 @@
 // Writing the report.
 ghost use Rattle.std.specs.Prelude.{◌≡◌, map, ◌+◌, ◌*◌, ◌<◌, ◌≤◌, length};
-ghost use Rattle.matrix_lines.specs.Matrices.{Held};
+ghost use Rattle.lists.specs.Tabulate.{tabulate};
+ghost use Rattle.lists.specs.Splice.{splice};
+ghost use Rattle.matrix_lines.specs.Matrices.{Held, contents};
 ghost use Rattle.reports.specs.Report.{reported, columns_of};
 ghost use Rattle.operations.specs.Laid.{lines_of};
-ghost use Rattle.writers.specs.Written.{kind_in, Kinds, WrittenFrom, CopiedLine, CanReport, WroteReport};
+ghost use Rattle.writers.specs.Written.{kind_in, Kinds, WrittenFrom, CanReport, WroteReport};
 
 use crate::counts::Counts;
 use crate::kind::{counts, kind};
@@ -17,52 +19,42 @@ fn write_orders(m: Matrix, w: &[i32], n: usize, report: &mut [i64], from: usize)
         report.old result report.new }
 {
     let mut next = from;
-    let mut i: usize = 0;
-    while i < n {
+    for i in 0..n {
         let order = kind(m, w, i);
         if order != 1 {
             report[next] = order;
-            next = next + 1;
+            next += 1;
         }
-        i = i + 1;
     }
     next
 }
 
-// Copies line i of g to the slots from `from` on.
-fn write_line(g: Matrix, w: &[i32], i: usize, report: &mut [i64], from: usize)
-    requires { Held (length w.now) g × (i < g.lines) × (from + g.width ≤ length report.old) }
-    ensures { CopiedLine g w.now i from report.old report.new }
+// Copies line i of g to the slots.
+fn write_line(g: Matrix, w: &[i32], i: usize, slots: &mut [i64])
+    requires { Held (length w.now) g × (i < g.lines) × (length slots.old ≡ g.width) }
+    ensures { slots.new ≡ tabulate g.width (contents g w.now i) }
 {
-    let width = g.width;
     let at = g.line(i);
-    let mut j: usize = 0;
-    while j < width {
-        report[from + j] = w[at + j] as i64;
-        j = j + 1;
+    for (j, slot) in slots.iter_mut().enumerate() {
+        *slot = i64::from(w[at + j]);
     }
 }
 
-// Writes the columns of G, which are lines of g, of the rows whose kind is not 1.
-fn write_generators(m: Matrix, g: Matrix, w: &[i32], report: &mut [i64], from: usize) -> usize
+// Writes the columns of G, which are lines of g, of the rows whose kind is not 1, from slot `from` on.
+fn write_generators(m: Matrix, g: Matrix, w: &[i32], report: &mut [i64], from: usize)
     requires { Held (length w.now) m × Held (length w.now) g × (m.lines ≡ g.lines) ×
         (from + g.lines * g.width ≤ length report.old) × Kinds m w.now }
-    ensures { WrittenFrom from
+    ensures { report.new ≡ splice from
         (columns_of (lines_of g w.now) g.width (reported (kind_in m w.now) m.lines))
-        report.old result report.new }
+        report.old }
 {
-    let lines = m.lines;
-    let width = g.width;
     let mut next = from;
-    let mut i: usize = 0;
-    while i < lines {
+    for i in 0..m.lines {
         if kind(m, w, i) != 1 {
-            write_line(g, w, i, report, next);
-            next = next + width;
+            write_line(g, w, i, &mut report[next..next + g.width]);
+            next += g.width;
         }
-        i = i + 1;
     }
-    next
 }
 
 // Writes the report, and answers its counts.

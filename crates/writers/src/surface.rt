@@ -1,11 +1,11 @@
 // Writing the surface that a loop bounds.
-ghost use Rattle.std.specs.Prelude.{◌≡◌, ◌≤◌, length, pos, ◌+ℤ◌, ◌*ℤ◌};
+ghost use Rattle.std.specs.Prelude.{◌≡◌, ℕ, ◌<◌, ◌≤◌, length, ◌+ℤ◌, ◌*ℤ◌};
 ghost use Rattle.lists.specs.Splice.{written};
 ghost use Rattle.integers.specs.Slot.{slot};
 ghost use Rattle.matrix_lines.specs.Matrices.{contents};
 ghost use Rattle.two_reductions.specs.Slices.{state_in};
 ghost use Rattle.reports.specs.Surface.{bounds_nothing, surface_list};
-ghost use Rattle.writers.specs.Written.{CanSurface, CanAdd, FirstSlots};
+ghost use Rattle.writers.specs.Written.{CanSurface, CanAdd};
 
 use crate::coordinates::row_times_chain;
 use crate::kind::kind;
@@ -22,41 +22,17 @@ pub fn bounds_nothing(reduced: Reduced, w: &[i32], chain: &[i32]) -> bool
 {
     let m = reduced.workspace.matrix;
     let q = reduced.workspace.row_follower;
-    let lines = m.lines;
-    let mut i: usize = 0;
-    while i < lines {
-        if !divides(kind(m, w, i), row_times_chain(q, w, i, chain)) {
-            return true;
-        }
-        i = i + 1;
-    }
-    false
+    (0..m.lines).any(|i| !divides(kind(m, w, i), row_times_chain(q, w, i, chain)))
 }
 
-// Sets the first n slots to 0.
-fn clear_slots(surface: &mut [i64], n: usize)
-    requires { n ≤ length surface.old }
-    ensures { FirstSlots n (λ j. pos 0) surface.old surface.new }
+// Adds y times line i of g to the sums.
+fn add_line(g: Matrix, w: &[i32], i: usize, y: i64, sums: &mut [i64])
+    requires { CanAdd g w.now i y sums.old }
+    ensures { (j : ℕ) → j < g.width → slot sums.new j ≡ slot sums.old j +ℤ y *ℤ contents g w.now i j }
 {
-    let mut j: usize = 0;
-    while j < n {
-        surface[j] = 0;
-        j = j + 1;
-    }
-}
-
-// Adds y times line i of g to the first slots.
-fn add_line(g: Matrix, w: &[i32], i: usize, y: i64, surface: &mut [i64])
-    requires { CanAdd g w.now i y surface.old }
-    ensures { FirstSlots g.width (λ j. slot surface.old j +ℤ y *ℤ contents g w.now i j)
-        surface.old surface.new }
-{
-    let width = g.width;
     let at = g.line(i);
-    let mut j: usize = 0;
-    while j < width {
-        surface[j] = surface[j] + y * w[at + j] as i64;
-        j = j + 1;
+    for (j, sum) in sums.iter_mut().enumerate() {
+        *sum += y * i64::from(w[at + j]);
     }
 }
 
@@ -72,15 +48,13 @@ pub fn write_surface(reduced: Reduced, w: &[i32], chain: &[i32], surface: &mut [
     let m = reduced.workspace.matrix;
     let q = reduced.workspace.row_follower;
     let columns = reduced.workspace.column_follower;
-    let rank = reduced.rank;
-    clear_slots(surface, columns.width);
-    let mut i: usize = 0;
-    while i < rank {
+    let sums = &mut surface[..columns.width];
+    sums.fill(0);
+    for i in 0..reduced.rank {
         let pivot = kind(m, w, i);
         let y = floor(row_times_chain(q, w, i, chain), pivot);
         if y != 0 {
-            add_line(columns, w, i, y, surface);
+            add_line(columns, w, i, y, sums);
         }
-        i = i + 1;
     }
 }

@@ -3,4 +3,4 @@ use Rattle.refusal.proofs.Told.{answers-told}
 use Rattle.fildwuk.proofs.fildwuk_sweep.Goals as goal
 
 pub returns : goal.returns
-returns c = rw c.host.ensures at (answers-told c.sweep_at-written.ensures c.number.ensures)
+returns c = rw c.host.ensures at (answers-told c.sweep_at.ensures c.number_told.ensures)

@@ -3,4 +3,4 @@ use Rattle.refusal.proofs.Told.{answers-told}
 use Rattle.library_host.proofs.fildwuk_library_import.Goals as goal
 
 pub returns : goal.returns
-returns c = answers-told c.import-imported.ensures c.number.ensures
+returns c = answers-told c.import.ensures c.number_told.ensures

@@ -1,12 +1,8 @@
--- `printer::put_dimensions` meets its contract. The loop's invariant: the texts of the dimensions passed stand in `out`. The measure is the number of
--- dimensions left.
-use Prim.Native.Nat.{suc, ◌-◌}
-use Rattle.sheet_format.specs.Layout.{top}
+-- `put_dimensions` meets its contract. The loop's invariant: the texts of the dimensions passed stand behind what was put before.
+use mathlib.Core.Path.{◌≡◌}
 use Rattle.printer.proofs.Dimensions.{Printed}
 use Rattle.printer.proofs.put_dimensions.Given as goal
 
 abbrev pub invariant-loop-p : goal.invariant-loop-p
-invariant-loop-p l = Printed l.s l.initial.out l.report l.work l.out l.next l.p
-
-abbrev pub decreases-loop-p : goal.decreases-loop-p
-decreases-loop-p l = suc top - l.p
+invariant-loop-p l =
+    (l.out.out.ghost_name ≡ l.initial.out.out.ghost_name) × Printed l.s l.initial.out.out.now l.initial.out.at l.out.out.now l.out.at l.p

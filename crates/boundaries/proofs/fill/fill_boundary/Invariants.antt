@@ -1,10 +1,6 @@
--- `fill::fill_boundary` meets its contract. The invariant: the columns passed are those of the boundary matrix. The measure is how many are
--- left.
-use mathlib.Core.Path.{◌≡◌}
-use Prim.Native.Nat.{suc, ◌-◌, ◌≤◌}
-use lib.ListN.{length}
+-- `fill::fill_boundary` meets its contract. The invariant: the columns passed are those of the boundary matrix.
+use Prim.Native.Nat.{suc, ◌≤◌}
 use Rattle.complexes.specs.Boundary.{boundary}
-use Rattle.sheet_format.specs.Layout.{top}
 use Rattle.sheet_format.specs.Check.{sections_of}
 use Rattle.matrix_lines.specs.Matrices.{contents}
 use Rattle.boundaries.specs.Filled.{MatrixFilled}
@@ -12,7 +8,4 @@ use Rattle.boundaries.proofs.Columns.{left_of}
 use Rattle.boundaries.proofs.fill.fill_boundary.Given as goal
 
 abbrev pub invariant-loop-j : goal.invariant-loop-j
-invariant-loop-j l = (l.j ≤ l.m.width) × MatrixFilled l.m l.initial.w (left_of l.j (boundary (sections_of l.s) (suc l.p)) (contents l.m l.initial.w)) l.w × (length l.places ≡ suc top)
-
-abbrev pub decreases-loop-j : goal.decreases-loop-j
-decreases-loop-j l = l.m.width - l.j
+invariant-loop-j l = (l.j ≤ l.m.width) × MatrixFilled l.m l.initial.w (left_of l.j (boundary (sections_of l.s) (suc l.p)) (contents l.m l.initial.w)) l.w

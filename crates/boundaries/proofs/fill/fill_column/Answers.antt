@@ -2,7 +2,8 @@ use mathlib.Core.Path.{◌≡◌, refl, sym, ap, subst, ◌∙◌}
 use mathlib.Core.List.{List}
 use Prim.Native.Nat.{ℕ, suc, ◌+◌, ◌<◌, ◌≤◌}
 use native.Mathlib.Omega.{arith}
-use lib.ListN.{length, get_or, set}
+use lib.ListN.{length, get_or, take, set, length-take}
+use Rattle.std.proofs.lemmas.List.{get_or-take, length-take-le}
 use mir.Syntax.{w8}
 use mir.Val.{Fits}
 use lib.IntN.{ℤ}
@@ -20,11 +21,11 @@ use Rattle.faces.specs.Face.{IsFace}
 use Rattle.boundaries.specs.Filled.{ColumnFilled}
 use Rattle.faces.proofs.Sheet.{complex}
 use Rattle.faces.proofs.Column.{entry, part_none, part-face, part-other, part-fresh, part-all}
-use Rattle.boundaries.proofs.Store.{Place, place_inside, entry_set, column-set}
+use Rattle.boundaries.proofs.Store.{Place, entry_set, column-set}
 use Rattle.faces.proofs.Signs.{sign-cast, sign-entry}
 use Rattle.boundaries.proofs.fill.fill_column.Invariants.{Invariant}
 use Rattle.boundaries.proofs.fill.fill_column.Goals as goal
-use Rattle.boundaries.proofs.fill.fill_column.Goals.{Start, After-face_places, At-loop-t, In-loop-t, After-line}
+use Rattle.boundaries.proofs.fill.fill_column.Goals.{Start, After-face_places, At-loop-t, In-loop-t}
 
 -- what the function is given
 record Given (b : List ℕ) (p : ℕ) (M : Matrix) (w₀ : List ℤ) (j : ℕ) : Type 0 where
@@ -95,10 +96,6 @@ given c words =
       zero = pre.by_index;
     }
 
-pub face_places-requires : goal.face_places-requires
-face_places-requires c =
-    let pre = c.requires in record { accepted = pre.accepted.0; p_lt_top = (pre.accepted.1, cell_below (given (goal.at.face_places-requires c).Start c.type_inv.s), pre.accepted.2) }
-
 pub loop-t-init : goal.loop-t-init
 loop-t-init c = begun (given (goal.at.loop-t-init c).Start c.type_inv.s)
 
@@ -110,51 +107,35 @@ module _ (c : In-loop-t) where
   abbrev known : Start
   known = (goal.at.At-loop-t head).Start
 
+  abbrev places : List ℕ
+  places = head.face_places.new.places
+
   known_given : let args = known.args in Given args.s.now args.p args.m args.w.now args.j
   known_given = given known c.type_inv.s
 
+  more-faces : head.loop-t.t < known.args.p + 2
+  more-faces = omega (arith, c.loop-t-test.true, length-take (known.args.p + 2) places)
+
   -- the place of face t
   abbrev row : ℕ
-  row = get_or head.face_places.new.places head.loop-t.t 0
+  row = get_or (take (known.args.p + 2) places) head.loop-t.t 0
 
   face : let args = known.args in IsFace args.s.now args.p args.j head.loop-t.t row
-  face = head.face_places.ensures.face head.loop-t.t (omega (arith, c.loop-t-test.true))
-
-pub bounds-places-t : goal.bounds-places-t
-bounds-places-t c = omega (arith, c.loop-t-test.true, (known_given (goal.at.bounds-places-t c).In-loop-t).inside)
-
-pub line-requires : goal.line-requires
-line-requires c = let turn = (goal.at.line-requires c).In-loop-t in let g = known_given turn in omega (arith, g.held.ends, (face turn).below, g.lines)
-
-module _ (c : After-line) where
-  abbrev turn : In-loop-t
-  turn = (goal.at.After-line c).In-loop-t
-
-  place : let args = (known turn).args in Place args.m (length args.w.now) (row turn) args.j (c.line.result + args.j)
-  place = entry_place (known_given turn) (face turn) (omega (arith, c.line.ensures))
-
-pub overflow_add-at : goal.overflow_add-at
-overflow_add-at c = omega (arith, place_inside (place c))
-
-pub sign-requires : goal.sign-requires
-sign-requires c = tt
+  face = rw (get_or-take (known.args.p + 2) places head.loop-t.t 0 more-faces) (head.face_places.ensures.face head.loop-t.t (omega (arith, more-faces)))
 
 pub overflow_cast-w : goal.overflow_cast-w
-overflow_cast-w c = sign-cast c.sign.result (head (turn (goal.at.overflow_cast-w c).After-line)).loop-t.t c.sign.ensures
-
-pub offset_bounds-w-at : goal.offset_bounds-w-at
-offset_bounds-w-at c = omega (arith, place_inside (place (goal.at.offset_bounds-w-at c).After-line))
-
-pub bounds-w-at : goal.bounds-w-at
-bounds-w-at c = omega (arith, place_inside (place (goal.at.bounds-w-at c).After-line), (head (turn (goal.at.bounds-w-at c).After-line)).loop-t.invariant.so_far.same_length)
+overflow_cast-w c = sign-cast c.sign.result c.loop-t.t c.sign.ensures
 
 pub loop-t-preserved : goal.loop-t-preserved
 loop-t-preserved c =
-    let at = turn (goal.at.loop-t-preserved c).After-line in let loop = (head at).loop-t in let args = (known at).args in let place_of = c.line.result + args.j in
-    subst (λ (v : ℤ). Invariant args.s.now args.p args.m args.w.now args.j (set loop.w place_of v) (loop.t + 1))
+    let turn = (goal.at.loop-t-preserved c).In-loop-t in let loop = (head turn).loop-t in let args = (known turn).args in
+    subst (λ (v : ℤ). Invariant args.s.now args.p args.m args.w.now args.j (set loop.w (c.line.result + args.j) v) (loop.t + 1))
     (sym (sign-entry c.sign.result loop.t c.sign.ensures))
-    (more (known_given at) loop.invariant at.loop-t-test.true (face at) (place (goal.at.loop-t-preserved c).After-line))
+    (more (known_given turn) loop.invariant (more-faces turn) (face turn) (entry_place (known_given turn) (face turn) (omega (arith, c.line.ensures))))
 
 pub returns : goal.returns
 returns c =
-    let called = (goal.at.returns c).After-face_places in record { column_filled = ended (given (goal.at.After-face_places called).Start called.type_inv.s) c.loop-t.invariant c.loop-t-test.false; places_len = called.face_places.ensures.sized }
+    let called = (goal.at.returns c).After-face_places in
+    let p = called.args.p in
+    ended (given (goal.at.After-face_places called).Start called.type_inv.s) c.loop-t.invariant
+    (omega (arith, c.loop-t-test.false, length-take-le (p + 2) called.face_places.new.places (omega (arith, called.requires.accepted.1, called.face_places.ensures.sized))))

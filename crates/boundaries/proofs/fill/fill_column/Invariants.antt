@@ -1,7 +1,6 @@
--- `fill::fill_column` meets its contract. The invariant: the column holds what the first t faces give it. The measure is how many faces are
--- left.
+-- `fill::fill_column` meets its contract. The invariant: the column holds what the first t faces give it.
 use mathlib.Core.List.{List}
-use Prim.Native.Nat.{ℕ, ◌+◌, ◌-◌, ◌≤◌}
+use Prim.Native.Nat.{ℕ, ◌+◌, ◌≤◌}
 use lib.IntN.{ℤ}
 use Rattle.matrix_lines.specs.declared.matrix.Matrix.{Matrix}
 use Rattle.boundaries.specs.Filled.{ColumnFilled}
@@ -14,6 +13,3 @@ pub record Invariant (b : List ℕ) (p : ℕ) (M : Matrix) (w₀ : List ℤ) (j 
 
 abbrev pub invariant-loop-t : goal.invariant-loop-t
 invariant-loop-t l = Invariant l.s l.p l.m l.initial.w l.j l.w l.t
-
-abbrev pub decreases-loop-t : goal.decreases-loop-t
-decreases-loop-t l = l.p + 2 - l.t

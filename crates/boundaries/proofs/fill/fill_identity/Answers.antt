@@ -12,7 +12,7 @@ use Rattle.matrix_lines.specs.Matrices.{contents}
 use Rattle.matrix_lines.specs.declared.matrix.Matrix.{Matrix}
 use Rattle.matrix_lines.proofs.UpTo.{up_to, up_to-below, up_to-from}
 use Rattle.boundaries.specs.Filled.{MatrixFilled}
-use Rattle.boundaries.proofs.Store.{Place, place_inside, entry_set, matrix-set}
+use Rattle.boundaries.proofs.Store.{Place, entry_set, matrix-set}
 use Rattle.boundaries.proofs.fill.fill_identity.Invariants.{Invariant}
 use Rattle.boundaries.proofs.fill.fill_identity.Goals as goal
 use Rattle.boundaries.proofs.fill.fill_identity.Goals.{Start, After-line}
@@ -57,9 +57,6 @@ module _ {M : Matrix} {w₀ w : List ℤ} {i : ℕ} (inv : Invariant M w₀ w i)
     off = inv.so_far.off;
   }
 
-pub loop-i-init : goal.loop-i-init
-loop-i-init c = begun c.args.m c.args.w.now
-
 entry_place : (c : After-line) →
     let args = c.args in
     Place args.m (length args.w.now) c.loop-i.i c.loop-i.i (c.line.result + c.loop-i.i)
@@ -71,12 +68,6 @@ entry_place c =
       column = omega (arith, c.loop-i-test.true, start.requires.1);
       is = omega (arith, c.line.ensures);
     }
-
-pub overflow_add-at : goal.overflow_add-at
-overflow_add-at c = omega (arith, place_inside (entry_place c))
-
-pub offset_bounds-w-at : goal.offset_bounds-w-at
-offset_bounds-w-at c = omega (arith, place_inside (entry_place c))
 
 pub loop-i-preserved : goal.loop-i-preserved
 loop-i-preserved c =

@@ -1,6 +1,6 @@
 -- `fill::fill_identity` meets its contract. The invariant: the lines passed are those of the identity. The measure is how many are left.
 use mathlib.Core.List.{List}
-use Prim.Native.Nat.{ℕ, ◌-◌, ◌≤◌}
+use Prim.Native.Nat.{ℕ, ◌≤◌}
 use lib.IntN.{ℤ}
 use Rattle.matrices.specs.Matrix.{identity}
 use Rattle.matrix_lines.specs.Matrices.{contents}
@@ -16,6 +16,3 @@ pub record Invariant (M : Matrix) (w₀ : List ℤ) (w : List ℤ) (i : ℕ) : T
 
 abbrev pub invariant-loop-i : goal.invariant-loop-i
 invariant-loop-i l = Invariant l.m l.initial.w l.w l.i
-
-abbrev pub decreases-loop-i : goal.decreases-loop-i
-decreases-loop-i l = l.m.lines - l.i

@@ -79,39 +79,26 @@ module _ (c : Then-t-faces) where
   inside : get_or start.args.places head.loop-t.t 0 < start.args.width
   inside = start.requires.by_index head.loop-t.t c.if-t-faces.true
 
-pub overflow_add-total : goal.overflow_add-total
-overflow_add-total c = omega (arith, inside c, (start c).requires.width_in_bounds.0)
-
-pub offset_bounds-w-line : goal.offset_bounds-w-line
-offset_bounds-w-line c = omega (arith, inside c, (start c).requires.width_in_bounds.0)
-
-pub bounds-w-line : goal.bounds-w-line
-bounds-w-line c = omega (arith, inside c, (start c).requires.width_in_bounds.0)
-
-pub overflow_cast-total : goal.overflow_cast-total
-overflow_cast-total c =
-    let turn = (goal.at.overflow_cast-total c).Then-t-faces in
-    cast-word (head turn).loop-t.invariant (start turn).requires.width_in_bounds.1 turn.if-t-faces.true (start turn).requires.width_in_bounds.2 (sign (head turn).loop-t.t) refl
-
-pub sign-requires : goal.sign-requires
-sign-requires c = tt
-
 pub overflow_mul-total : goal.overflow_mul-total
 overflow_mul-total c =
     let turn = (goal.at.overflow_mul-total c).Then-t-faces in
-    term-word (head turn).loop-t.invariant (start turn).requires.width_in_bounds.1 turn.if-t-faces.true (start turn).requires.width_in_bounds.2 c.sign.result c.sign.ensures
+    rw c.from.ensures
+    (term-word (head turn).loop-t.invariant (start turn).requires.width_in_bounds.1 turn.if-t-faces.true (start turn).requires.width_in_bounds.2 c.sign.result c.sign.ensures)
 
-pub overflow_add-total-then-t-faces : goal.overflow_add-total-then-t-faces
-overflow_add-total-then-t-faces c =
-    let turn = (goal.at.overflow_add-total-then-t-faces c).Then-t-faces in
-    sum-word (head turn).loop-t.invariant (start turn).requires.width_in_bounds.1 turn.if-t-faces.true (start turn).requires.width_in_bounds.2 c.sign.result c.sign.ensures
+pub overflow_add-total : goal.overflow_add-total
+overflow_add-total c =
+    let turn = (goal.at.overflow_add-total c).Then-t-faces in
+    rw c.from.ensures
+    (sum-word (head turn).loop-t.invariant (start turn).requires.width_in_bounds.1 turn.if-t-faces.true (start turn).requires.width_in_bounds.2 c.sign.result c.sign.ensures)
 
 pub loop-t-preserved : goal.loop-t-preserved
 loop-t-preserved c =
     let loop = c.loop-t in let start = (goal.at.loop-t-preserved c).Start in
     elim c.if-t-faces.branch [
       | then-t-faces w ↦ with-term w.if-t-faces.true
-          (w.total-is ∙ added_is loop.invariant start.requires.width_in_bounds.1 w.if-t-faces.true start.requires.width_in_bounds.2 w.sign.result w.sign.ensures)
+          (w.total-is
+          ∙ rw w.from.ensures
+          (added_is loop.invariant start.requires.width_in_bounds.1 w.if-t-faces.true start.requires.width_in_bounds.2 w.sign.result w.sign.ensures))
       | else-t-faces w ↦ with_none w.if-t-faces.false
           (subst (λ (x : ℤ). Invariant start.args.w.now start.args.line start.args.places start.args.faces loop.t x) (sym w.total-is) loop.invariant)
     ]

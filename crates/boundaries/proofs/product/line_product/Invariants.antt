@@ -1,9 +1,8 @@
--- `product::line_product` meets its contract. The invariant: the total is the sum of the first t terms. The measure is how many faces are left.
+-- `product::line_product` meets its contract. The invariant: the total is the sum of the first t terms.
 use mathlib.Core.Path.{◌≡◌}
 use mathlib.Core.List.{List}
-use Prim.Native.Nat.{ℕ, suc, ◌-◌, ◌≤◌}
+use Prim.Native.Nat.{ℕ, ◌≤◌}
 use lib.IntN.{ℤ}
-use Rattle.sheet_format.specs.Layout.{top}
 use Rattle.matrices.specs.Sum.{sum}
 use Rattle.boundaries.proofs.Products.{signed}
 use Rattle.boundaries.proofs.product.line_product.Given as goal
@@ -13,7 +12,4 @@ pub record Invariant (w : List ℤ) (line : ℕ) (places : List ℕ) (faces t : 
   pub all : faces ≤ t → total ≡ sum faces (signed w line places)
 
 abbrev pub invariant-loop-t : goal.invariant-loop-t
-invariant-loop-t l = Invariant l.w l.line l.places l.faces l.t l.total
-
-abbrev pub decreases-loop-t : goal.decreases-loop-t
-decreases-loop-t l = suc top - l.t
+invariant-loop-t l = Invariant l.w l.line l.fn.places l.faces l.t l.total

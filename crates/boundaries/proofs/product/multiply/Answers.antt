@@ -3,6 +3,7 @@ use mathlib.Core.Logic.{◌⊎◌, inl, inr, ⊎_elim}
 use mathlib.Core.List.{List}
 use Prim.Native.Nat.{ℕ, suc, ◌+◌, ◌<◌, ◌≤◌}
 use native.Mathlib.Omega.{arith}
+use Rattle.std.proofs.lemmas.Result.{err_from_is_err_and}
 use lib.IntN.{ℤ, nat_abs}
 use Rattle.matrices.proofs.Product.{mul-ext-at}
 use Rattle.complexes.specs.Complex.{Sections, count, Complex}
@@ -13,13 +14,11 @@ use Rattle.sheet_format.specs.SheetLaws.{count-sections_of, count_field-below}
 use Rattle.matrix_lines.specs.Slice.{entry_limit, Small}
 use Rattle.matrix_lines.specs.Matrices.{contents, end, everywhere, Holds, Exceeds}
 use Rattle.matrix_lines.specs.declared.matrix.Matrix.{Matrix}
-use Rattle.matrix_lines.specs.declared.line.Effect.{Effect}
-use Rattle.matrix_lines.specs.declared.line.Effect.TheVariants.{Done, TooWide}
 use Rattle.matrix_lines.proofs.Peaks.{small-bounded, covered_same, covered-trans}
 use Rattle.limits.specs.Limits.{library_limit}
 use Rattle.faces.specs.Face.{AreFaces}
 use Rattle.faces.proofs.Sheet.{complex}
-use Rattle.boundaries.specs.Column.{at_places, ColumnEntry, ColumnHolds, ColumnExceeds, ColumnBecame}
+use Rattle.boundaries.specs.Column.{at_places, ColumnEntry, ColumnHolds, ColumnExceeds}
 use Rattle.boundaries.proofs.Columns.{columns-none, columns-more, columns-all}
 use Rattle.boundaries.proofs.Products.{product, contents-kept, product-entry}
 use Rattle.boundaries.proofs.product.multiply.Invariants.{Invariant, Reached}
@@ -121,11 +120,6 @@ module _ {b : List ℕ} {p : ℕ} {q M : Matrix} {w₀ w : List ℤ} {largest j 
 dimension : (b : List ℕ) (p j : ℕ) → j < count (sections_of b) (suc p) → p < top
 dimension b p j l = omega (arith, count_field-below b (suc p) j (rw (count-sections_of b (suc p)) at l))
 
-pub loop-j-init : goal.loop-j-init
-loop-j-init c =
-    let args = c.args in
-    (begun (sections_of args.s.now) args.p args.q args.m args.w.now c.requires.held.2, refl)
-
 -- cell j is one of the section's
 module _ (c : In-loop-j) where
   abbrev start : Start
@@ -139,7 +133,7 @@ module _ (c : In-loop-j) where
 
 pub face_places-requires : goal.face_places-requires
 face_places-requires c =
-    let turn = (goal.at.face_places-requires c).In-loop-j in record { accepted = (start turn).requires.accepted; p_lt_top = (inside turn, cell_below turn, turn.loop-j.invariant.1) }
+    let turn = (goal.at.face_places-requires c).In-loop-j in record { accepted = (start turn).requires.accepted; p_lt_top = (inside turn, cell_below turn) }
 
 -- its faces have their places
 faced : (c : After-face_places) →
@@ -163,7 +157,7 @@ multiply_column-requires c =
     record {
       lines_value = (pre.width_value.2, turn.loop-j-test.true, omega (arith, inside turn));
       by_index = λ t l. omega (arith, (f.faces.face t (omega arith)).below, f.rows);
-      held = (record { ends = omega (arith, pre.held.0.ends, head.invariant.0.so_far.same_length) }, pre.held.1, head.invariant.0.bounded);
+      held = (record { ends = omega (arith, pre.held.0.ends, head.invariant.so_far.same_length) }, pre.held.1, head.invariant.bounded);
     }
 
 module _ (c : After-multiply_column) where
@@ -173,28 +167,17 @@ module _ (c : After-multiply_column) where
   abbrev turn : In-loop-j
   turn = (goal.at.After-face_places facing).In-loop-j
 
-  -- what the call leaves where it answers r
-  abbrev Left : Effect → Type 0
-  Left r =
-      let args = (start turn).args in let head = turn.loop-j in
-      ColumnBecame args.m head.w (at_places args.q head.w facing.face_places.new.places (args.p + 2)) head.j head.largest r c.multiply_column.new.w
-
-  became : (r : Effect) → c.multiply_column.result ≡ r → Left r
-  became r e = subst Left e c.multiply_column.ensures
-
-pub returns-in_default : goal.returns-in_default
-returns-in_default c =
-    let called = (goal.at.returns-in_default c).After-multiply_column in
-    too_wide (turn called).loop-j.invariant.0 (start (turn called)).requires.held.1 (faced (facing called)) (turn called).loop-j-test.true
-    (became called TooWide c.in_default.is)
+pub returns-in_err-largest : goal.returns-in_err-largest
+returns-in_err-largest c =
+    let called = (goal.at.returns-in_err-largest c).After-multiply_column in
+    let p = err_from_is_err_and c.from_residual.result c.from_residual.ensures.1 in
+    rw p.1
+    (too_wide (turn called).loop-j.invariant (start (turn called)).requires.held.1 (faced (facing called)) (turn called).loop-j-test.true c.in_err-largest.ensures)
 
 pub loop-j-preserved : goal.loop-j-preserved
 loop-j-preserved c =
-    let called = (goal.at.loop-j-preserved c).After-multiply_column in (
-      more (turn called).loop-j.invariant.0 (start (turn called)).requires.held.1 (faced (facing called)) (turn called).loop-j-test.true
-          (became called (Done _) c.in-Done.is),
-      (facing called).face_places.ensures.sized,
-    )
+    let called = (goal.at.loop-j-preserved c).After-multiply_column in
+    more (turn called).loop-j.invariant (start (turn called)).requires.held.1 (faced (facing called)) (turn called).loop-j-test.true c.in_ok-largest.ensures
 
 pub returns : goal.returns
-returns c = ended c.loop-j.invariant.0 c.loop-j-test.false
+returns c = ended c.loop-j.invariant c.loop-j-test.false

@@ -1,13 +1,11 @@
 -- `product::multiply` meets its contract. The invariant: the columns passed are those of the product, and the largest so far is that of their
--- absolute values. The measure is how many are left.
+-- absolute values.
 use mathlib.Core.Path.{◌≡◌}
 use mathlib.Core.Logic.{◌⊎◌}
 use mathlib.Core.List.{List}
-use Prim.Native.Nat.{ℕ, suc, ◌-◌, ◌<◌, ◌≤◌}
-use lib.ListN.{length}
+use Prim.Native.Nat.{ℕ, ◌<◌, ◌≤◌}
 use lib.IntN.{ℤ, nat_abs}
 use Rattle.complexes.specs.Complex.{Sections}
-use Rattle.sheet_format.specs.Layout.{top}
 use Rattle.sheet_format.specs.Check.{sections_of}
 use Rattle.matrix_lines.specs.Slice.{Bounded, Covered}
 use Rattle.matrix_lines.specs.Matrices.{contents}
@@ -33,7 +31,4 @@ pub record Invariant (K : Sections) (p : ℕ) (q M : Matrix) (w₀ : List ℤ) (
   pub wrote : (largest ≡ 0) ⊎ Reached K p q M w₀ j largest
 
 abbrev pub invariant-loop-j : goal.invariant-loop-j
-invariant-loop-j l = Invariant (sections_of l.s) l.p l.q l.m l.initial.w l.w l.largest l.j × (length l.places ≡ suc top)
-
-abbrev pub decreases-loop-j : goal.decreases-loop-j
-decreases-loop-j l = l.m.width - l.j
+invariant-loop-j l = Invariant (sections_of l.s) l.p l.q l.m l.initial.w l.w l.largest l.j

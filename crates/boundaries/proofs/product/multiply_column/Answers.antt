@@ -14,13 +14,12 @@ use Rattle.matrices.proofs.SumLaws.{sum-ext}
 use Rattle.matrices.specs.Matrix as theory
 use Rattle.complexes.specs.Boundary.{sign}
 use Rattle.sheet_format.specs.Layout.{top}
-use Rattle.machine_words.specs.Read.{read, read-entry, entry-fits}
+use Rattle.machine_words.specs.Read.{read, read-entry}
 use Rattle.matrix_lines.specs.Slice.{entry_limit, line_at, Bounded}
 use Rattle.matrix_lines.specs.Matrices.{Held, contents, end}
 use Rattle.matrix_lines.specs.declared.matrix.Matrix.{Matrix}
 use Rattle.matrix_lines.proofs.Peaks.{bounded-small, bounded-larger, covered_same, covered-trans, Raised, raised_by, raised-small}
 use Rattle.matrix_lines.proofs.Store.{bounded-set, covered-set}
-use Rattle.matrix_lines.proofs.Spans.{line-span, span-inside}
 use Rattle.matrix_lines.proofs.UpTo.{up_to, up_to-below, up_to-from}
 use Rattle.boundaries.specs.Column.{at_places, ColumnHolds, ColumnExceeds}
 use Rattle.boundaries.proofs.Store.{Place, place_inside, entry_set, column-set}
@@ -137,18 +136,6 @@ given c =
       bounded = pre.held.2;
     }
 
-pub loop-i-init : goal.loop-i-init
-loop-i-init c = begun (given c)
-
-pub line_product-v-requires : goal.line_product-v-requires
-line_product-v-requires c =
-    let turn = (goal.at.line_product-v-requires c).In-loop-i in let start = (goal.at.In-loop-i turn).Start in let g = given start in let inv = turn.loop-i.invariant in
-    let line = line-span start.args.q c.line.result turn.loop-i.i c.line.ensures turn.loop-i-test.true in
-    record {
-      width_in_bounds = (omega (arith, span-inside line g.held, inv.so_far.same_length), bounded-small inv.bounded, g.few);
-      by_index = g.inside;
-    }
-
 -- the entry of line i
 module _ (c : After-line_product-v) where
   abbrev turn : In-loop-i
@@ -173,14 +160,11 @@ module _ (c : After-line_product-v) where
   line-below : head.loop-i.i < start.args.m.lines
   line-below = omega (arith, turn.loop-i-test.true, (given start).lines)
 
-pub absolute-size-requires : goal.absolute-size-requires
-absolute-size-requires c = entry-small (given (start c)) (head c).loop-i.invariant c.line.result (v c) (read-v c ∙ c.line_product-v.ensures)
-
 pub returns-then-size : goal.returns-then-size
 returns-then-size c =
     let at = (goal.at.returns-then-size c).After-line_product-v in
     too_wide (given (start at)) (head at).loop-i.invariant (line-below at)
-    (subst (λ (z : ℤ). entry_limit < nat_abs z) (v-is at) (omega (arith, c.if-size.true, c.absolute-size.ensures)))
+    (subst (λ (z : ℤ). entry_limit < nat_abs z) (v-is at) (omega (arith, c.if-size.true, c.unsigned_abs-size.ensures)))
 
 -- ---- after the test of the size
 
@@ -190,43 +174,25 @@ module _ (c : Joined-largest-size) where
 
   raised : Raised (head made).loop-i.largest (v made) c.if-largest-size.largest
   raised =
-      raised_by (v made) c.absolute-size.ensures (head made).loop-i.invariant.bounded.limit
+      raised_by (v made) c.unsigned_abs-size.ensures.value (head made).loop-i.invariant.bounded.limit
       (elim c.if-largest-size.branch [ then-largest-size+else-size h ↦ inl (h.if-largest-size.true, h.if-size.false, h.largest-is) | else-largest-size h ↦ inr (h.if-largest-size.false, h.largest-is) ])
-
-module _ (c : After-line-in-loop-i) where
-  abbrev joined : Joined-largest-size
-  joined = (goal.at.After-line-in-loop-i c).Joined-largest-size
-
-  place : let args = (start (made joined)).args in
-      Place args.m (length args.w.now) (head (made joined)).loop-i.i args.j (c.line-in-loop-i.result + args.j)
-  place = record {
-    held = held-before (given (start (made joined)));
-    line = line-below (made joined);
-    column = (given (start (made joined))).below;
-    is = omega (arith, c.line-in-loop-i.ensures);
-  }
-
-pub overflow_add-at : goal.overflow_add-at
-overflow_add-at c = omega (arith, place_inside (place c))
-
-pub overflow_cast-w : goal.overflow_cast-w
-overflow_cast-w c = entry-fits (v (made (joined c))) (raised-small (raised (joined c)))
-
-pub offset_bounds-w-at : goal.offset_bounds-w-at
-offset_bounds-w-at c = omega (arith, place_inside (place c))
-
-pub bounds-w-at : goal.bounds-w-at
-bounds-w-at c = omega (arith, place_inside (place c), (head (made (joined c))).loop-i.invariant.so_far.same_length)
 
 pub loop-i-preserved : goal.loop-i-preserved
 loop-i-preserved c =
-    let at = made (joined c) in let args = (start at).args in let loop = (head at).loop-i in
+    let joined = (goal.at.loop-i-preserved c).Joined-largest-size in
+    let at = made joined in
+    let args = (start at).args in
+    let loop = (head at).loop-i in
+    let place : Place args.m (length args.w.now) loop.i args.j (c.line-in-loop-i.result + args.j) = record {
+      held = held-before (given (start at));
+      line = line-below at;
+      column = (given (start at)).below;
+      is = omega (arith, c.line-in-loop-i.ensures);
+    } in
     subst
-    (λ (z : ℤ).
-    Invariant args.q args.m args.w.now args.j args.places args.faces args.before (set loop.w (c.line-in-loop-i.result + args.j) z) (joined c).if-largest-size.largest
-    (loop.i + 1))
-    (sym (read-entry (v at) (raised-small (raised (joined c)))))
-    (more (given (start at)) loop.invariant (v at) (place c) (v-is at) (raised (joined c)))
+    (λ (z : ℤ). Invariant args.q args.m args.w.now args.j args.places args.faces args.before (set loop.w (c.line-in-loop-i.result + args.j) z) joined.if-largest-size.largest (loop.i + 1))
+    (sym (read-entry (v at) (raised-small (raised joined))))
+    (more (given (start at)) loop.invariant (v at) place (v-is at) (raised joined))
 
 pub returns : goal.returns
 returns c = ended (given (goal.at.returns c).Start) c.loop-i.invariant (omega (arith, c.loop-i-test.false, (given (goal.at.returns c).Start).lines))

@@ -1,9 +1,9 @@
 -- `product::multiply_column` meets its contract. The invariant: the entries of the column in the lines passed are those of the product, and the
--- largest so far is that of their absolute values and the one handed over. The measure is how many lines are left.
+-- largest so far is that of their absolute values and the one handed over.
 use mathlib.Core.Path.{◌≡◌}
 use mathlib.Core.Logic.{◌⊎◌}
 use mathlib.Core.List.{List}
-use Prim.Native.Nat.{ℕ, ◌-◌, ◌<◌, ◌≤◌}
+use Prim.Native.Nat.{ℕ, ◌<◌, ◌≤◌}
 use lib.IntN.{ℤ, nat_abs}
 use Rattle.matrix_lines.specs.Slice.{Bounded, Covered}
 use Rattle.matrix_lines.specs.Matrices.{contents}
@@ -29,6 +29,3 @@ pub record Invariant (q M : Matrix) (w₀ : List ℤ) (j : ℕ) (places : List �
 
 abbrev pub invariant-loop-i : goal.invariant-loop-i
 invariant-loop-i l = Invariant l.q l.m l.initial.w l.j l.places l.faces l.before l.w l.largest l.i
-
-abbrev pub decreases-loop-i : goal.decreases-loop-i
-decreases-loop-i l = l.m.lines - l.i

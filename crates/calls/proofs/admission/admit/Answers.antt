@@ -1,18 +1,18 @@
 -- `admission::admit` meets its contract: each refusal is the first of the checks 1 to 9 that applies (`Refusals`).
 use mathlib.Core.Path.{◌≡◌, sym, ◌∙◌, ap}
 use Prim.Native.Nat.{ℕ}
+use Rattle.std.proofs.lemmas.Result.{err_from_is_err_and}
 use borrow.Author.Tests.{ltb-true, ltb-false}
 use lib.Dec.{ltb}
 use Rattle.sheet_format.specs.Check.{refusal}
-use Rattle.sheet.specs.Number.{reading_number}
 use Rattle.requests.specs.Question.{asked}
 use Rattle.requests.proofs.CheckLaws.{call_checks-zero}
 use Rattle.calls.specs.Admission.{slots_for, space_for}
-use Rattle.two_reductions.specs.declared.cell_counts.CellCounts.{CellCounts}
+use Rattle.two_reductions.specs.CellCounts.{DimensionCounts}
 use Rattle.calls.proofs.Refusals.{sheet-refused, dimension-refused, output-short, work-short}
 use Rattle.calls.proofs.Admitting.{Lengths, slots_asked, space_asked}
 use Rattle.calls.proofs.admission.admit.Goals as goal
-use Rattle.calls.proofs.admission.admit.Goals.{Start, In_default, After-lacks_slots, After-work_slots}
+use Rattle.calls.proofs.admission.admit.Goals.{Start, In_ok-read, After-lacks_slots, After-work_slots}
 
 abbrev given : Start → Lengths
 given s =
@@ -26,40 +26,38 @@ slots s = slots_asked (given s) s.args.request
 abbrev space : Start → ℕ
 space s = space_asked (given s) s.args.request
 
-pub returns-in-Refused : goal.returns-in-Refused
-returns-in-Refused c =
-    let s = (goal.at.returns-in-Refused c).Start in
+pub returns-in_err-read : goal.returns-in_err-read
+returns-in_err-read c =
+    let s = (goal.at.returns-in_err-read c).Start in
     let a = s.args in
-    sheet-refused a.sheet.limit (given s).question (slots s) (space s) a.output a.work c.in-Refused.refusal
-    (sym c.read.ensures.number ∙ ap reading_number c.in-Refused.is)
+    let e = err_from_is_err_and c.from_residual.result c.from_residual.ensures.1 in
+    rw (e.1, e.2)
+    (sheet-refused a.sheet.limit (given s).question (slots s) (space s) a.output a.work _ (sym c.in_err-read.ensures.number))
 
-module _ (c : In_default) where
+module _ (c : In_ok-read) where
   abbrev start : Start
-  start = (goal.at.In_default c).Start
+  start = (goal.at.In_ok-read c).Start
 
   accepted : refusal start.args.sheet.limit start.args.s.now ≡ 0
-  accepted = sym c.read.ensures.number ∙ ap reading_number c.in_default.is
+  accepted = sym c.in_ok-read.ensures.number
 
 -- ---- the dimension
 
 pub returns-then-p-gt-TOP : goal.returns-then-p-gt-TOP
 returns-then-p-gt-TOP c =
-    let s = start (goal.at.returns-then-p-gt-TOP c).In_default in
+    let s = start (goal.at.returns-then-p-gt-TOP c).In_ok-read in
     let a = s.args in
-    dimension-refused a.sheet.limit (given s).question (slots s) (space s) a.output a.work (accepted (goal.at.returns-then-p-gt-TOP c).In_default) c.if-p-gt-TOP.true
+    dimension-refused a.sheet.limit (given s).question (slots s) (space s) a.output a.work (accepted (goal.at.returns-then-p-gt-TOP c).In_ok-read) c.if-p-gt-TOP.true
 
 -- ---- the slices
 
-pub lacks_slots-requires : goal.lacks_slots-requires
-lacks_slots-requires c = c.cell_counts_of-n.ensures.cells-below
-
 module _ (c : After-lacks_slots) where
-  abbrev told : In_default
-  told = (goal.at.After-lacks_slots c).In_default
+  abbrev told : In_ok-read
+  told = (goal.at.After-lacks_slots c).In_ok-read
 
   output-is : ltb (start told).args.output (slots (start told)) ≡ c.lacks_slots.result
   output-is =
-      ap (λ (n : CellCounts). ltb (start told).args.output (slots_for (start told).args.request n)) (sym c.cell_counts_of-n.ensures.is)
+      ap (λ (n : DimensionCounts). ltb (start told).args.output (slots_for (start told).args.request n)) (sym c.of-n.ensures.is)
       ∙ sym c.lacks_slots.ensures
 
 pub returns-then-lacks_slots : goal.returns-then-lacks_slots
@@ -74,7 +72,7 @@ module _ (c : After-work_slots) where
   tried = (goal.at.After-work_slots c).After-lacks_slots
 
   work-is : c.work_slots.result ≡ space (start (told tried))
-  work-is = c.work_slots.ensures ∙ ap (space_for (start (told tried)).args.request) tried.cell_counts_of-n.ensures.is
+  work-is = c.work_slots.ensures ∙ ap (space_for (start (told tried)).args.request) tried.of-n.ensures.is
 
 pub returns-then-work-work_slots : goal.returns-then-work-work_slots
 returns-then-work-work_slots c =
@@ -94,5 +92,5 @@ returns c =
         output-slots = ltb-false a.output (slots (start t)) (output-is o ∙ c.if-lacks_slots.false);
         work-slots = rw (← work-is (goal.at.returns c).After-work_slots) c.if-work-work_slots.false;
       }),
-      o.cell_counts_of-n.ensures,
+      o.of-n.ensures,
     )

@@ -1,13 +1,14 @@
 -- `coordinates::coordinate_lists` meets its contract: each return is one case of the definition of the call (`Admitting`, `ListAnswers`), which on
 -- all chains is that on the chains with coefficients.
 use mathlib.Core.Path.{◌≡◌, sym, subst, ap, ◌∙◌}
-use mathlib.Core.Bool.{false}
 use mathlib.Core.List.{List}
 use Prim.Native.Nat.{ℕ, ◌*◌}
 use native.Mathlib.Nat.{le_refl}
 use native.Mathlib.Omega.{arith}
 use lib.IntN.{ℤ}
 use lib.ListN.{length}
+use Rattle.std.specs.Prelude.{Result}
+use Rattle.std.proofs.lemmas.Result.{err_from_is_err_and}
 use Rattle.lists.specs.Splice.{splices}
 use Rattle.complexes.specs.Complex.{count}
 use Rattle.trials.specs.Trial.{first_refusal, Called}
@@ -20,19 +21,17 @@ use Rattle.requests.specs.Chains.{chain_at, cycles_checks}
 use Rattle.requests.specs.Chains.{nonempty}
 use Rattle.requests.proofs.ListsLaws.{nonempty-size, nonempty-lists}
 use Rattle.limits.specs.Limits.{library_limit, coefficient_limit}
-use Rattle.chain_checks.specs.Check.{check_number}
+use Rattle.refusal.specs.declared.Refusal.{Refusal}
 use Rattle.writers.specs.Written.{coordinates_of}
-use Rattle.calls.specs.Admission.{Admits}
+use Rattle.writers.specs.declared.counts.Counts.{Counts}
 use Rattle.calls.specs.CallAnswers.{CallAnswers}
-use Rattle.calls.specs.declared.answer.Answer.{Answer}
-use Rattle.two_reductions.specs.declared.cell_counts.CellCounts.{CellCounts}
 use Rattle.calls.specs.declared.admission.Request.TheVariants.{Coordinates}
 use Rattle.two_reductions.proofs.Sheet.{cells-of}
-use Rattle.calls.proofs.Admitting.{Lent, lengths, admit-refused, Granted, admit-granted, regrant, Reduces, twice-done, twice-refused}
+use Rattle.calls.proofs.Admitting.{Lent, lengths, Granted, admit-granted, regrant}
 use Rattle.calls.proofs.Writing.{can-count}
 use Rattle.calls.proofs.ListAnswers.{lists_called, lists-refuse, length-refuses, cycles-refuse, lists-wide, can-list, lists-done}
 use Rattle.calls.proofs.coordinates.coordinate_lists.Goals as goal
-use Rattle.calls.proofs.coordinates.coordinate_lists.Goals.{Start, After-admit, In-Admitted, After-nonempty-lists, After-check_chains, In_default, After-reduce_twice, In-Done}
+use Rattle.calls.proofs.coordinates.coordinate_lists.Goals.{Start, In_ok-n, After-nonempty-lists, In_ok-check_chains, In_ok-reduced}
 
 abbrev lent : Start → Lent
 lent s =
@@ -42,24 +41,15 @@ lent s =
 -- ---- the checks 1 to 9
 
 -- the library's sheet has the library's limit
-admits : (c : After-admit) → let a = c.args in
-    Admits library_limit (asked a.s.now a.dimension) (Coordinates a.many) (length a.coordinates.now) (length a.work.now) c.admit.result
-admits c = rw c.library.ensures at c.admit.ensures
+pub returns-in_err-n : goal.returns-in_err-n
+returns-in_err-n c =
+    let start = (goal.at.returns-in_err-n c).Start in
+    let e = err_from_is_err_and c.from_residual.result c.from_residual.ensures.1 in
+    rw (e.1, e.2) (lists-refuse (lent start) start.args.many start.args.chains.now _ (rw c.library.ensures at c.in_err-n.ensures))
 
-pub returns-in-Refused : goal.returns-in-Refused
-returns-in-Refused c =
-    let called = (goal.at.returns-in-Refused c).After-admit in
-    let start = (goal.at.After-admit called).Start in
-    let l = lent start in
-    lists-refuse l start.args.many start.args.chains.now c.in-Refused.refusal
-    (admit-refused (lengths l) (Coordinates start.args.many) called.admit.result (admits called) c.in-Refused.is)
-
-module _ (c : In-Admitted) where
-  abbrev called : After-admit
-  called = (goal.at.In-Admitted c).After-admit
-
+module _ (c : In_ok-n) where
   abbrev entered : Start
-  entered = (goal.at.After-admit called).Start
+  entered = (goal.at.In_ok-n c).Start
 
   abbrev many : ℕ
   many = entered.args.many
@@ -67,19 +57,16 @@ module _ (c : In-Admitted) where
   abbrev chains-of : List ℤ
   chains-of = entered.args.chains.now
 
-  abbrev cell-counts : CellCounts
-  cell-counts = c.in-Admitted.n
-
   -- n_p
   abbrev cells : ℕ
   cells = count (sections_of entered.args.s.now) entered.args.dimension
 
-  granted : Granted (lengths (lent entered)) (Coordinates many) cell-counts
+  granted : Granted (lengths (lent entered)) (Coordinates many) c.in_ok-n.n
   granted =
-      admit-granted (lengths (lent entered)) (Coordinates many) called.admit.result (admits called) (le_refl library_limit)
-      (record { small = λ i. (called.shared_slice_known-1.given i).fits }) c.in-Admitted.is
+      admit-granted (lengths (lent entered)) (Coordinates many) (rw c.library.ensures at c.in_ok-n.ensures) (le_refl library_limit)
+      (record { small = λ i. (c.type_inv.s i).fits })
 
-  cells_are : cell-counts.cells ≡ cells
+  cells_are : c.in_ok-n.n.cells ≡ cells
   cells_are = cells-of granted.cell-counts
 
 -- ---- the chains
@@ -89,12 +76,12 @@ overflow_mul-many c = omega (arith, (granted c).passed.output-slots, ap (λ (n :
 
 pub returns-then-chains-many : goal.returns-then-chains-many
 returns-then-chains-many c =
-    let k = (goal.at.returns-then-chains-many c).In-Admitted in
+    let k = (goal.at.returns-then-chains-many c).In_ok-n in
     length-refuses (lent (entered k)) (many k) (chains-of k) (granted k) (λ e. c.if-chains-many.true (e ∙ ap (λ (n : ℕ). many k * n) (sym (cells_are k))))
 
 module _ (c : After-nonempty-lists) where
-  abbrev known : In-Admitted
-  known = (goal.at.After-nonempty-lists c).In-Admitted
+  abbrev known : In_ok-n
+  known = (goal.at.After-nonempty-lists c).In_ok-n
 
   -- the chains that have coefficients
   abbrev lists : ℕ
@@ -109,11 +96,11 @@ module _ (c : After-nonempty-lists) where
   size : length (chains-of known) ≡ lists * cells known
   size = c.if-chains-many.false ∙ ap (λ (n : ℕ). many known * n) (cells_are known) ∙ sym same-slots
 
-  regranted : Granted (lengths (lent (entered known))) (Coordinates lists) (cell-counts known)
+  regranted : Granted (lengths (lent (entered known))) (Coordinates lists) known.in_ok-n.n
   regranted = regrant (lengths (lent (entered known))) same-slots (granted known)
 
   -- the call on them is the call on all
-  on-lists : {r : Answer} {left work-left : List ℤ} → CallAnswers (lists_called (lent (entered known)) lists (chains-of known)) r left work-left
+  on-lists : {r : Result Counts Refusal} {left work-left : List ℤ} → CallAnswers (lists_called (lent (entered known)) lists (chains-of known)) r left work-left
       → CallAnswers (lists_called (lent (entered known)) (many known) (chains-of known)) r left work-left
   unfolding question.cells
   on-lists {r} {left} {work-left} h = subst (λ (x : Called reports.Counts ℤ). CallAnswers x r left work-left) (sym same) h
@@ -129,70 +116,62 @@ check_chains-requires c =
     let g = granted (known c) in
     record { accepted = g.library; p_le_top = (g.passed.dimension, cells_are (known c), size c ∙ ap (λ (n : ℕ). lists c * n) (sym (cells_are (known c)))) }
 
-pub returns-in-Refused-check_chains : goal.returns-in-Refused-check_chains
-returns-in-Refused-check_chains c =
-    let checked = (goal.at.returns-in-Refused-check_chains c).After-check_chains in
-    let m = (goal.at.After-check_chains checked).After-nonempty-lists in
+pub returns-in_err-check_chains : goal.returns-in_err-check_chains
+returns-in_err-check_chains c =
+    let m = (goal.at.returns-in_err-check_chains c).After-nonempty-lists in
     let k = known m in
-    on-lists m (cycles-refuse (lent (entered k)) (lists m) (chains-of k) (regranted m) (size m) c.in-Refused-check_chains.refusal (checked.check_chains.ensures ∙ ap check_number c.in-Refused-check_chains.is))
+    let e = err_from_is_err_and c.from_residual-in_err-check_chains.result c.from_residual-in_err-check_chains.ensures.1 in
+    rw (e.1, e.2) (on-lists m (cycles-refuse (lent (entered k)) (lists m) (chains-of k) (regranted m) (size m) _ c.in_err-check_chains.ensures))
 
 -- ---- the reductions
 
-module _ (c : In_default) where
+module _ (c : In_ok-check_chains) where
   abbrev counted : After-nonempty-lists
-  counted = (goal.at.In_default c).After-nonempty-lists
+  counted = (goal.at.In_ok-check_chains c).After-nonempty-lists
 
   abbrev given : Lent
   given = lent (entered (known counted))
 
   passed : first_refusal (cycles_checks coefficient_limit (sections_of given.question.sheet) given.question.dimension (lists counted) (chains-of (known counted))) ≡ 0
-  passed = c.check_chains.ensures ∙ ap check_number c.in_default.is
+  passed = c.in_ok-check_chains.ensures
 
 pub reduce_twice-requires : goal.reduce_twice-requires
 reduce_twice-requires c =
-    let g = granted (known (counted (goal.at.reduce_twice-requires c).In_default)) in record { accepted = (g.library, g.passed.dimension); p_in_bounds = g.passed.work-slots; cell_counts_read = g.cell-counts }
+    let g = granted (known (counted (goal.at.reduce_twice-requires c).In_ok-check_chains)) in record { accepted = (g.library, g.passed.dimension); p_in_bounds = g.passed.work-slots; cell_counts_read = g.cell-counts }
 
-pub returns-in_default-reduce_twice : goal.returns-in_default-reduce_twice
-returns-in_default-reduce_twice c =
-    let reduce = (goal.at.returns-in_default-reduce_twice c).After-reduce_twice in
-    let t = (goal.at.After-reduce_twice reduce).In_default in
+pub returns-in_err-reduced : goal.returns-in_err-reduced
+returns-in_err-reduced c =
+    let t = (goal.at.returns-in_err-reduced c).In_ok-check_chains in
     let m = counted t in
-    on-lists m
-    (lists-wide (given t) (lists m) (chains-of (known m)) (regranted m) (size m) (passed t)
-    (twice-refused (lengths (given t)) false reduce.reduce_twice.result c.in_default-reduce_twice.is reduce.reduce_twice.ensures))
+    let e = err_from_is_err_and c.from_residual-in_err-reduced.result c.from_residual-in_err-reduced.ensures.1 in
+    rw (e.1, e.2) (on-lists m (lists-wide (given t) (lists m) (chains-of (known m)) (regranted m) (size m) (passed t) c.in_err-reduced.ensures))
 
 -- ---- the coordinates
 
-module _ (c : In-Done) where
-  abbrev reduces : After-reduce_twice
-  reduces = (goal.at.In-Done c).After-reduce_twice
-
-  abbrev checked : In_default
-  checked = (goal.at.After-reduce_twice reduces).In_default
-
-  reduced : Reduces (lengths (given checked)) false c.in-Done.reduced reduces.reduce_twice.new.w
-  reduced = twice-done (lengths (given checked)) false reduces.reduce_twice.result c.in-Done.is reduces.reduce_twice.ensures
+module _ (c : In_ok-reduced) where
+  abbrev checked : In_ok-check_chains
+  checked = (goal.at.In_ok-reduced c).In_ok-check_chains
 
 pub write_lists-requires : goal.write_lists-requires
 write_lists-requires c =
-    let k = (goal.at.write_lists-requires c).In-Done in
+    let k = (goal.at.write_lists-requires c).In_ok-reduced in
     let t = checked k in
     let m = counted t in
-    rw (cells_are (known m)) (can-list (given t) (lists m) (chains-of (known m)) (regranted m) (size m) (passed t) (reduced k))
+    rw (cells_are (known m)) (can-list (given t) (lists m) (chains-of (known m)) (regranted m) (size m) (passed t) k.in_ok-reduced.ensures)
 
 pub counts-counts-requires : goal.counts-counts-requires
 counts-counts-requires c =
-    let k = (goal.at.counts-counts-requires c).In-Done in
+    let k = (goal.at.counts-counts-requires c).In_ok-reduced in
     let g = granted (known (counted (checked k))) in
-    can-count pivot_rule-is-rule g.complex g.passed.work-slots (reduced k)
+    can-count pivot_rule-is-rule g.complex g.passed.work-slots k.in_ok-reduced.ensures
 
 pub returns : goal.returns
 returns c =
-    let k = (goal.at.returns c).In-Done in
+    let k = (goal.at.returns c).In_ok-reduced in
     let t = checked k in
     let m = counted t in
     on-lists m
-    (lists-done (given t) (lists m) (chains-of (known m)) (regranted m) (size m) (passed t) (reduced k) c.counts-counts.ensures
+    (lists-done (given t) (lists m) (chains-of (known m)) (regranted m) (size m) (passed t) k.in_ok-reduced.ensures c.counts-counts.ensures
     (c.write_lists.ensures
-    ∙ ap (λ (n : ℕ). splices n (λ i. coordinates_of k.in-Done.reduced (reduces k).reduce_twice.new.w (chain_at n (chains-of (known m)) i)) (lists m) (given t).output) (cells_are (known m)))
+    ∙ ap (λ (n : ℕ). splices n (λ i. coordinates_of k.in_ok-reduced.reduced k.reduce_twice.new.w (chain_at n (chains-of (known m)) i)) (lists m) (given t).output) (cells_are (known m)))
     c.clear.ensures)

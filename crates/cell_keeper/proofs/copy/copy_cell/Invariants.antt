@@ -1,7 +1,7 @@
 -- `copy_cell` meets its contract. The loop's invariant: the first j vertices are copied.
 use mathlib.Core.Path.{◌≡◌}
 use mathlib.Core.List.{List}
-use Prim.Native.Nat.{ℕ, ◌-◌, ◌≤◌}
+use Prim.Native.Nat.{ℕ, ◌≤◌}
 use lib.ListN.{length, take}
 use Rattle.lists.specs.Splice.{splice}
 use Rattle.sheet_format.specs.Layout.{cell_bytes}
@@ -15,6 +15,3 @@ pub record Invariant (s : List ℕ) (at n : ℕ) (sheet₀ : List ℕ) (to : ℕ
 
 abbrev pub invariant-loop-j : goal.invariant-loop-j
 invariant-loop-j l = Invariant l.s l.at l.n l.initial.sheet l.to l.sheet l.j
-
-abbrev pub decreases-loop-j : goal.decreases-loop-j
-decreases-loop-j l = l.n - l.j

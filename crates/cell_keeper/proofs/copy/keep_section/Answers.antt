@@ -1,10 +1,11 @@
 use mathlib.Core.Path.{◌≡◌, refl, sym, ap, ◌∙◌}
 use mathlib.Core.Bool.{Bool, cond}
 use mathlib.Core.List.{List, [], ◌∷◌}
-use Prim.Native.Nat.{ℕ, suc, ◌+◌, ◌*◌, ◌≤◌, ◌<◌}
+use Prim.Native.Nat.{ℕ, suc, ◌+◌, ◌-◌, ◌*◌, ◌≤◌, ◌<◌}
 use native.Mathlib.Numerals.{add-one}
 use native.Mathlib.Omega.{arith}
-use lib.ListN.{length, get_or, length-append}
+use lib.ListN.{length, get_or, take, drop, length-append, length-drop}
+use lib.Seq.{length-take-le, get_or-take, get_or-drop}
 use Rattle.complexes.specs.Cell.{Cell}
 use Rattle.complexes.specs.Complex.{section}
 use Rattle.sheet_format.specs.Layout.{top, section_bytes}
@@ -56,7 +57,7 @@ section-is : (s marks : List ℕ) (p from many at : ℕ) → p ≤ top → from 
 section-is s marks p from many at h e f g = rw (e, f, g) (sym (section-unmarked s marks p h))
 
 pub loop-i-init : goal.loop-i-init
-loop-i-init c = (omega arith, none _ _ _ _)
+loop-i-init c = none _ _ _ _
 
 -- where the section stands, and all its cells that stay
 module _ (c : After-start-at) where
@@ -84,6 +85,19 @@ module _ (c : After-start-at) where
   whole : kept (stays_at marks from) (cells_of s (suc p) many at) many ≡ section (unmarked_cells s marks) p
   whole = section-is s marks p from many at start.requires.p_le_top.0 start.requires.p_le_top.1 c.count-many.ensures.is c.start-at.ensures.is
 
+  -- the marks of the section
+  abbrev items : List ℕ
+  items = take (from + many - from) (drop from marks)
+
+  marked : from + many ≤ length marks
+  marked = omega (arith, start.requires.p_le_top.2, c.count-many.ensures.is)
+
+  length-items : length items ≡ many
+  length-items = omega (arith, length-take-le (from + many - from) (drop from marks) (omega (arith, length-drop from marks, marked)))
+
+  item : (i : ℕ) → i < many → get_or items i 0 ≡ get_or marks (from + i) 0
+  item i h = get_or-take (from + many - from) (drop from marks) i 0 (omega arith) ∙ get_or-drop from marks i 0
+
 -- cell i
 module _ (c : In-loop-i) where
   abbrev r : After-start-at
@@ -92,21 +106,20 @@ module _ (c : In-loop-i) where
   abbrev i : ℕ
   i = c.loop-i.i
 
+  within : i < many r
+  within = omega (arith, c.loop-i-test.true, length-items r)
+
   vertices : (p r + 1) * i ≤ most
-  vertices = few (p r + 1) i (omega (arith, (start r).requires.p_le_top.0)) (omega (arith, r.count-many.ensures.below))
+  vertices = few (p r + 1) i (omega (arith, (start r).requires.p_le_top.0)) (omega (arith, within, r.count-many.ensures.below))
 
-  marked : from r + i < length (marks r)
-  marked = omega (arith, (start r).requires.p_le_top.2, r.count-many.ensures.is)
-
-  bytes-are : section_bytes (if_stays (get_or (marks r) (from r + i) 0) (cell_of (s r) (p r + 1) (at r + 2 * ((p r + 1) * i))))
+  bytes-are : section_bytes (if_stays (get_or (items r) i 0) (cell_of (s r) (p r + 1) (at r + 2 * ((p r + 1) * i))))
       ≡ section_bytes (cond (stays_at (marks r) (from r) i) (get_or (cells_of (s r) (suc (p r)) (many r) (at r)) i [] ∷ []) [])
-  bytes-are = cell-is (s r) (marks r) (p r) (from r) (many r) (at r) i c.loop-i-test.true
+  bytes-are =
+      ap (λ (m : ℕ). section_bytes (if_stays m (cell_of (s r) (p r + 1) (at r + 2 * ((p r + 1) * i))))) (item r i within)
+      ∙ cell-is (s r) (marks r) (p r) (from r) (many r) (at r) i within
 
-pub overflow_add-mark : goal.overflow_add-mark
-overflow_add-mark c = omega (arith, marked c)
-
-pub bounds-marks-from : goal.bounds-marks-from
-bounds-marks-from c = marked (goal.at.bounds-marks-from c).In-loop-i
+pub overflow_add-mark-items : goal.overflow_add-mark-items
+overflow_add-mark-items c = omega (arith, marked (goal.at.overflow_add-mark-items c).After-start-at)
 
 pub overflow_mul-p : goal.overflow_mul-p
 overflow_mul-p c = omega (arith, vertices (goal.at.overflow_mul-p c).In-loop-i)
@@ -124,21 +137,19 @@ keep_cell-next-requires c =
       omega (arith, vertices turn, r.start-at.ensures.below),
       omega (arith, (start r).requires.p_le_top.0),
       rw (bytes-are turn)
-          (room turn.loop-i.invariant.1 (many r) turn.loop-i-test.true (rw (whole r) (start r).requires.p_in_bounds)),
+          (room turn.loop-i.invariant (many r) (within turn) (rw (whole r) (start r).requires.p_in_bounds)),
     )
 
 pub loop-i-preserved : goal.loop-i-preserved
 loop-i-preserved c =
     let kept = (goal.at.loop-i-preserved c).After-keep_cell-next in
     let turn = (goal.at.After-keep_cell-next kept).In-loop-i in
-    let r = (goal.at.In-loop-i turn).After-start-at in (
-      omega arith,
-      one_more turn.loop-i.invariant.1 (omega (arith, (start r).requires.p_in_bounds)) kept.keep_cell-next.auto.sheet
-          (rw (bytes-are turn) at kept.keep_cell-next.ensures),
-    )
+    let r = (goal.at.In-loop-i turn).After-start-at in
+    one_more turn.loop-i.invariant (omega (arith, (start r).requires.p_in_bounds)) kept.keep_cell-next.auto.sheet
+    (rw (bytes-are turn) at kept.keep_cell-next.ensures)
 
 pub returns : goal.returns
 returns c =
     let r = (goal.at.returns c).After-start-at in
-    let last : c.loop-i.i ≡ many r = omega arith in
-    rw (last, whole r) at c.loop-i.invariant.1.puts
+    let last : c.loop-i.i ≡ many r = omega (arith, length-items r) in
+    rw (last, whole r) at c.loop-i.invariant.puts

@@ -2,7 +2,7 @@
 use mathlib.Core.Path.{◌≡◌}
 use mathlib.Core.Bool.{Bool}
 use mathlib.Core.List.{List}
-use Prim.Native.Nat.{ℕ, suc, ◌-◌, ◌≤◌}
+use Prim.Native.Nat.{ℕ, suc}
 use lib.ListN.{length}
 use Rattle.complexes.specs.Cell.{Cell}
 use Rattle.sheet_format.specs.Layout.{section_bytes}
@@ -17,7 +17,4 @@ pub record Invariant (keeps : ℕ → Bool) (l : List Cell) (sheet₀ : List ℕ
   pub puts : Puts to (section_bytes (kept keeps l i)) sheet₀ next sheet
 
 abbrev pub invariant-loop-i : goal.invariant-loop-i
-invariant-loop-i l = (l.i ≤ l.many) × Invariant (stays_at l.marks l.from) (cells_of l.s (suc l.p) l.many l.at) l.initial.sheet l.to l.sheet l.next l.i
-
-abbrev pub decreases-loop-i : goal.decreases-loop-i
-decreases-loop-i l = l.many - l.i
+invariant-loop-i l = Invariant (stays_at l.marks l.from) (cells_of l.s (suc l.p) l.many l.at) l.initial.sheet l.to l.sheet l.next l.i

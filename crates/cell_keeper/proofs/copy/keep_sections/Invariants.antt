@@ -1,7 +1,7 @@
 -- `keep_sections` meets its contract. The loop's invariant: the cells that stay of the first p dimensions are copied, and their marks passed.
 use mathlib.Core.Path.{◌≡◌}
 use mathlib.Core.List.{List}
-use Prim.Native.Nat.{ℕ, suc, ◌-◌, ◌≤◌}
+use Prim.Native.Nat.{ℕ, suc, ◌≤◌}
 use lib.ListN.{length, take}
 use Rattle.sheet_format.specs.Layout.{top, header_length, sections_bytes}
 use Rattle.sheet_format.specs.Check.{count_field}
@@ -17,6 +17,3 @@ pub record Invariant (b marks sheet₀ sheet : List ℕ) (to from p : ℕ) : Typ
 
 abbrev pub invariant-loop-p : goal.invariant-loop-p
 invariant-loop-p l = Invariant l.s l.marks l.initial.sheet l.sheet l.to l.from l.p
-
-abbrev pub decreases-loop-p : goal.decreases-loop-p
-decreases-loop-p l = suc top - l.p

@@ -1,7 +1,7 @@
 -- `count_cells` meets its contract. The loop's invariant: the cells that stay of the first p dimensions are counted, and their marks passed.
 use mathlib.Core.Path.{◌≡◌}
 use mathlib.Core.List.{List}
-use Prim.Native.Nat.{ℕ, suc, ◌-◌, ◌≤◌, ◌<◌}
+use Prim.Native.Nat.{ℕ, suc, ◌≤◌, ◌<◌}
 use lib.ListN.{length, get_or}
 use Rattle.complexes.specs.Complex.{count}
 use Rattle.sheet_format.specs.Layout.{top}
@@ -18,6 +18,3 @@ pub record Invariant (b marks counts : List ℕ) (from p : ℕ) : Type 0 where
 
 abbrev pub invariant-loop-p : goal.invariant-loop-p
 invariant-loop-p l = Invariant l.s l.marks l.counts l.from l.p
-
-abbrev pub decreases-loop-p : goal.decreases-loop-p
-decreases-loop-p l = suc top - l.p

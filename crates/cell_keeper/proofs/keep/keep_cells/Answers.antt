@@ -5,13 +5,13 @@ use Prim.Native.Nat.{ℕ, ◌+◌, ◌≤◌, ◌<◌}
 use native.Mathlib.Omega.{arith}
 use borrow.Author.Tests.{lt-ltb, le-ltb}
 use lib.ListN.{length, drop}
+use Rattle.std.specs.Prelude.{Ok, Err}
 use Rattle.trials.specs.Trial.{done}
 use Rattle.trials.specs.Write.{answer_with}
 use Rattle.complexes.specs.Complex.{Sections}
 use Rattle.sheet_format.specs.Layout.{header_length, sections_bytes, layout}
 use Rattle.sheet_format.proofs.LayoutLaws.{length-parts}
 use Rattle.refusal.specs.declared.Refusal.TheVariants.{SheetTooLong}
-use Rattle.refusal.specs.declared.written.Written.TheVariants.{Done, Refused}
 use Rattle.refusal.specs.Written.{WriteAnswers}
 use Rattle.sheet_writer.specs.Write.{Small}
 use Rattle.sheet_writer.proofs.Bytes.{layout-put}
@@ -24,12 +24,12 @@ use Rattle.cell_keeper.proofs.keep.keep_cells.Goals.{Else-out-length, After-writ
 
 -- ---- the answer
 
-too_long : (bytes slice : List ℕ) → length slice < length bytes → WriteAnswers (write_over bytes slice) (Refused SheetTooLong) slice
+too_long : (bytes slice : List ℕ) → length slice < length bytes → WriteAnswers (write_over bytes slice) (Err SheetTooLong) slice
 unfolding answer_with
 too_long bytes slice h = rw (lt-ltb (length slice) (length bytes) h) (record { answer = refl; output-is = refl })
 
 fits : (bytes slice : List ℕ) → length bytes ≤ length slice → {n : ℕ} {after : List ℕ} → n ≡ length bytes → after ≡ bytes ++ drop (length bytes) slice
-    → WriteAnswers (write_over bytes slice) (Done n) after
+    → WriteAnswers (write_over bytes slice) (Ok n) after
 unfolding answer_with
 fits bytes slice h e o = rw (le-ltb (length slice) (length bytes) h) (record { answer = ap done e; output-is = o })
 

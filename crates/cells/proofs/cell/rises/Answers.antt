@@ -1,27 +1,14 @@
-use borrow.Author.Rules.{rules}
-use borrow.Author.Count.{below_more}
-use mathlib.Core.Path.{sym}
-use native.Mathlib.Omega.{arith}
-use Rattle.cells.proofs.Cells.{Above, all-rise, one-falls}
+-- `rises` meets its contract: each vertex from the second on is above the one before it, or one is not.
+use mathlib.Core.Path.{refl}
+use Prim.Native.Nat.{◌-◌}
+use Rattle.std.proofs.Common.{rules, tests}
+use Rattle.std.proofs.lemmas.Iterator.{YieldsList-from_range, cases_from_all}
+use Rattle.cells.proofs.Cells.{Up, Down, rises-told}
 use Rattle.cells.proofs.cell.rises.Goals as goal
-use Rattle.cells.proofs.cell.rises.Goals.{At-loop-j}
-
-pub loop-j-init : goal.loop-j-init
-loop-j-init c = (search rules, λ k l p. absurd (omega arith))
-
-pub returns-then-field : goal.returns-then-field
-returns-then-field c =
-    let loop = (goal.at.returns-then-field c).At-loop-j in
-    let a = loop.args in
-    sym (one-falls a.s.now a.n a.at loop.loop-j.j loop.loop-j.invariant.0 (omega arith) (omega arith))
-
-pub loop-j-preserved : goal.loop-j-preserved
-loop-j-preserved c =
-    let loop = (goal.at.loop-j-preserved c).At-loop-j in
-    let a = loop.args in
-    (search rules, below_more (Above a.s.now a.at) loop.loop-j.j loop.loop-j.invariant.1 (λ p. omega arith))
 
 pub returns : goal.returns
 returns c =
-    let a = c.args in
-    sym (all-rise a.s.now a.n a.at (λ j l. c.loop-j.invariant.1 j (omega arith)))
+    let a = c.args in let s = a.s.now in
+    rises-told s a.n a.at c.all.result
+    (cases_from_all _ _ c.all.result (Up s a.at) (Down s a.at) c.all.ensures.ran (YieldsList-from_range 1 a.n (a.n - 1) refl refl)
+    (λ x q k. search (rules, tests)) (λ x q k. search (rules, tests)))

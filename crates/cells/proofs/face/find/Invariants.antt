@@ -16,7 +16,7 @@ pub record Invariant (s : List ℕ) (word at n many lo hi mid step : ℕ) : Type
   pub brackets : (d : Cell) → Packs n d word → Bracket d (cells_of s n many at) many lo hi
 
 abbrev pub invariant-loop-lo : goal.invariant-loop-lo
-invariant-loop-lo l = Invariant l.s l.word l.at l.n l.many l.lo l.hi l.mid l.step
+invariant-loop-lo l = Invariant l.s l.word l.section.at l.section.vertices l.section.many l.lo l.hi l.mid l.step
 
 abbrev pub decreases-loop-lo : goal.decreases-loop-lo
 decreases-loop-lo l = l.hi - l.lo

@@ -1,4 +1,3 @@
-use borrow.Author.Rules.{rules}
 use mathlib.Core.Path.{◌≡◌, sym, ap, subst, ◌∙◌}
 use mathlib.Core.Bool.{Bool, true, false, not, true≢false}
 use mathlib.Core.List.{List}
@@ -14,18 +13,17 @@ use Rattle.sheet_format.specs.Check.{cell_of, cells_of}
 use Rattle.sheet_format.specs.CheckLaws.{some_at, some-false}
 use Rattle.cells.specs.Word.{Packs, LeavesOut}
 use Rattle.cells.specs.Find.{Finds, FindsFaces}
-use Rattle.cells.specs.declared.face.Found.{Found}
-use Rattle.cells.specs.declared.face.Found.TheVariants.{At, Nothing}
+use Rattle.std.specs.Prelude.{Option, Some, None}
 use Rattle.cells.proofs.Bracket.{finds-listed}
 use Rattle.cells.proofs.face.find_faces.Invariants.{Invariant}
 use Rattle.cells.proofs.face.find_faces.Goals as goal
 use Rattle.cells.proofs.face.find_faces.Goals.{Start, At-loop-j, After-find}
 
-more : {c : Cell} {l : List Cell} {j : ℕ} {places : List ℕ} → Invariant c l j places → j < suc top → (i : ℕ) → Finds (without j c) l (At i)
+more : {c : Cell} {l : List Cell} {j : ℕ} {places : List ℕ} → Invariant c l j places → j < suc top → (i : ℕ) → Finds (without j c) l (Some i)
     → Invariant c l (j + 1) (set places j i)
 more {c} {l} {j} {places} inv inside i h = record { sized = length-set places j i ∙ inv.sized; placed = λ k m. pick k m (ℕ_discrete k j) }
   where
-    pick : (k : ℕ) → k < j + 1 → Dec (k ≡ j) → Finds (without k c) l (At (get_or (set places j i) k 0))
+    pick : (k : ℕ) → k < j + 1 → Dec (k ≡ j) → Finds (without k c) l (Some (get_or (set places j i) k 0))
     pick k m (yes e) = rw (e, get_or-set_same places j i 0 (omega (arith, inv.sized))) h
     pick k m (no d) = rw (get_or-set_other places j k i 0 d) (inv.placed k (omega arith))
 
@@ -44,21 +42,21 @@ all_found : {n : ℕ} {c : Cell} {l : List Cell} {j : ℕ} {places : List ℕ} �
 all_found {n} {c} {l} {j} {places} inv done = record {
   tells =
       sym ((some-false (suc n) (Missing c l)).1
-      (λ k m. ap not (sym (finds-listed (without k c) l (At (get_or places k 0)) (inv.placed k (omega arith))))));
+      (λ k m. ap not (sym (finds-listed (without k c) l (Some (get_or places k 0)) (inv.placed k (omega arith))))));
   finds = λ e k m. inv.placed k (omega arith);
   sized = inv.sized;
 }
 
-one-missing : (n : ℕ) (c : Cell) (l : List Cell) (j : ℕ) (places : List ℕ) → j < suc n → Finds (without j c) l Nothing
+one-missing : (n : ℕ) (c : Cell) (l : List Cell) (j : ℕ) (places : List ℕ) → j < suc n → Finds (without j c) l None
     → length places ≡ suc top → FindsFaces n c l false places
 one-missing n c l j places m h sized = record {
-  tells = sym (some_at (suc n) (Missing c l) j m (ap not (sym (finds-listed (without j c) l Nothing h))));
+  tells = sym (some_at (suc n) (Missing c l) j m (ap not (sym (finds-listed (without j c) l None h))));
   finds = λ e. absurd (true≢false (sym e));
   sized = sized;
 }
 
 pub loop-j-init : goal.loop-j-init
-loop-j-init c = record { sized = c.requires.rising.1; placed = λ k m. absurd (omega arith) }
+loop-j-init c = record { sized = omega arith; placed = λ k m. absurd (omega arith) }
 
 -- what `find` tells of face j
 module _ (c : After-find) where
@@ -69,13 +67,13 @@ module _ (c : After-find) where
   start = (goal.at.At-loop-j head).Start
 
   abbrev n : ℕ
-  n = start.args.n
+  n = start.args.section.vertices
 
   abbrev Whole : Cell
   Whole = cell_of start.args.s.now (suc n) start.args.a
 
   abbrev Among : List Cell
-  Among = cells_of start.args.s.now n start.args.many start.args.at
+  Among = cells_of start.args.s.now n start.args.section.many start.args.section.at
 
   abbrev face : Cell
   face = without head.loop-j.j Whole
@@ -84,23 +82,21 @@ module _ (c : After-find) where
   packs = face-packs n head.loop-j.j Whole head.pack-cell.result c.leave_out-face.result (omega arith)
       (rw (add-one n) at head.pack-cell.ensures) c.leave_out-face.ensures
 
-  told : (r : Found) → c.find.result ≡ r → Finds face Among r
+  told : (r : Option ℕ) → c.find.result ≡ r → Finds face Among r
   told r e = subst (Finds face Among) e (c.find.ensures face packs)
-
-pub find-requires : goal.find-requires
-find-requires c =
-    record { at_bound = search rules; rising = c.requires.rising.0 }
 
 pub returns-in_default : goal.returns-in_default
 returns-in_default c =
     let r = (goal.at.returns-in_default c).After-find in
-    one-missing (start r).args.n (Whole r) (Among r) (head r).loop-j.j (head r).loop-j.places (omega arith) (told r Nothing c.in_default.is)
+    one-missing (start r).args.section.vertices (Whole r) (Among r) (head r).loop-j.j (head r).loop-j.places (omega arith) (told r None c.in_default.is)
     (head r).loop-j.invariant.sized
 
 pub loop-j-preserved : goal.loop-j-preserved
 loop-j-preserved c =
     let r = (goal.at.loop-j-preserved c).After-find in
-    more (head r).loop-j.invariant (omega arith) c.in-At.i (told r (At c.in-At.i) c.in-At.is)
+    more (head r).loop-j.invariant (omega arith) c.in-Some.i (told r (Some c.in-Some.i) c.in-Some.is)
 
-pub returns : goal.returns
-returns c = all_found c.loop-j.invariant c.loop-j-test.false
+pub returns-in-Some : goal.returns-in-Some
+returns-in-Some c =
+    let r = (goal.at.returns-in-Some c).After-find in
+    all_found (more (head r).loop-j.invariant (omega arith) c.in-Some.i (told r (Some c.in-Some.i) c.in-Some.is)) (omega arith)

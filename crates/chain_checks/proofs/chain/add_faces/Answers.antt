@@ -4,8 +4,9 @@ use Prim.Native.Nat.{ℕ, suc, ◌+◌, ◌^◌, ◌<◌, ◌≤◌}
 use native.Mathlib.Nat as NatL
 use native.Mathlib.Omega.{arith}
 use native.Mathlib.Decide.{ℕ_discrete}
-use lib.ListN.{length, get_or, set, length-set}
+use lib.ListN.{length, get_or, take, set, length-set, length-take}
 use lib.Seq.{get_or-set_same, get_or-set_other}
+use Rattle.std.proofs.lemmas.List.{get_or-take, length-take-le}
 use lib.IntN.{ℤ, pos, nat_abs, ◌+ℤ◌, ◌*ℤ◌}
 use mir.Syntax.{w64}
 use mir.Val.{SFits}
@@ -28,7 +29,7 @@ use Rattle.faces.proofs.Sums.{nat_abs-part}
 use Rattle.faces.proofs.Signs.{sign-unit}
 use Rattle.chain_checks.proofs.chain.add_faces.Invariants.{Invariant}
 use Rattle.chain_checks.proofs.chain.add_faces.Goals as goal
-use Rattle.chain_checks.proofs.chain.add_faces.Goals.{After-face_places, At-loop-t, In-loop-t, After-sign}
+use Rattle.chain_checks.proofs.chain.add_faces.Goals.{After-face_places, At-loop-t, In-loop-t}
 
 with-factor : {b : List ℕ} {p j : ℕ} {x y : ℤ} {sums₀ : List ℤ} {t : ℕ} {sums : List ℤ} → x ≡ y → Invariant b p j x sums₀ t sums
     → Invariant b p j y sums₀ t sums
@@ -140,10 +141,6 @@ given c =
       sums = pre.sums;
     }
 
-pub face_places-requires : goal.face_places-requires
-face_places-requires c =
-    let pre = c.requires in record { accepted = pre.accepted; p_lt_top = pre.p_lt_top }
-
 pub loop-t-init : goal.loop-t-init
 loop-t-init c = let args = c.args in begun args.s.now args.p args.j (read w64 args.x) args.sums.now
 
@@ -155,12 +152,18 @@ module _ (c : In-loop-t) where
   abbrev known : After-face_places
   known = (goal.at.At-loop-t head).After-face_places
 
+  abbrev places : List ℕ
+  places = head.face_places.new.places
+
+  more : head.loop-t.t < known.args.p + 2
+  more = omega (arith, c.loop-t-test.true, length-take (known.args.p + 2) places)
+
   -- the place of face t
   abbrev row : ℕ
-  row = get_or head.face_places.new.places head.loop-t.t 0
+  row = get_or (take (known.args.p + 2) places) head.loop-t.t 0
 
   face : let args = known.args in IsFace args.s.now args.p args.j head.loop-t.t row
-  face = head.face_places.ensures.face head.loop-t.t (omega (arith, c.loop-t-test.true))
+  face = rw (get_or-take (known.args.p + 2) places head.loop-t.t 0 more) (head.face_places.ensures.face head.loop-t.t (omega (arith, more)))
 
   -- .. is one of the sums
   inside : row < library_limit
@@ -169,8 +172,10 @@ module _ (c : In-loop-t) where
   before : let args = known.args in Invariant args.s.now args.p args.j args.x args.sums.now head.loop-t.t head.loop-t.sums
   before = with-factor (read-x known) head.loop-t.invariant
 
-pub bounds-places-t : goal.bounds-places-t
-bounds-places-t c = omega (arith, c.loop-t-test.true, (given (known (goal.at.bounds-places-t c).In-loop-t)).inside)
+pub overflow_mul-sums : goal.overflow_mul-sums
+overflow_mul-sums c =
+    let turn = (goal.at.overflow_mul-sums c).In-loop-t in
+    term-word (given (known turn)) (before turn) (more turn) (row turn) (face turn) c.sign.result c.sign.ensures
 
 pub offset_bounds-sums-i : goal.offset_bounds-sums-i
 offset_bounds-sums-i c = omega (arith, inside (goal.at.offset_bounds-sums-i c).In-loop-t)
@@ -178,32 +183,22 @@ offset_bounds-sums-i c = omega (arith, inside (goal.at.offset_bounds-sums-i c).I
 pub bounds-sums-i : goal.bounds-sums-i
 bounds-sums-i c = inside (goal.at.bounds-sums-i c).In-loop-t
 
-pub sign-requires : goal.sign-requires
-sign-requires c = tt
-
--- the turn of a term
-abbrev turn : After-sign → In-loop-t
-turn c = (goal.at.After-sign c).In-loop-t
-
-pub overflow_mul-sums : goal.overflow_mul-sums
-overflow_mul-sums c =
-    term-word (given (known (turn c))) (before (turn c)) (turn c).loop-t-test.true (row (turn c)) (face (turn c)) c.sign.result c.sign.ensures
-
 pub overflow_add-sums : goal.overflow_add-sums
-overflow_add-sums c = sum-word (given (known (turn c))) (before (turn c)) (turn c).loop-t-test.true (row (turn c)) (face (turn c)) c.sign.result c.sign.ensures
-
-pub offset_bounds-sums-i-in-loop-t : goal.offset_bounds-sums-i-in-loop-t
-offset_bounds-sums-i-in-loop-t c = omega (arith, inside (turn c))
+overflow_add-sums c =
+    let turn = (goal.at.overflow_add-sums c).In-loop-t in
+    sum-word (given (known turn)) (before turn) (more turn) (row turn) (face turn) c.sign.result c.sign.ensures
 
 pub bounds-sums-i-in-loop-t : goal.bounds-sums-i-in-loop-t
-bounds-sums-i-in-loop-t c = inside (turn c)
+bounds-sums-i-in-loop-t c = inside (goal.at.bounds-sums-i-in-loop-t c).In-loop-t
 
 pub loop-t-preserved : goal.loop-t-preserved
 loop-t-preserved c =
-    with-factor (sym (read-x (known (turn c))))
-    (again (given (known (turn c))) (before (turn c)) (turn c).loop-t-test.true (row (turn c)) (face (turn c)) c.sign.result c.sign.ensures)
+    let turn = (goal.at.loop-t-preserved c).In-loop-t in
+    with-factor (sym (read-x (known turn)))
+    (again (given (known turn)) (before turn) (more turn) (row turn) (face turn) c.sign.result c.sign.ensures)
 
 pub returns : goal.returns
 returns c =
     let known = (goal.at.returns c).After-face_places in
-    record { adds_faces = ended (given known) (with-factor (read-x known) c.loop-t.invariant) c.loop-t-test.false; places_len = known.face_places.ensures.sized }
+    ended (given known) (with-factor (read-x known) c.loop-t.invariant)
+    (omega (arith, c.loop-t-test.false, length-take-le (known.args.p + 2) known.face_places.new.places (omega (arith, known.requires.p_lt_top.0, known.face_places.ensures.sized))))

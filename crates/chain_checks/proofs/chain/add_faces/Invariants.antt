@@ -1,8 +1,7 @@
--- `chain::add_faces` meets its contract. The invariant: x times the column after t faces has been added. The measure is how many faces are
--- left.
+-- `chain::add_faces` meets its contract. The invariant: x times the column after t faces has been added.
 use mathlib.Core.Path.{◌≡◌}
 use mathlib.Core.List.{List}
-use Prim.Native.Nat.{ℕ, ◌+◌, ◌-◌, ◌<◌, ◌≤◌}
+use Prim.Native.Nat.{ℕ, ◌+◌, ◌<◌, ◌≤◌}
 use lib.ListN.{length, get_or}
 use lib.IntN.{ℤ, pos, ◌+ℤ◌, ◌*ℤ◌}
 use Rattle.complexes.specs.Complex.{count}
@@ -17,6 +16,3 @@ pub record Invariant (b : List ℕ) (p j : ℕ) (x : ℤ) (sums₀ : List ℤ) (
 
 abbrev pub invariant-loop-t : goal.invariant-loop-t
 invariant-loop-t l = Invariant l.s l.p l.j l.x l.initial.sums l.t l.sums
-
-abbrev pub decreases-loop-t : goal.decreases-loop-t
-decreases-loop-t l = l.p + 2 - l.t

@@ -6,14 +6,16 @@ use Prim.Native.Nat.{ℕ, suc, ◌+◌, ◌*◌, ◌-◌, ◌<◌, ◌≤◌}
 use native.Mathlib.Nat as NatL
 use native.Mathlib.Numerals.{add-one}
 use native.Mathlib.Omega.{arith}
-use borrow.Author.Count.{below_more}
 use borrow.Author.Tests.{eq-eqb, ne_eqb}
 use lib.Dec.{eqb}
-use lib.ListN.{length, get_or, replicate, get_or-replicate}
+use lib.ListN.{length, get_or, take, replicate, get_or-replicate}
 use lib.IntN.{ℤ, pos, nat_abs, ◌*ℤ◌}
+use Rattle.std.proofs.Common.{MatchBool, rules, tests}
+use Rattle.std.specs.List.{HoldsAt, AllWithin}
+use Rattle.std.proofs.lemmas.Iterator.{cases_from_any, YieldsList-from_slice}
+use Rattle.std.proofs.lemmas.List.{get_or-take, length-take-le}
 use mir.Syntax.{w32, w64}
-use mir.Val.{SFits, of_z}
-use mir.Facts.{to_z-of_z}
+use mir.Val.{SFits}
 use Rattle.integers.proofs.Ring.{mul_comm, mul-zero, add-zero}
 use Rattle.integers.proofs.Order.{nat_abs_mul, nat_abs-zero}
 use Rattle.matrices.specs.Sum.{sum}
@@ -28,12 +30,12 @@ use Rattle.sheet_format.specs.SheetLaws.{count-sections_of}
 use Rattle.sheet_format.proofs.Accept.{accepted-chains}
 use Rattle.requests.specs.Chains.{boundary_not_zero}
 use Rattle.limits.specs.Limits.{library_limit, coefficient_limit}
-use Rattle.machine_words.specs.Read.{read, cast_fits, cast_is, zero-of-bits}
+use Rattle.machine_words.specs.Read.{read, cast_is, sfits-below, zero-of-bits}
 use Rattle.chain_checks.specs.Sums.{Sums, AddsFaces}
 use Rattle.matrices.proofs.SumLaws.{nat_abs-sum}
 use Rattle.chain_checks.proofs.chain.boundary_not_zero.Invariants.{Summed, partial}
 use Rattle.chain_checks.proofs.chain.boundary_not_zero.Goals as goal
-use Rattle.chain_checks.proofs.chain.boundary_not_zero.Goals.{Start, Else-p-eq0, At-loop-j, After-x-1, After-count-rows, In-loop-row, then-x-ne0, else-x-ne0, After-t24-1}
+use Rattle.chain_checks.proofs.chain.boundary_not_zero.Goals.{Start, Else-p-eq0, At-loop-j, In-loop-j, After-count-rows, then-x-ne0, else-x-ne0}
 
 -- what the function is given
 record Given (K : Sections) (p : ℕ) (chain : List ℤ) : Type 0 where
@@ -100,17 +102,21 @@ module _ {K : Sections} {p : ℕ} {chain : List ℤ} {j : ℕ} {sums : List ℤ}
   sum_is : (i : ℕ) → i < count K p → get_or sums i (pos 0) ≡ whole i
   sum_is i l = inv.so_far i l ∙ ap (λ (n : ℕ). partial K p chain n i) (omega (arith, inv.within, given.sized))
 
-  found : (i : ℕ) → i < count K p → get_or sums i (pos 0) ≢ pos 0 → true ≡ boundary_not_zero K (suc p) chain
+  decided : {rows : ℕ} → rows ≡ count K p → rows ≤ length sums → (r : Bool)
+      → MatchBool r ((k : ℕ) × (k < length (take rows sums)) × HoldsAt (λ x. x ≢ pos 0) (take rows sums) k) (AllWithin (λ x. x ≡ pos 0) (take rows sums) 0 (length (take rows sums)))
+      → r ≡ boundary_not_zero K (suc p) chain
   unfolding boundary_not_zero count_below
-  found i l d =
-      sym (some_at (count K p) (nonzero K p chain) i l
-      (ap not (ne_eqb (nat_abs (whole i)) 0 (λ e. d (sum_is i l ∙ nat_abs-zero (whole i) e)))))
-
-  none : ((i : ℕ) → i < count K p → get_or sums i (pos 0) ≡ pos 0) → false ≡ boundary_not_zero K (suc p) chain
-  unfolding boundary_not_zero count_below
-  none h =
+  decided {rows} e l true h =
+      let below : h.0 < rows = omega (arith, h.1, length-take-le rows sums l) in
+      sym (some_at (count K p) (nonzero K p chain) h.0 (omega arith)
+      (ap not (ne_eqb (nat_abs (whole h.0)) 0
+      (λ z. h.2 (pos 0) (get_or-take rows sums h.0 (pos 0) below ∙ sum_is h.0 (omega arith) ∙ nat_abs-zero (whole h.0) z)))))
+  decided {rows} e l false h =
       sym ((some-false (count K p) (nonzero K p chain)).1
-      (λ i l. ap not (eq-eqb (nat_abs (whole i)) 0 (ap nat_abs (sym (sum_is i l) ∙ h i l)))))
+      (λ i m.
+      let below : i < rows = omega arith in
+      ap not (eq-eqb (nat_abs (whole i)) 0
+      (ap nat_abs (sym (sum_is i m) ∙ sym (get_or-take rows sums i (pos 0) below) ∙ h i (pos 0) (omega arith) (omega (arith, length-take-le rows sums l)))))))
 
 pub returns-then-p-eq0 : goal.returns-then-p-eq0
 unfolding boundary_not_zero count_below some
@@ -134,15 +140,12 @@ given c =
 
 pub loop-j-init : goal.loop-j-init
 loop-j-init c =
-    let args = c.args in (begun (sections_of args.s.now) (args.p - 1) args.chain.now ((given c).sheet.within (args.p - 1)), refl)
-
-pub bounds-chain-j : goal.bounds-chain-j
-bounds-chain-j c = c.loop-j-test.true
+    let args = c.args in begun (sections_of args.s.now) (args.p - 1) args.chain.now ((given c).sheet.within (args.p - 1))
 
 -- coefficient j
-module _ (c : After-x-1) where
+module _ (c : In-loop-j) where
   abbrev head : At-loop-j
-  head = (goal.at.After-x-1 c).At-loop-j
+  head = (goal.at.In-loop-j c).At-loop-j
 
   abbrev start : Start
   start = (goal.at.At-loop-j head).Start
@@ -151,86 +154,56 @@ module _ (c : After-x-1) where
   x = get_or start.args.chain.now head.loop-j.j (pos 0)
 
   x_fits : SFits w32 x
-  x_fits = record { sfits = omega arith }
+  x_fits = sfits-below w32 x (omega (arith, start.requires.by_index head.loop-j.j))
 
-  -- as the machine reads it
-  x-is : read w64 (read w32 x) ≡ x
-  x-is = cast_is x x_fits
+  abbrev nonzero-dimension : Else-p-eq0
+  nonzero-dimension = (goal.at.At-loop-j head).Else-p-eq0
 
-pub overflow_cast-x : goal.overflow_cast-x
-overflow_cast-x c = cast_fits (x c) (x_fits c)
-
-pub add_faces-requires : goal.add_faces-requires
-add_faces-requires c =
-    let at = (goal.at.add_faces-requires c).After-x-1 in let g = given (goal.at.At-loop-j (head at)).Else-p-eq0 in
-    record {
-      accepted = (start at).requires.accepted;
-      p_lt_top = (g.inside, omega (arith, at.loop-j-test.true, g.sized), (head at).loop-j.invariant.1);
-      x_bound = subst (λ (z : ℤ). nat_abs z ≤ coefficient_limit) (sym (x-is at)) (g.small (head at).loop-j.j);
-      sums = sums-small g (head at).loop-j.invariant.0;
-    }
+pub add_faces-requires-clause-sums : goal.add_faces-requires-clause-sums
+add_faces-requires-clause-sums c =
+    let turn = (goal.at.add_faces-requires-clause-sums c).In-loop-j in
+    sums-small (given (nonzero-dimension turn)) (head turn).loop-j.invariant
 
 pub loop-j-preserved : goal.loop-j-preserved
 loop-j-preserved c =
-    let at = (goal.at.loop-j-preserved c).After-x-1 in let g = given (goal.at.At-loop-j (head at)).Else-p-eq0 in let args = (start at).args in let j = (head at).loop-j.j in let inv = (head at).loop-j.invariant in
-    let more = at.loop-j-test.true in
+    let turn = (goal.at.loop-j-preserved c).In-loop-j in
+    let g = given (nonzero-dimension turn) in
+    let args = (start turn).args in
+    let j = (head turn).loop-j.j in
+    let inv = (head turn).loop-j.invariant in
     elim c.if-x-ne0.branch [
-      | then-x-ne0 way ↦ (
-        subst (λ (sums : List ℤ). Summed (sections_of args.s.now) (args.p - 1) args.chain.now (j + 1) sums) (sym way.sums-is)
-            (added g inv.0 more
-            (subst (λ (z : ℤ). AddsFaces (sections_of args.s.now) (args.p - 1) j z (head at).loop-j.sums way.add_faces.new.sums) (x-is at) way.add_faces.ensures.adds_faces)),
-        ap length way.places-is ∙ way.add_faces.ensures.places_len,
-      )
-      | else-x-ne0 way ↦ (
-        subst (λ (sums : List ℤ). Summed (sections_of args.s.now) (args.p - 1) args.chain.now (j + 1) sums) (sym way.sums-is)
-            (skipped g inv.0 more (sym (to_z-of_z (x_fits at)) ∙ zero-of-bits (overflow_cast-x at) way.if-x-ne0.false)),
-        ap length way.places-is ∙ inv.1,
-      )
+      | then-x-ne0 way ↦ subst (λ (sums : List ℤ). Summed (sections_of args.s.now) (args.p - 1) args.chain.now (j + 1) sums) (sym way.sums-is)
+          (added g inv turn.loop-j-test.true
+          (subst (λ (z : ℤ). AddsFaces (sections_of args.s.now) (args.p - 1) j z (head turn).loop-j.sums way.add_faces.new.sums)
+          (ap (read w64) way.from.ensures ∙ cast_is (x turn) (x_fits turn)) way.add_faces.ensures))
+      | else-x-ne0 way ↦ subst (λ (sums : List ℤ). Summed (sections_of args.s.now) (args.p - 1) args.chain.now (j + 1) sums) (sym way.sums-is)
+          (skipped g inv turn.loop-j-test.true (zero-of-bits (x_fits turn) way.if-x-ne0.false))
     ]
 
-pub count-rows-requires : goal.count-rows-requires
-count-rows-requires c = tt
+-- the sums of the cells of section p - 1
+module _ (c : After-count-rows) where
+  abbrev first : Else-p-eq0
+  first = (goal.at.After-count-rows c).Else-p-eq0
 
-pub loop-row-init : goal.loop-row-init
-loop-row-init c = (omega arith, λ k l. absurd (omega arith))
+  rows : c.count-rows.result ≡ count (sections_of first.args.s.now) (first.args.p - 1)
+  rows = c.count-rows.ensures.is ∙ sym (count-sections_of first.args.s.now (first.args.p - 1))
 
-rows : (c : After-count-rows) →
-    let args = c.args in c.count-rows.result ≡ count (sections_of args.s.now) (args.p - 1)
-rows c =
-    let args = c.args in c.count-rows.ensures.is ∙ sym (count-sections_of args.s.now (args.p - 1))
+  within : c.count-rows.result ≤ length c.loop-j.sums
+  within = omega (arith, rows, (given first).sheet.within (first.args.p - 1), c.loop-j.invariant.sized)
 
-row_below : (c : In-loop-row) → c.loop-row.row < library_limit
-row_below c =
-    let counted = (goal.at.In-loop-row c).After-count-rows in let first = (goal.at.After-count-rows counted).Else-p-eq0 in
-    omega (arith, c.loop-row-test.true, rows counted, (given first).sheet.within (first.args.p - 1))
+pub slice_bounds-sums-end : goal.slice_bounds-sums-end
+slice_bounds-sums-end c = within c
 
-pub bounds-sums-row : goal.bounds-sums-row
-bounds-sums-row c = row_below c
-
-pub returns-then-sums-row-ne0 : goal.returns-then-sums-row-ne0
-returns-then-sums-row-ne0 c =
-    let turn = (goal.at.returns-then-sums-row-ne0 c).In-loop-row in let counted = (goal.at.In-loop-row turn).After-count-rows in let first = (goal.at.After-count-rows counted).Else-p-eq0 in
-    let args = first.args in
-    subst (λ (n : ℕ). true ≡ boundary_not_zero (sections_of args.s.now) n args.chain.now) (positive first)
-    (found (given first) counted.loop-j.invariant.0 counted.loop-j-test.false turn.loop-row.row
-    (omega (arith, turn.loop-row-test.true, rows counted))
-    (λ e. c.if-sums-row-ne0.true (ap (of_z w64) e)))
-
-sum_fits : (c : After-t24-1)
-    → SFits w64 (get_or c.loop-j.sums c.loop-row.row (pos 0))
-sum_fits c = record { sfits = omega arith }
-
-pub loop-row-preserved : goal.loop-row-preserved
-loop-row-preserved c =
-    let turn = (goal.at.loop-row-preserved c).In-loop-row in let sums = turn.loop-j.sums in (
-      omega (arith, turn.loop-row-test.true),
-      below_more (λ k. get_or sums k (pos 0) ≡ pos 0) turn.loop-row.row turn.loop-row.invariant.1
-          (zero-of-bits (sum_fits (goal.at.loop-row-preserved c).After-t24-1) c.if-sums-row-ne0.false),
-    )
+pub slice_bounds-iter-end : goal.slice_bounds-iter-end
+slice_bounds-iter-end c =
+    let counted = (goal.at.slice_bounds-iter-end c).After-count-rows in
+    sym (length-take-le counted.count-rows.result counted.loop-j.sums (within counted))
 
 pub returns : goal.returns
 returns c =
-    let counted = (goal.at.returns c).After-count-rows in let first = (goal.at.After-count-rows counted).Else-p-eq0 in let args = first.args in
-    subst (λ (n : ℕ). false ≡ boundary_not_zero (sections_of args.s.now) n args.chain.now) (positive first)
-    (none (given first) counted.loop-j.invariant.0 counted.loop-j-test.false
-    (λ i l. c.loop-row.invariant.1 i (omega (arith, c.loop-row-test.false, rows counted))))
+    let counted = (goal.at.returns c).After-count-rows in
+    let at = first counted in
+    let sums = take counted.count-rows.result counted.loop-j.sums in
+    subst (λ (n : ℕ). c.any.result ≡ boundary_not_zero (sections_of at.args.s.now) n at.args.chain.now) (positive at)
+    (decided (given at) counted.loop-j.invariant counted.loop-j-test.false (rows counted) (within counted) _
+    (cases_from_any _ _ _ (λ x. x ≢ pos 0) (λ x. x ≡ pos 0) c.any.ensures.ran (YieldsList-from_slice sums cc) (λ x q k. search (rules, tests)) (λ x q k. search (rules, tests))))

@@ -1,5 +1,4 @@
--- `chain::boundary_not_zero` meets its contract. The first loop's invariant: the sums are the boundary of the coefficients passed. The second
--- loop's: the sums passed are 0. The measures are how many are left.
+-- `chain::boundary_not_zero` meets its contract. The invariant: the sums are the boundary of the coefficients passed.
 use mathlib.Core.Path.{◌≡◌}
 use mathlib.Core.List.{List}
 use Prim.Native.Nat.{ℕ, suc, ◌-◌, ◌<◌, ◌≤◌}
@@ -8,7 +7,6 @@ use lib.IntN.{ℤ, pos}
 use Rattle.matrices.specs.Vector.{apply}
 use Rattle.complexes.specs.Complex.{Sections, count}
 use Rattle.complexes.specs.Boundary.{boundary}
-use Rattle.sheet_format.specs.Layout.{top}
 use Rattle.sheet_format.specs.Check.{sections_of}
 use Rattle.limits.specs.Limits.{library_limit}
 use Rattle.chain_checks.proofs.chain.boundary_not_zero.Given as goal
@@ -24,13 +22,4 @@ pub record Summed (K : Sections) (p : ℕ) (chain : List ℤ) (j : ℕ) (sums : 
   pub so_far : (i : ℕ) → i < count K p → get_or sums i (pos 0) ≡ partial K p chain j i
 
 abbrev pub invariant-loop-j : goal.invariant-loop-j
-invariant-loop-j l = Summed (sections_of l.s) (l.p - 1) l.chain l.j l.sums × (length l.places ≡ suc top)
-
-abbrev pub decreases-loop-j : goal.decreases-loop-j
-decreases-loop-j l = length l.chain - l.j
-
-abbrev pub invariant-loop-row : goal.invariant-loop-row
-invariant-loop-row l = (l.row ≤ l.rows) × ((k : ℕ) → k < l.row → get_or l.sums k (pos 0) ≡ pos 0)
-
-abbrev pub decreases-loop-row : goal.decreases-loop-row
-decreases-loop-row l = l.rows - l.row
+invariant-loop-j l = Summed (sections_of l.s) (l.p - 1) l.chain l.j l.sums

@@ -1,29 +1,15 @@
-use native.Mathlib.Omega.{arith}
+-- `count_exceeds` meets its contract: the test of each dimension is that of the definition.
+use mathlib.Core.Path.{refl}
 use Prim.Native.Nat.{suc}
-use borrow.Author.Tests.{lt-ltb, le-ltb}
+use lib.Dec.{ltb}
+use Rattle.std.proofs.Common.{rules, tests}
+use Rattle.std.proofs.lemmas.Iterator.{YieldsList-from_range}
 use Rattle.sheet_format.specs.Layout.{top}
 use Rattle.sheet_format.specs.Check.{count_field}
-use Rattle.checks.proofs.Scan.{passed_none, passed-more, passed-all, some-found}
-use Rattle.checks.proofs.check.count_exceeds.Invariants.{Exceeds}
+use Rattle.checks.proofs.Scan.{any-some}
 use Rattle.checks.proofs.check.count_exceeds.Goals as goal
-use Rattle.checks.proofs.check.count_exceeds.Goals.{At-loop-p}
-
-pub loop-p-init : goal.loop-p-init
-loop-p-init c = passed_none (suc top) (Exceeds c.args.limit c.args.s.now)
-
-pub returns-then-limit-count : goal.returns-then-limit-count
-returns-then-limit-count c =
-    let loop = (goal.at.returns-then-limit-count c).At-loop-p in
-    let a = loop.args in
-    some-found (suc top) (Exceeds a.limit a.s.now) loop.loop-p.p (omega arith) (lt-ltb a.limit (count_field a.s.now loop.loop-p.p) (omega arith))
-
-pub loop-p-preserved : goal.loop-p-preserved
-loop-p-preserved c =
-    let loop = (goal.at.loop-p-preserved c).At-loop-p in
-    let a = loop.args in
-    passed-more (suc top) (Exceeds a.limit a.s.now) loop.loop-p.p loop.loop-p.invariant (omega arith) (le-ltb a.limit (count_field a.s.now loop.loop-p.p) (omega arith))
 
 pub returns : goal.returns
 returns c =
-    let a = c.args in
-    passed-all (suc top) (Exceeds a.limit a.s.now) c.loop-p.p c.loop-p.invariant (omega arith)
+    any-some _ _ _ (suc top) (λ p. ltb c.args.limit (count_field c.args.s.now p)) c.any.ensures.ran (YieldsList-from_range 0 (suc top) (suc top) refl refl)
+    (λ x q k. search (rules, tests)) (λ x q k. search (rules, tests))

@@ -1,11 +1,7 @@
--- `apply::negate_places` meets its contract. The invariant: the lines passed have been changed. The measure is how many are left.
-use Prim.Native.Nat.{◌-◌}
+-- `apply::negate_places` meets its contract. The invariant: the lines passed have been changed.
 use Rattle.matrices.specs.Operation.{negate}
 use Rattle.elementary_operations.proofs.Places.{Passed}
 use Rattle.elementary_operations.proofs.apply.negate_places.Given as goal
 
 abbrev pub invariant-loop-i : goal.invariant-loop-i
 invariant-loop-i l = Passed l.m l.initial.w (negate l.k) l.before l.w l.largest l.i
-
-abbrev pub decreases-loop-i : goal.decreases-loop-i
-decreases-loop-i l = l.m.lines - l.i

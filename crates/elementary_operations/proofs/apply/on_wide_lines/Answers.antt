@@ -1,33 +1,22 @@
 -- `apply::on_wide_lines` meets its contract, by what `line::subtract`, `line::swap` and `line::negate` ensure of lines of the matrix.
 use mathlib.Core.Path.{refl}
 use mathlib.Core.Logic.{inl}
+use Rattle.std.specs.Prelude.{Ok}
 use Rattle.matrices.specs.Operation.{swap, negate}
 use Rattle.elementary_operations.specs.Operations.{Fits}
-use Rattle.matrix_lines.specs.declared.line.Effect.TheVariants.{Done}
-use Rattle.matrix_lines.proofs.Spans.{Span, line-span, span-inside, spans-one-or-apart}
+use Rattle.matrix_lines.proofs.Spans.{Span, line-span, spans-one-or-apart}
 use Rattle.elementary_operations.proofs.Operations.{swap-lines, negate-line, fits-case, became-case}
-use Rattle.elementary_operations.proofs.Subtraction.{changed-below, taken-below, subtraction-asks, subtraction-came}
-use borrow.Author.Rules.{rules}
+use Rattle.elementary_operations.proofs.Subtraction.{subtraction-asks, subtraction-came}
 use Rattle.elementary_operations.proofs.apply.on_wide_lines.Goals as goal
 use Rattle.elementary_operations.proofs.apply.on_wide_lines.Goals.{Start, In-Subtract, After-line-in-Subtract, In-Swap, After-line-in-Swap-2, In-Negate, After-line-in-Negate}
 
 -- ---- a subtraction
 
-pub line-requires : goal.line-requires
-line-requires c =
-    let at = (goal.at.line-requires c).In-Subtract in
-    search (rules, changed-below at.in-Subtract.is at.args.m at.requires.fits)
-
-pub line-requires-in-Subtract : goal.line-requires-in-Subtract
-line-requires-in-Subtract c =
-    let at = (goal.at.line-requires-in-Subtract c).In-Subtract in
-    search (rules, taken-below at.in-Subtract.is at.args.m at.requires.fits)
-
-pub subtract-requires : goal.subtract-requires
-subtract-requires c =
-    let at = (goal.at.subtract-requires c).In-Subtract in let start = (goal.at.In-Subtract at).Start in
+pub subtract-requires-clause-apart : goal.subtract-requires-clause-apart
+subtract-requires-clause-apart c =
+    let at = (goal.at.subtract-requires-clause-apart c).In-Subtract in let start = (goal.at.In-Subtract at).Start in
     let asked = subtraction-asks at.in-Subtract.is start.args.m start.requires.fits c.line.ensures c.line-in-Subtract.ensures start.requires.held start.requires.bounded in
-    record { width_in_bounds = asked.0; apart = asked.1.0; bounded = asked.1.1.0; q_bound = asked.1.1.1 }
+    asked.1.0
 
 pub returns-in-Subtract : goal.returns-in-Subtract
 returns-in-Subtract c =
@@ -44,12 +33,6 @@ module _ (c : In-Swap) where
   swap-fits : Fits swapping.args.m.lines (swap c.in-Swap.i c.in-Swap.k)
   swap-fits = fits-case c.in-Swap.is swapping.requires.fits
 
-pub line-requires-in-Swap : goal.line-requires-in-Swap
-line-requires-in-Swap c = search (rules, (swap-fits (goal.at.line-requires-in-Swap c).In-Swap).within.first)
-
-pub line-requires-in-Swap-2 : goal.line-requires-in-Swap-2
-line-requires-in-Swap-2 c = search (rules, (swap-fits (goal.at.line-requires-in-Swap-2 c).In-Swap).within.second)
-
 module _ (c : After-line-in-Swap-2) where
   abbrev exchange : In-Swap
   exchange = (goal.at.After-line-in-Swap-2 c).In-Swap
@@ -64,15 +47,13 @@ module _ (c : After-line-in-Swap-2) where
       line-span (swapping exchange).args.m c.line-in-Swap-2.result exchange.in-Swap.k c.line-in-Swap-2.ensures
       (swap-fits exchange).within.second
 
-pub swap-requires : goal.swap-requires
-swap-requires c =
-    let start = swapping (exchange c) in
-    record { width_in_bounds = (span-inside (first c) start.requires.held, span-inside (second c) start.requires.held); fact = spans-one-or-apart (first c) (second c) (inl refl); bounded = start.requires.bounded }
+pub swap-requires-clause-fact : goal.swap-requires-clause-fact
+swap-requires-clause-fact c = spans-one-or-apart (first c) (second c) (inl refl)
 
 pub returns-in-Swap : goal.returns-in-Swap
 returns-in-Swap c =
     let at = (goal.at.returns-in-Swap c).After-line-in-Swap-2 in let args = (swapping (exchange at)).args in let called = c.swap in
-    became-case (exchange at).in-Swap.is args.m args.w.now called.new.w args.before (Done called.result)
+    became-case (exchange at).in-Swap.is args.m args.w.now called.new.w args.before (Ok called.result)
     (swap-lines (first at) (second at) args.w.now called.new.w args.before called.result called.ensures)
 
 -- ---- a negation
@@ -84,9 +65,6 @@ module _ (c : In-Negate) where
   negate-fits : Fits negating.args.m.lines (negate c.in-Negate.k)
   negate-fits = fits-case c.in-Negate.is negating.requires.fits
 
-pub line-requires-in-Negate : goal.line-requires-in-Negate
-line-requires-in-Negate c = search (rules, (negate-fits (goal.at.line-requires-in-Negate c).In-Negate).within)
-
 module _ (c : After-line-in-Negate) where
   abbrev negation : In-Negate
   negation = (goal.at.After-line-in-Negate c).In-Negate
@@ -95,12 +73,8 @@ module _ (c : After-line-in-Negate) where
   negated =
       line-span (negating negation).args.m c.line-in-Negate.result negation.in-Negate.k c.line-in-Negate.ensures (negate-fits negation).within
 
-pub negate-requires : goal.negate-requires
-negate-requires c =
-    record { width_in_bounds = span-inside (negated c) (negating (negation c)).requires.held; bounded = (negating (negation c)).requires.bounded }
-
 pub returns-in-Negate : goal.returns-in-Negate
 returns-in-Negate c =
     let at = (goal.at.returns-in-Negate c).After-line-in-Negate in let args = (negating (negation at)).args in let called = c.negate in
-    became-case (negation at).in-Negate.is args.m args.w.now called.new.w args.before (Done called.result)
+    became-case (negation at).in-Negate.is args.m args.w.now called.new.w args.before (Ok called.result)
     (negate-line (negated at) args.w.now called.new.w args.before called.result called.ensures)

@@ -5,6 +5,7 @@ use native.Mathlib.Nat.{le_antisymm, mul_left_comm, suc-mul, mul-le-mul_right}
 use native.Mathlib.Numerals.{add-one}
 use native.Mathlib.Omega.{arith}
 use lib.ListN.{length, take}
+use lib.Seq.{length-take-le}
 use lib.IntN.{ℤ}
 use Rattle.lists.specs.Splice.{splice, splices}
 use Rattle.lists.specs.SpliceLaws.{take-splice-zero}
@@ -21,7 +22,7 @@ use Rattle.fildwuk.proofs.coordinate_lists.write_bytes.Goals.{Start, After-read_
 
 pub loop-i-init : goal.loop-i-init
 unfolding splices
-loop-i-init c = (omega arith, refl, refl, refl, refl)
+loop-i-init c = record { so_far = refl; size = length-take-le c.args.cells _ c.requires.few; room = refl }
 
 -- ---- the next chain is read
 
@@ -33,11 +34,8 @@ overflow_mul-at c =
       c.well_formed,
     )
 
-pub slice_bounds-read_chain-end : goal.slice_bounds-read_chain-end
-slice_bounds-read_chain-end c = sym c.loop-i.invariant.3
-
 pub read_chain-requires : goal.read_chain-requires
-read_chain-requires c = (omega (arith, c.loop-i.invariant.3, c.requires.few), chain-stands c.args.cells c.args.many c.args.chains.now c.requires.size c.loop-i.i c.loop-i-test.true)
+read_chain-requires c = omega (arith, c.loop-i.invariant.size, chain-stands c.args.cells c.args.many c.args.chains.now c.requires.size c.loop-i.i c.loop-i-test.true)
 
 module _ (c : After-read_chain) where
   abbrev start : Start
@@ -59,14 +57,8 @@ module _ (c : After-read_chain) where
   abbrev list : List ℤ
   list = coordinates_of start.args.reduced start.args.w.now (chain_of cells many bytes i)
 
-  read_is : take cells c.read_chain.new.coefficients ≡ chain_of cells many bytes i
-  read_is = chain-read cells many bytes start.requires.size i c.loop-i-test.true c.read_chain.new.coefficients c.read_chain.ensures
-
-  read_length : length (take cells c.read_chain.new.coefficients) ≡ cells
-  read_length = ap length read_is ∙ chain_length cells many bytes start.requires.size i c.loop-i-test.true
-
-  kept-length : length c.read_chain.new.coefficients ≡ host_limit
-  kept-length = c.read_chain.auto.coefficients ∙ c.loop-i.invariant.3
+  read_is : c.read_chain.new.coefficients ≡ chain_of cells many bytes i
+  read_is = chain-read cells many bytes start.requires.size i c.loop-i-test.true c.loop-i.invariant.size c.read_chain.ensures
 
   list-short : length list ≤ cells
   list-short =
@@ -78,21 +70,15 @@ module _ (c : After-read_chain) where
         start.requires.short,
       )
 
-pub slice_bounds-coefficients-end : goal.slice_bounds-coefficients-end
-slice_bounds-coefficients-end c = omega (arith, kept-length (goal.at.slice_bounds-coefficients-end c).After-read_chain, (start (goal.at.slice_bounds-coefficients-end c).After-read_chain).requires.few)
-
-pub slice_bounds-write_coordinates-end : goal.slice_bounds-write_coordinates-end
-slice_bounds-write_coordinates-end c = sym (read_length (goal.at.slice_bounds-write_coordinates-end c).After-read_chain)
-
 -- ---- its coordinates, as numbers
 
-pub slice_bounds-write_coordinates-end-in-loop-i : goal.slice_bounds-write_coordinates-end-in-loop-i
-slice_bounds-write_coordinates-end-in-loop-i c = sym c.loop-i.invariant.4
+pub slice_bounds-write_coordinates-end : goal.slice_bounds-write_coordinates-end
+slice_bounds-write_coordinates-end c = sym c.loop-i.invariant.room
 
 pub write_coordinates-width-requires : goal.write_coordinates-width-requires
 write_coordinates-width-requires c =
     let r = (goal.at.write_coordinates-width-requires c).After-read_chain in
-    rw (read_is r, r.loop-i.invariant.4) ((start r).requires.each (i r) r.loop-i-test.true)
+    rw (read_is r, r.loop-i.invariant.room) ((start r).requires.each (i r) r.loop-i-test.true)
 
 module _ (c : After-write_coordinates-width) where
   abbrev reads : After-read_chain
@@ -105,7 +91,10 @@ module _ (c : After-write_coordinates-width) where
   width = omega (arith, wrote.next)
 
   numbers-length : length c.write_coordinates-width.new.coordinates ≡ host_limit
-  numbers-length = c.write_coordinates-width.auto.coordinates ∙ reads.loop-i.invariant.4
+  numbers-length = c.write_coordinates-width.auto.coordinates ∙ reads.loop-i.invariant.room
+
+  fits : c.write_coordinates-width.result ≤ length c.write_coordinates-width.new.coordinates
+  fits = omega (arith, width, list-short reads, (start reads).requires.few, numbers-length)
 
   numbers-are : take c.write_coordinates-width.result c.write_coordinates-width.new.coordinates ≡ list reads
   numbers-are =
@@ -126,7 +115,10 @@ module _ (c : After-write_coordinates-width) where
 -- ---- and as bytes
 
 pub slice_bounds-write_numbers-end : goal.slice_bounds-write_numbers-end
-slice_bounds-write_numbers-end c = sym (numbers-length (goal.at.slice_bounds-write_numbers-end c).After-write_coordinates-width)
+slice_bounds-write_numbers-end c = sym (length-take-le _ _ (fits (goal.at.slice_bounds-write_numbers-end c).After-write_coordinates-width))
+
+pub slice_bounds-numbers-end : goal.slice_bounds-numbers-end
+slice_bounds-numbers-end c = fits (goal.at.slice_bounds-numbers-end c).After-write_coordinates-width
 
 pub overflow_mul-at-in-loop-i : goal.overflow_mul-at-in-loop-i
 overflow_mul-at-in-loop-i c = let w = (goal.at.overflow_mul-at-in-loop-i c).After-write_coordinates-width in omega (arith, slots w, (start (reads w)).well_formed)
@@ -134,10 +126,8 @@ overflow_mul-at-in-loop-i c = let w = (goal.at.overflow_mul-at-in-loop-i c).Afte
 pub write_numbers-requires : goal.write_numbers-requires
 write_numbers-requires c =
     let w = (goal.at.write_numbers-requires c).After-write_coordinates-width in
-    let r = reads w in (
-      omega (arith, width w, list-short r, (start r).requires.few, numbers-length w),
-      omega (arith, slots w, r.loop-i.invariant.2),
-    )
+    let r = reads w in
+    omega (arith, slots w, ap length (numbers-are w), width w, r.loop-i.auto.out)
 
 pub loop-i-preserved : goal.loop-i-preserved
 unfolding splices
@@ -145,19 +135,19 @@ loop-i-preserved c =
     let wrote = c.write_numbers in
     let w = (goal.at.loop-i-preserved c).After-write_coordinates-width in
     let r = reads w in
-    let loop = r.loop-i in (
-      omega (arith, r.loop-i-test.true),
-      wrote.ensures
+    let loop = r.loop-i in
+    record {
+      so_far =
+          wrote.ensures
           ∙ ap (λ (l : List ℤ). splice (8 * (i r * cells r)) (numbers_bytes l) loop.out) (numbers-are w)
-          ∙ rw (add-one (i r)) (ap₂ (λ (at : ℕ) (l : List ℕ). splice at (numbers_bytes (list r)) l) (mul_left_comm 8 (i r) (cells r)) loop.invariant.1),
-      wrote.auto.out ∙ loop.invariant.2,
-      kept-length r,
-      numbers-length w,
-    )
+          ∙ rw (add-one (i r)) (ap₂ (λ (at : ℕ) (l : List ℕ). splice at (numbers_bytes (list r)) l) (mul_left_comm 8 (i r) (cells r)) loop.invariant.so_far);
+      size = r.read_chain.auto.coefficients ∙ loop.invariant.size;
+      room = numbers-length w;
+    }
 
 pub returns : goal.returns
 returns c =
     let a = c.args in
-    c.loop-i.invariant.1
+    c.loop-i.invariant.so_far
     ∙ ap (λ (n : ℕ). splices (8 * a.cells) (list_bytes a.reduced a.w.now a.cells a.many a.chains.now) n a.out.now)
-    (le_antisymm c.loop-i.invariant.0 c.loop-i-test.false)
+    (le_antisymm c.loop-i.auto.i-end c.loop-i-test.false)

@@ -1,22 +1,24 @@
 -- `surface::surface_through` meets its contract: what it answers and writes is `SurfaceThrough`'s to say, from what `surface_at` ensures.
-use mathlib.Core.Path.{◌≡◌, sym}
+use mathlib.Core.Path.{◌≡◌, refl, sym}
 use mathlib.Core.Bool.{true}
 use mathlib.Core.Logic.{◌≢◌, ◌⊎◌}
 use mathlib.Core.List.{List}
 use Prim.Native.Nat.{ℕ, ◌*◌, ◌≤◌}
 use native.Mathlib.Omega.{arith}
-use lib.ListN.{length, take}
+use Rattle.std.proofs.lemmas.Result.{err_from_is_err_and}
+use lib.ListN.{length, take, replicate}
+use Rattle.std.proofs.lemmas.List.{length-replicate}
 use lib.Seq.{length-take-le}
-use lib.IntN.{ℤ}
+use lib.IntN.{ℤ, pos}
 use Rattle.limits.specs.Limits.{host_limit}
 use Rattle.reports.specs.Reductions.{second_columns_only}
 use Rattle.requests.specs.Question.{asked}
 use Rattle.host_calls.specs.Bytes.{chain_from}
 use Rattle.host_calls.specs.Host.{work_room_for}
-use Rattle.fildwuk.proofs.Through.{Lent, lend, lent_length, slots, writable}
+use Rattle.fildwuk.proofs.Through.{Lent, lend, lent_length, slots, left, writable}
 use Rattle.fildwuk.proofs.SurfaceThrough.{surface-refuses, surface-room, surface-writes}
 use Rattle.fildwuk.proofs.surface.surface_through.Goals as goal
-use Rattle.fildwuk.proofs.surface.surface_through.Goals.{Start, After-read_given-given, After-surface_at, In-Done, After-count}
+use Rattle.fildwuk.proofs.surface.surface_through.Goals.{Start, After-read_given-given, After-surface_at, In_ok-surface_at, After-count-written}
 
 -- the coefficients that are lent
 module _ (c : After-read_given-given) where
@@ -42,43 +44,54 @@ module _ (c : After-surface_at) where
   abbrev call : Lent host_limit (work_room_for (second_columns_only true))
   call =
       let args = start.args in
-      lend host_limit (work_room_for (second_columns_only true)) (asked args.sheet.now args.dimension) args.surface.now args.numbers.now args.work.now
-      c.host.ensures (λ i. (c.type_inv.sheet i).fits) c.smaller-slots.ensures
-      start.requires.1 start.requires.2
+      lend host_limit (work_room_for (second_columns_only true)) (asked args.sheet.now args.dimension) args.surface.now (replicate host_limit (pos 0)) (replicate (work_room_for (second_columns_only true)) (pos 0))
+      c.host.ensures (λ i. (c.type_inv.sheet i).fits) c.min-slots.ensures
+      (length-replicate host_limit (pos 0)) (length-replicate (work_room_for (second_columns_only true)) (pos 0))
 
-pub slice_bounds-surface_at-end-2 : goal.slice_bounds-surface_at-end-2
-slice_bounds-surface_at-end-2 c = sym (lent-size (goal.at.slice_bounds-surface_at-end-2 c).After-read_given-given)
+pub slice_bounds-surface_at-end : goal.slice_bounds-surface_at-end
+slice_bounds-surface_at-end c = sym (lent-size (goal.at.slice_bounds-surface_at-end c).After-read_given-given)
 
-pub slice_bounds-surface_at-end-4 : goal.slice_bounds-surface_at-end-4
-slice_bounds-surface_at-end-4 c =
-    sym (lent_length c.args.surface.now c.args.numbers.now c.smaller-slots.ensures c.requires.1)
-
-module _ (c : After-count) where
-  abbrev told : In-Done
-  told = (goal.at.After-count c).In-Done
+-- so many numbers of the slots are written
+module _ (c : After-count-written) where
+  abbrev done : In_ok-surface_at
+  done = (goal.at.After-count-written c).In_ok-surface_at
 
   abbrev called : After-surface_at
-  called = (goal.at.In-Done told).After-surface_at
+  called = (goal.at.In_ok-surface_at done).After-surface_at
 
-  room : c.count.result ≤ length (slots (call called))
-  room =
-      surface-room (call called) (start called).args.chain.now (lent (given called)) (stands (given called)) called.surface_at.ensures told.in-Done.is
-      c.count.ensures.is
+  abbrev written : ℕ
+  written = c.count-written.result
+
+  abbrev numbers : List ℤ
+  numbers = left (call called) called.surface_at.new.surface
+
+  ready : (written ≤ length numbers) × (8 * written ≤ length (call called).output)
+  ready =
+      writable (call called) called.surface_at.new.surface
+      (surface-room (call called) (start called).args.chain.now (lent (given called)) (stands (given called)) done.in_ok-surface_at.ensures refl c.count-written.ensures.is)
+      called.surface_at.auto.surface
+
+  as-many : length (take written numbers) ≡ written
+  as-many = length-take-le written numbers ready.0
+
+pub slice_bounds-numbers-end-2 : goal.slice_bounds-numbers-end-2
+slice_bounds-numbers-end-2 c = (ready (goal.at.slice_bounds-numbers-end-2 c).After-count-written).0
+
+pub slice_bounds-write_numbers-end : goal.slice_bounds-write_numbers-end
+slice_bounds-write_numbers-end c = sym (as-many (goal.at.slice_bounds-write_numbers-end c).After-count-written)
 
 pub write_numbers-requires : goal.write_numbers-requires
-write_numbers-requires c =
-    let d = (goal.at.write_numbers-requires c).After-count in
-    let a = called d in
-    let w = writable (call a) a.surface_at.new.surface (room d) a.surface_at.auto.surface in (w.0, omega (arith, w.1))
+write_numbers-requires c = let d = (goal.at.write_numbers-requires c).After-count-written in omega (arith, as-many d, (ready d).1)
 
-pub returns-in-Refused : goal.returns-in-Refused
-returns-in-Refused c =
-    let a = (goal.at.returns-in-Refused c).After-surface_at in
-    surface-refuses (call a) (start a).args.chain.now (lent (given a)) (stands (given a)) a.surface_at.ensures c.in-Refused.is c.number.ensures
+pub returns-in_err-surface_at : goal.returns-in_err-surface_at
+returns-in_err-surface_at c =
+    let a = (goal.at.returns-in_err-surface_at c).After-surface_at in
+    let x = err_from_is_err_and c.from_residual.result c.from_residual.ensures.1 in
+    rw (x.1, x.2) (surface-refuses (call a) (start a).args.chain.now (lent (given a)) (stands (given a)) c.in_err-surface_at.ensures refl)
 
-pub returns-in-Done : goal.returns-in-Done
-returns-in-Done c =
-    let d = (goal.at.returns-in-Done c).After-count in
+pub returns : goal.returns
+returns c =
+    let d = (goal.at.returns c).After-count-written in
     let a = called d in
-    surface-writes (call a) (start a).args.chain.now (lent (given a)) (stands (given a)) a.surface_at.ensures (told d).in-Done.is d.count.ensures.is
+    surface-writes (call a) (start a).args.chain.now (lent (given a)) (stands (given a)) (done d).in_ok-surface_at.ensures refl d.count-written.ensures.is
     a.surface_at.auto.surface c.write_numbers.ensures

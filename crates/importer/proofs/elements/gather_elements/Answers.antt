@@ -1,47 +1,58 @@
-use mathlib.Core.Path.{refl, ◌∙◌}
+use mathlib.Core.Path.{refl, subst, ◌∙◌}
 use mathlib.Core.List.{[], ◌∷◌, ◌++◌}
+use Prim.Native.Nat.{ℕ}
 use Rattle.lists.specs.Same.{every}
+use Rattle.mesh_format.specs.Parse.{element_line}
 use Rattle.mesh_format.proofs.ReadLaws.{element_lines-repeats}
 use Rattle.mesh_format.proofs.WalkLaws.{walk_start, walk-stop, walk_more, walk_end}
 use Rattle.imports.specs.Import.{none_faulty}
 use Rattle.imports.proofs.ElementLaws.{element-numbered}
-use Rattle.mesh_lines.proofs.Told.{element-malformed, element-read}
+use Rattle.mesh_words.proofs.Steps.{from, failed-from}
+use Rattle.mesh_lines.proofs.Told.{element-none, element-read}
 use Rattle.node_maps.specs.Map.{in_map}
-use Rattle.importer.proofs.Gathering.{ready}
+use Rattle.importer.specs.Gather.{AddsElement}
 use Rattle.importer.proofs.elements.gather_elements.Goals as goal
 
-pub loop-i-init : goal.loop-i-init
+pub loop-init : goal.loop-init
 unfolding none_faulty every
-loop-i-init c = record {
+loop-init c = record {
   read = [];
-  walk = walk_start element_lines-repeats c.args.n c.args.text.now c.args.c.at;
-  gathers = (refl, c.requires.1);
-  sized = refl;
+  walk = walk_start element_lines-repeats c.args.n c.args.r.text.now c.args.r.at;
+  same = refl;
+  gathers = (refl, c.requires);
+  limit-kept = refl;
 }
 
-pub returns-in_default : goal.returns-in_default
-returns-in_default c =
-    walk-stop element_lines-repeats c.loop-i.invariant.walk c.loop-i-test.true (element-malformed c.read_element.ensures c.in_default.is)
+pub returns-in_err-element : goal.returns-in_err-element
+returns-in_err-element c =
+    let inv = c.loop.invariant in
+    rw c.from_residual.ensures (record {
+      limit = inv.limit-kept;
+      tells = walk-stop element_lines-repeats inv.walk c.loop-test.true (failed-from element_line c.args.r inv.same (element-none _ c.in_err-element.ensures));
+    })
 
-pub add_element-outcome-requires : goal.add_element-outcome-requires
-add_element-outcome-requires c = (
-  c.requires.0,
-  ready c.args.limit (in_map c.args.map.now) c.loop-i.invariant.read c.loop-i.outcome c.loop-i.cells c.loop-i.counts c.loop-i.invariant.gathers,
-)
-
-pub loop-i-preserved : goal.loop-i-preserved
-loop-i-preserved c =
-    let line = element-read c.read_element.ensures c.in-Read.is in
+pub loop-preserved : goal.loop-preserved
+loop-preserved c =
+    let inv = c.loop.invariant in
+    let line = element-read _ c.in_ok-element.ensures in
+    let moved = from element_line c.args.r inv.same line.moves in
     record {
-      read = c.loop-i.invariant.read ++ (line.element ∷ []);
-      walk = walk_more element_lines-repeats c.loop-i.invariant.walk c.loop-i-test.true line.is;
+      read = inv.read ++ (line.element ∷ []);
+      walk = walk_more element_lines-repeats inv.walk c.loop-test.true moved.is;
+      same = moved.same;
       gathers =
-          c.add_element-outcome.ensures c.loop-i.invariant.read line.element c.loop-i.invariant.gathers line.tells
-          (element-numbered c.args.text.now c.loop-i.here.at line.is);
-      sized = c.add_element-outcome.auto.cells ∙ c.loop-i.invariant.sized;
+          subst
+          (λ (k : ℕ).
+          AddsElement k (in_map c.args.map.now.bytes) c.in_ok-element.element c.loop.outcome c.loop.cells c.add_element-outcome.result c.add_element-outcome.new.cells)
+          inv.limit-kept c.add_element-outcome.ensures.adds inv.read line.element inv.gathers line.tells
+          (element-numbered c.loop.here.text.now c.loop.here.at line.moves.is);
+      limit-kept = c.add_element-outcome.ensures.limit ∙ inv.limit-kept;
     }
 
 pub returns : goal.returns
 returns c =
-    let inv = c.loop-i.invariant in
-    record { read = inv.read; is = walk_end element_lines-repeats inv.walk c.loop-i-test.false; gathers = inv.gathers }
+    let inv = c.loop.invariant in
+    record {
+      limit = inv.limit-kept;
+      tells = record { read = inv.read; is = walk_end element_lines-repeats inv.walk c.loop-test.false; same = inv.same; gathers = inv.gathers };
+    }

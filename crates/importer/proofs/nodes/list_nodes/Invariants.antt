@@ -1,10 +1,6 @@
--- `list_nodes` meets its contract. The loop's invariant: i lines are read, and their nodes listed. The measure is the number of lines left.
-use Prim.Native.Nat.{◌-◌}
+-- `list_nodes` meets its contract. The loop's invariant: some lines are read, and their nodes listed.
 use Rattle.importer.proofs.Listing.{Listing}
 use Rattle.importer.proofs.nodes.list_nodes.Given as goal
 
-abbrev pub invariant-loop-i : goal.invariant-loop-i
-invariant-loop-i l = Listing l.text l.n l.initial.here.at l.initial.map l.map l.i l.here.at
-
-abbrev pub decreases-loop-i : goal.decreases-loop-i
-decreases-loop-i l = l.n - l.i
+abbrev pub invariant-loop : goal.invariant-loop
+invariant-loop l = Listing l.r l.n l.initial.map.bytes l.map.bytes l.counter l.here

@@ -8,11 +8,11 @@ use Rattle.sheet_format.specs.SheetLaws.{count_field-lt}
 use Rattle.node_maps.specs.Map.{in_map}
 use Rattle.loose_nodes.proofs.LooseByMap.{loose-map}
 use Rattle.loose_nodes.proofs.edges.is_loose.Goals as goal
-use Rattle.loose_nodes.proofs.edges.is_loose.Goals.{Start, After-start}
+use Rattle.loose_nodes.proofs.edges.is_loose.Goals.{After-start}
 
 -- there are fewer than 65536 vertices
 few : (c : After-start) → count_field c.args.s.now 0 < 65536
-few c = count_field-lt c.args.s.now (record { small = λ i. (c.shared_slice_known-1.given i).fits }) 0
+few c = count_field-lt c.args.s.now (record { small = λ i. (c.type_inv.s i).fits }) 0
 
 pub overflow_mul-i : goal.overflow_mul-i
 overflow_mul-i c = omega (arith, few c)
@@ -20,13 +20,10 @@ overflow_mul-i c = omega (arith, few c)
 pub overflow_add-start : goal.overflow_add-start
 overflow_add-start c = omega (arith, few c)
 
-pub is_listed-requires : goal.is_listed-requires
-is_listed-requires c = (c.field.ensures.below, c.requires.2.sized)
-
 pub returns : goal.returns
 returns c =
-    let start = (goal.at.returns c).Start in
-    let b = start.args.s.now in
-    let field = c.field.ensures.is ∙ ap (λ (at : ℕ). field_at b (at + 2 * start.args.i)) c.start.ensures.is in
-    ap not (c.is_listed.ensures ∙ ap (in_map start.args.map.now) field)
-    ∙ loose-map b start.requires.2 start.requires.0 start.args.i start.requires.1
+    let a = c.args in
+    let b = a.s.now in
+    let field = c.field.ensures.is ∙ ap (λ (at : ℕ). field_at b (at + 2 * a.i)) c.start.ensures.is in
+    ap not (c.is_listed.ensures ∙ ap (in_map a.map.now.bytes) field)
+    ∙ loose-map b c.requires.2 c.requires.0 a.i c.requires.1

@@ -1,49 +1,21 @@
-use mathlib.Core.Path.{sym, ◌∙◌}
-use mathlib.Core.List.{List}
+-- `loose_node` meets its contract: `any` tells whether some vertex is loose.
+use borrow.Author.Rules.{rules}
+use mathlib.Core.Path.{refl, ap, sym, ◌∙◌}
 use Prim.Native.Nat.{ℕ}
 use native.Mathlib.Omega.{arith}
-use Rattle.sheet_format.specs.Check.{count_field, sections_of, loose}
-use Rattle.checks.proofs.Scan.{passed_none, passed-more, passed-all, some-found}
-use Rattle.node_maps.proofs.EmptyMap.{empty-map}
+use Rattle.std.proofs.lemmas.Iterator.{YieldsList-from_range}
+use Rattle.sheet_format.specs.Check.{some, sections_of, loose}
+use Rattle.checks.proofs.Scan.{any-some}
 use Rattle.loose_nodes.proofs.LooseByMap.{loose_node-is, loose_node-none}
 use Rattle.loose_nodes.proofs.loose.loose_node.Goals as goal
-use Rattle.loose_nodes.proofs.loose.loose_node.Goals.{Start, At-loop-i}
-
--- where the function starts, and its sheet
-abbrev start : At-loop-i → Start
-start c = (goal.at.At-loop-i c).Start
-
-abbrev Sheet : At-loop-i → List ℕ
-Sheet c = (start c).args.s.now
 
 pub returns-then-count-eq0 : goal.returns-then-count-eq0
 returns-then-count-eq0 c = sym (loose_node-none c.args.s.now (sym c.count.ensures.is ∙ c.if-count-eq0.true))
 
-pub list_edges-requires : goal.list_edges-requires
-list_edges-requires c = empty-map
-
-pub loop-i-init : goal.loop-i-init
-loop-i-init c =
-    let b = c.args.s.now in passed_none (count_field b 0) (loose (sections_of b))
-
-pub is_loose-requires : goal.is_loose-requires
-is_loose-requires c =
-    let loop = (goal.at.is_loose-requires c).At-loop-i in
-    (omega (arith, loop.if-count-eq0.false), omega arith, loop.list_edges.ensures)
-
-pub returns-then-is_loose : goal.returns-then-is_loose
-returns-then-is_loose c =
-    let loop = (goal.at.returns-then-is_loose c).At-loop-i in
-    some-found (count_field (Sheet loop) 0) (loose (sections_of (Sheet loop))) loop.loop-i.i (omega arith) (sym c.is_loose.ensures ∙ c.if-is_loose.true)
-    ∙ loose_node-is (Sheet loop)
-
-pub loop-i-preserved : goal.loop-i-preserved
-loop-i-preserved c =
-    let loop = (goal.at.loop-i-preserved c).At-loop-i in
-    passed-more (count_field (Sheet loop) 0) (loose (sections_of (Sheet loop))) loop.loop-i.i loop.loop-i.invariant (omega arith)
-    (sym c.is_loose.ensures ∙ c.if-is_loose.false)
-
 pub returns : goal.returns
 returns c =
-    let loop = (goal.at.returns c).At-loop-i in
-    passed-all (count_field (Sheet loop) 0) (loose (sections_of (Sheet loop))) loop.loop-i.i loop.loop-i.invariant (omega arith) ∙ loose_node-is (Sheet loop)
+    let f = loose (sections_of c.args.s.now) in
+    let n = c.count-2.result in
+    any-some _ _ _ n f c.any.ensures.ran (YieldsList-from_range 0 n n refl (omega arith)) (λ x q k. search rules) (λ x q k. search rules)
+    ∙ ap (λ (m : ℕ). some m f) c.count-2.ensures.is
+    ∙ loose_node-is c.args.s.now

@@ -1,10 +1,10 @@
--- `line::negate` meets its contract. The invariant: the blocks passed have been negated. The measure is what is left of the line.
+-- `line::negate` meets its contract. The invariant: the blocks passed have been negated.
 use mathlib.Core.List.{List}
-use Prim.Native.Nat.{ℕ, ◌+◌, ◌-◌, ◌≤◌}
+use Prim.Native.Nat.{ℕ, ◌+◌, ◌*◌, ◌≤◌}
 use lib.ListN.{length}
 use lib.IntN.{ℤ, neg_ℤ}
 use Rattle.integers.specs.Slot.{slot}
-use Rattle.matrix_lines.specs.Slice.{LineSet}
+use Rattle.matrix_lines.specs.Slice.{block, LineSet}
 use Rattle.matrix_lines.proofs.line.negate.Given as goal
 
 abbrev pub negated : List ℤ → ℕ → ℕ → ℤ
@@ -15,8 +15,5 @@ pub record Invariant (w₀ : List ℤ) (start width before largest t : ℕ) (w :
   pub inside : start + width ≤ length w₀
   pub so_far : LineSet w₀ start t (negated w₀ start) before largest w
 
-abbrev pub invariant-loop-t : goal.invariant-loop-t
-invariant-loop-t l = Invariant l.initial.w l.at l.width l.before l.largest l.t l.w
-
-abbrev pub decreases-loop-t : goal.decreases-loop-t
-decreases-loop-t l = l.width - l.t
+abbrev pub invariant-loop-b : goal.invariant-loop-b
+invariant-loop-b l = Invariant l.initial.w l.at l.width l.before l.largest (l.b * block) l.w

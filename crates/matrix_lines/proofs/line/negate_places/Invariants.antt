@@ -1,6 +1,6 @@
--- `line::negate_places` meets its contract. The invariant: the places passed hold the negated entries. The measure is what is left of the line.
+-- `line::negate_places` meets its contract. The invariant: the places passed hold the negated entries.
 use mathlib.Core.List.{List}
-use Prim.Native.Nat.{ℕ, ◌+◌, ◌-◌, ◌≤◌}
+use Prim.Native.Nat.{ℕ, ◌+◌, ◌≤◌}
 use lib.ListN.{length}
 use lib.IntN.{ℤ, neg_ℤ}
 use Rattle.integers.specs.Slot.{slot}
@@ -17,6 +17,3 @@ pub record Invariant (w₀ : List ℤ) (start width before largest t : ℕ) (w :
 
 abbrev pub invariant-loop-t : goal.invariant-loop-t
 invariant-loop-t l = Invariant l.initial.w l.at l.width l.before l.largest l.t l.w
-
-abbrev pub decreases-loop-t : goal.decreases-loop-t
-decreases-loop-t l = l.width - l.t

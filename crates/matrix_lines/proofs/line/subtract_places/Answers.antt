@@ -1,22 +1,22 @@
 use mathlib.Core.Path.{◌≡◌, sym, subst, ◌∙◌}
 use mathlib.Core.Logic.{inl, inr, ⊎_elim}
 use mathlib.Core.List.{List}
-use Prim.Native.Nat.{ℕ, ◌+◌, ◌^◌, ◌<◌, ◌≤◌}
+use Prim.Native.Nat.{ℕ, ◌+◌, ◌<◌, ◌≤◌}
 use native.Mathlib.Omega.{arith}
 use lib.ListN.{set}
 use lib.IntN.{ℤ, nat_abs}
 use mir.Syntax.{w32, w64}
 use mir.Val.{SFits}
+use Rattle.std.specs.Prelude.{Err}
 use Rattle.integers.specs.Slot.{slot}
 use Rattle.matrix_lines.specs.Slice.{entry_limit, LineSet, Beyond, difference}
-use Rattle.matrix_lines.specs.declared.line.Effect.TheVariants.{Done, TooWide}
 use Rattle.matrix_lines.proofs.Peaks.{Raised, raised_by, raised-small}
 use Rattle.matrix_lines.proofs.Store.{line_set-more}
-use Rattle.matrix_lines.proofs.Blocks.{Partly, begun, ended, factor-read}
-use Rattle.machine_words.specs.Read.{read, read-entry, entry-fits, cast_fits}
-use Rattle.machine_words.proofs.Product.{product, less, product-fits, less-fits, read-less, less-small}
+use Rattle.matrix_lines.proofs.Blocks.{Partly, factor-read}
+use Rattle.machine_words.specs.Read.{read, read-entry}
+use Rattle.machine_words.proofs.Product.{product, less, product-fits, less-fits, read-less}
 use Rattle.matrix_lines.proofs.line.subtract_places.Goals as goal
-use Rattle.matrix_lines.proofs.line.subtract_places.Goals.{At-loop-t, After-absolute-size, Joined-largest-size, else-largest-size, then-largest-size+else-size}
+use Rattle.matrix_lines.proofs.line.subtract_places.Goals.{At-loop-t, After-unsigned_abs-size, Joined-largest-size, else-largest-size, then-largest-size+else-size}
 
 -- ---- a turn of the loop
 
@@ -34,12 +34,6 @@ module _ {w₀ : List ℤ} {target source width : ℕ} {q : ℤ} {before t x : �
   source-same : slot w (source + t) ≡ slot w₀ (source + t)
   source-same = inv.so_far.off (source + t) (⊎_elim (λ l. inr (omega arith)) (λ l. inl (omega arith)) inv.apart)
 
-  cast-target : SFits w64 (read w32 (slot w (target + t)))
-  cast-target = cast_fits (slot w (target + t)) (entry-fits (slot w (target + t)) target_small)
-
-  cast-source : SFits w64 (read w32 (slot w (source + t)))
-  cast-source = cast_fits (slot w (source + t)) (entry-fits (slot w (source + t)) source-small)
-
   product-word : SFits w64 (product q (slot w (source + t)))
   product-word = product-fits (slot w (target + t)) q (slot w (source + t)) target_small inv.factor source-small
 
@@ -54,9 +48,6 @@ module _ {w₀ : List ℤ} {target source width : ℕ} {q : ℤ} {before t x : �
   computed-is =
       read-less (slot w (target + t)) q (slot w (source + t)) target_small inv.factor source-small
       ∙ rw (target-same, source-same)
-
-  computed-small : nat_abs computed < 2 ^ 63
-  computed-small = less-small (slot w (target + t)) q (slot w (source + t)) target_small inv.factor source-small
 
   too_wide : entry_limit < nat_abs computed → Beyond w₀ width (difference w₀ target source q) w
   too_wide l = record {
@@ -78,29 +69,17 @@ module _ {w₀ : List ℤ} {target source width : ℕ} {q : ℤ} {before t x : �
         (line_set-more w₀ w target t (difference w₀ target source q) (omega arith) inv.so_far (subst (λ (z : ℤ). Raised x z n) computed-is raised));
   }
 
-pub loop-t-init : goal.loop-t-init
-loop-t-init c = begun c.args.q c.requires.width_in_bounds c.requires.apart c.requires.bounded c.requires.q_bound
-
-pub overflow_cast-x : goal.overflow_cast-x
-overflow_cast-x c = cast-target c.loop-t.invariant c.loop-t-test.true
-
-pub overflow_cast-y : goal.overflow_cast-y
-overflow_cast-y c = cast-source c.loop-t.invariant c.loop-t-test.true
-
 pub overflow_mul-v : goal.overflow_mul-v
 overflow_mul-v c = product-word c.loop-t.invariant c.loop-t-test.true
 
 pub overflow_sub-v : goal.overflow_sub-v
 overflow_sub-v c = less-word c.loop-t.invariant c.loop-t-test.true
 
-pub absolute-size-requires : goal.absolute-size-requires
-absolute-size-requires c = computed-small c.loop-t.invariant c.loop-t-test.true
-
 -- ---- after the difference is computed
 
-module _ (c : After-absolute-size) where
+module _ (c : After-unsigned_abs-size) where
   abbrev head : At-loop-t
-  head = (goal.at.After-absolute-size c).At-loop-t
+  head = (goal.at.After-unsigned_abs-size c).At-loop-t
 
   more : head.loop-t.t < head.args.width
   more = c.loop-t-test.true
@@ -110,23 +89,14 @@ module _ (c : After-absolute-size) where
 
 pub returns-then-size : goal.returns-then-size
 returns-then-size c =
-    let at = (goal.at.returns-then-size c).After-absolute-size in let args = (head at).args in
-    factor-read args.w.now args.target args.source args.width args.q (head at).requires.q_bound args.before TooWide (head at).loop-t.w
-    (too_wide (head at).loop-t.invariant (more at) (omega (arith, c.if-size.true, at.absolute-size.ensures)))
+    let at = (goal.at.returns-then-size c).After-unsigned_abs-size in let args = (head at).args in
+    factor-read args.w.now args.target args.source args.width args.q (head at).requires.q_bound args.before (Err _) (head at).loop-t.w
+    (too_wide (head at).loop-t.invariant (more at) (omega (arith, c.if-size.true, at.unsigned_abs-size.ensures.value)))
 
-raised : (c : Joined-largest-size) → Raised (head (goal.at.Joined-largest-size c).After-absolute-size).loop-t.largest (value (goal.at.Joined-largest-size c).After-absolute-size) c.if-largest-size.largest
+raised : (c : Joined-largest-size) → Raised (head (goal.at.Joined-largest-size c).After-unsigned_abs-size).loop-t.largest (value (goal.at.Joined-largest-size c).After-unsigned_abs-size) c.if-largest-size.largest
 raised c =
-    raised_by (value (goal.at.Joined-largest-size c).After-absolute-size) c.absolute-size.ensures (head (goal.at.Joined-largest-size c).After-absolute-size).loop-t.invariant.so_far.bounded.limit
+    raised_by (value (goal.at.Joined-largest-size c).After-unsigned_abs-size) c.unsigned_abs-size.ensures.value (head (goal.at.Joined-largest-size c).After-unsigned_abs-size).loop-t.invariant.so_far.bounded.limit
     (elim c.if-largest-size.branch [ then-largest-size+else-size h ↦ inl (h.if-largest-size.true, h.if-size.false, h.largest-is) | else-largest-size h ↦ inr (h.if-largest-size.false, h.largest-is) ])
 
-pub overflow_cast-w : goal.overflow_cast-w
-overflow_cast-w c = entry-fits (value (goal.at.overflow_cast-w c).After-absolute-size) (raised-small (raised c))
-
 pub loop-t-preserved : goal.loop-t-preserved
-loop-t-preserved c = again (head (goal.at.loop-t-preserved c).After-absolute-size).loop-t.invariant (more (goal.at.loop-t-preserved c).After-absolute-size) (raised c)
-
-pub returns : goal.returns
-returns c =
-    let args = c.args in let loop = c.loop-t in
-    factor-read args.w.now args.target args.source args.width args.q c.requires.q_bound args.before (Done loop.largest) loop.w
-    (ended loop.invariant c.loop-t-test.false)
+loop-t-preserved c = again (head (goal.at.loop-t-preserved c).After-unsigned_abs-size).loop-t.invariant (more (goal.at.loop-t-preserved c).After-unsigned_abs-size) (raised c)

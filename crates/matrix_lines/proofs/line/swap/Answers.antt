@@ -1,76 +1,41 @@
-use mathlib.Core.Path.{◌≡◌, subst}
-use mathlib.Core.Logic.{◌⊎◌}
+use mathlib.Core.Path.{subst}
 use mathlib.Core.List.{List}
-use Prim.Native.Nat.{ℕ, ◌+◌, ◌-◌, ◌≤◌}
+use Prim.Native.Nat.{ℕ, ◌+◌, ◌-◌, ◌*◌, ◌/◌, ◌≤◌}
 use native.Mathlib.Omega.{arith}
-use lib.ListN.{length}
+use native.Mathlib.Nat as NatL
 use lib.IntN.{ℤ}
-use Rattle.matrix_lines.specs.Slice.{block, Apart, LinesSwapped}
-use Rattle.matrix_lines.proofs.Store.{swapped-none}
-use Rattle.matrix_lines.proofs.Parts.{swapped-part, part-one-or-apart}
+use Rattle.matrix_lines.specs.Slice.{block, LinesSwapped}
+use Rattle.matrix_lines.proofs.Parts.{swapped-part}
+use Rattle.matrix_lines.proofs.line.swap.Invariants.{Invariant}
 use Rattle.matrix_lines.proofs.line.swap.Goals as goal
-use Rattle.matrix_lines.proofs.line.swap.Goals.{At-loop-t, After-swap_block-largest}
-
-pub loop-t-init : goal.loop-t-init
-loop-t-init c = record {
-  below = omega arith;
-  first-inside = c.requires.width_in_bounds.0;
-  second-inside = c.requires.width_in_bounds.1;
-  apart = c.requires.fact;
-  swapped = swapped-none c.args.w.now c.args.first c.args.second c.requires.bounded;
-}
 
 -- the next n places: what a call on them asks, and what it came to
-module _ (c : At-loop-t) (n : ℕ) (inside : c.loop-t.t + n ≤ c.args.width) where
-  part-inside : (c.args.first + c.loop-t.t + n ≤ length c.loop-t.w) × (c.args.second + c.loop-t.t + n ≤ length c.loop-t.w)
-  part-inside = (
-    omega (arith, c.loop-t.invariant.first-inside, c.loop-t.invariant.swapped.same_length),
-    omega (arith, c.loop-t.invariant.second-inside, c.loop-t.invariant.swapped.same_length),
-  )
+module _ {w₀ : List ℤ} {first second width before largest t : ℕ} {w : List ℤ} (inv : Invariant w₀ first second width before largest t w) (n : ℕ)
+    (inside : t + n ≤ width) where
+  part-done : {y : ℕ} {w' : List ℤ} → LinesSwapped w (first + t) (second + t) n largest y w' → LinesSwapped w₀ first second (t + n) before y w'
+  part-done = swapped-part w₀ w first second width t n inside inv.apart inv.swapped
 
-  part_apart : (c.args.first + c.loop-t.t ≡ c.args.second + c.loop-t.t) ⊎ Apart (c.args.first + c.loop-t.t) (c.args.second + c.loop-t.t) n
-  part_apart = part-one-or-apart c.args.w.now c.loop-t.w c.args.first c.args.second c.args.width c.loop-t.t n inside c.loop-t.invariant.apart c.loop-t.invariant.swapped
-
-  part-done : {y : ℕ} {w' : List ℤ} → LinesSwapped c.loop-t.w (c.args.first + c.loop-t.t) (c.args.second + c.loop-t.t) n c.loop-t.largest y w'
-      → LinesSwapped c.args.w.now c.args.first c.args.second (c.loop-t.t + n) c.args.before y w'
-  part-done = swapped-part c.args.w.now c.loop-t.w c.args.first c.args.second c.args.width c.loop-t.t n inside c.loop-t.invariant.apart c.loop-t.invariant.swapped
-
-pub overflow_add-t : goal.overflow_add-t
-overflow_add-t c = omega (arith, c.loop-t.invariant.below)
-
-pub swap_block-largest-requires : goal.swap_block-largest-requires
-swap_block-largest-requires c =
-    let loop = (goal.at.swap_block-largest-requires c).At-loop-t in let inside = c.loop-t-test.true in
-    record { block_in_bounds = part-inside loop block inside; fact = part_apart loop block inside; bounded = loop.loop-t.invariant.swapped.bounded }
-
-pub loop-t-preserved : goal.loop-t-preserved
-loop-t-preserved c =
-    let called = (goal.at.loop-t-preserved c).After-swap_block-largest in let loop = (goal.at.After-swap_block-largest called).At-loop-t in let inv = loop.loop-t.invariant in
+pub loop-b-preserved : goal.loop-b-preserved
+loop-b-preserved c =
+    let inv = c.loop-b.invariant in let args = c.args in let called = c.swap_block-largest in
     record {
-      below = omega (arith, called.loop-t-test.true);
+      below = omega arith;
       first-inside = inv.first-inside;
       second-inside = inv.second-inside;
       apart = inv.apart;
-      swapped = part-done loop block called.loop-t-test.true called.swap_block-largest.ensures;
+      swapped = subst (λ (n : ℕ). LinesSwapped args.w.now args.first args.second n args.before called.result called.new.w) (omega arith)
+          (part-done inv block (omega arith) called.ensures);
     }
 
--- what is left of the lines
-abbrev rest : At-loop-t → ℕ
-rest c = c.args.width - c.loop-t.t
-
-rest-is : (c : At-loop-t) → c.loop-t.t + rest c ≡ c.args.width
-rest-is c = omega (arith, c.loop-t.invariant.below)
-
-rest-inside : (c : At-loop-t) → c.loop-t.t + rest c ≤ c.args.width
-rest-inside c = omega (arith, c.loop-t.invariant.below)
-
-pub swap_places-requires : goal.swap_places-requires
-swap_places-requires c =
-    let loop = (goal.at.swap_places-requires c).At-loop-t in
-    record { width_in_bounds = part-inside loop (rest loop) (rest-inside loop); fact = part_apart loop (rest loop) (rest-inside loop); bounded = loop.loop-t.invariant.swapped.bounded }
+-- after the last block
+whole :
+    {w₀ : List ℤ} {first second width before largest b : ℕ} {w : List ℤ} → Invariant w₀ first second width before largest (b * block) w
+    → b ≤ width / block → width / block ≤ b → Invariant w₀ first second width before largest (width / block * block) w
+whole {w₀} {first} {second} {width} {before} {largest} {b} {w} inv l h =
+    subst (λ (n : ℕ). Invariant w₀ first second width before largest (n * block) w) (NatL.le_antisymm l h) inv
 
 pub returns : goal.returns
 returns c =
-    let called = c.swap_places in let loop = (goal.at.returns c).At-loop-t in let args = loop.args in
-    subst (λ (n : ℕ). LinesSwapped args.w.now args.first args.second n args.before called.result called.new.w) (rest-is loop)
-    (part-done loop (rest loop) (rest-inside loop) called.ensures)
+    let inv = whole c.loop-b.invariant c.loop-b.auto.b-end c.loop-b-test.false in let called = c.swap_places in let args = c.args in
+    subst (λ (n : ℕ). LinesSwapped args.w.now args.first args.second n args.before called.result called.new.w) (omega arith)
+    (part-done inv (args.width - args.width / block * block) (omega arith) called.ensures)

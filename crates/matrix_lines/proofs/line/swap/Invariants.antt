@@ -1,11 +1,11 @@
--- `line::swap` meets its contract. The invariant: the blocks passed have been exchanged. The measure is what is left of the lines.
+-- `line::swap` meets its contract. The invariant: the blocks passed have been exchanged.
 use mathlib.Core.Path.{◌≡◌}
 use mathlib.Core.Logic.{◌⊎◌}
 use mathlib.Core.List.{List}
-use Prim.Native.Nat.{ℕ, ◌+◌, ◌-◌, ◌≤◌}
+use Prim.Native.Nat.{ℕ, ◌+◌, ◌*◌, ◌≤◌}
 use lib.ListN.{length}
 use lib.IntN.{ℤ}
-use Rattle.matrix_lines.specs.Slice.{Apart, LinesSwapped}
+use Rattle.matrix_lines.specs.Slice.{block, Apart, LinesSwapped}
 use Rattle.matrix_lines.proofs.line.swap.Given as goal
 
 pub record Invariant (w₀ : List ℤ) (first second width before largest t : ℕ) (w : List ℤ) : Type 0 where
@@ -15,8 +15,5 @@ pub record Invariant (w₀ : List ℤ) (first second width before largest t : �
   pub apart : (first ≡ second) ⊎ Apart first second width
   pub swapped : LinesSwapped w₀ first second t before largest w
 
-abbrev pub invariant-loop-t : goal.invariant-loop-t
-invariant-loop-t l = Invariant l.initial.w l.first l.second l.width l.before l.largest l.t l.w
-
-abbrev pub decreases-loop-t : goal.decreases-loop-t
-decreases-loop-t l = l.width - l.t
+abbrev pub invariant-loop-b : goal.invariant-loop-b
+invariant-loop-b l = Invariant l.initial.w l.first l.second l.width l.before l.largest (l.b * block) l.w

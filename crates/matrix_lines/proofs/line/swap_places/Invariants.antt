@@ -1,8 +1,8 @@
--- `line::swap_places` meets its contract. The invariant: the places passed have been exchanged. The measure is what is left of the lines.
+-- `line::swap_places` meets its contract. The invariant: the places passed have been exchanged.
 use mathlib.Core.Path.{◌≡◌}
 use mathlib.Core.Logic.{◌⊎◌}
 use mathlib.Core.List.{List}
-use Prim.Native.Nat.{ℕ, ◌+◌, ◌-◌, ◌≤◌}
+use Prim.Native.Nat.{ℕ, ◌+◌, ◌≤◌}
 use lib.ListN.{length}
 use lib.IntN.{ℤ}
 use Rattle.matrix_lines.specs.Slice.{Apart, LinesSwapped}
@@ -17,6 +17,3 @@ pub record Invariant (w₀ : List ℤ) (first second width before largest t : �
 
 abbrev pub invariant-loop-t : goal.invariant-loop-t
 invariant-loop-t l = Invariant l.initial.w l.first l.second l.width l.before l.largest l.t l.w
-
-abbrev pub decreases-loop-t : goal.decreases-loop-t
-decreases-loop-t l = l.width - l.t

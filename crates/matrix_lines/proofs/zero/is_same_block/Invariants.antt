@@ -2,7 +2,7 @@
 use mathlib.Core.Path.{◌≡◌}
 use mathlib.Core.Bool.{Bool, false}
 use mathlib.Core.List.{List}
-use Prim.Native.Nat.{ℕ, ◌+◌, ◌-◌, ◌<◌, ◌≤◌}
+use Prim.Native.Nat.{ℕ, ◌+◌, ◌<◌, ◌≤◌}
 use lib.IntN.{ℤ}
 use Rattle.integers.specs.Slot.{slot}
 use Rattle.matrix_lines.specs.Slice.{block}
@@ -14,6 +14,3 @@ pub record Invariant (w : List ℤ) (a b : ℕ) (differ : Bool) (t : ℕ) : Type
 
 abbrev pub invariant-loop-t : goal.invariant-loop-t
 invariant-loop-t l = Invariant l.w l.first l.second l.differ l.t
-
-abbrev pub decreases-loop-t : goal.decreases-loop-t
-decreases-loop-t l = block - l.t

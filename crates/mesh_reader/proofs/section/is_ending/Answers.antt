@@ -1,15 +1,16 @@
--- `section::is_ending` meets its contract: the lengths agree, and so do `$End` and the name.
-use Rattle.mesh_reader.proofs.Closing.{ending-sized, ending-name, ending-other}
+-- `is_ending` meets its contract: the word begins with `$End`, and the name stands behind it.
+use Rattle.std.proofs.Common.{rules, ◌≡◌}
+use mathlib.Core.Path.{◌∙◌}
+use lib.Dec.{eqb}
+use Rattle.std.specs.Cmp.Lexicographic.{pointwise}
+use Rattle.mesh_words.proofs.Bytes.{same_is}
+use Rattle.mesh_reader.proofs.Closing.{by-cases, ending-found, ending-other}
 use Rattle.mesh_reader.proofs.section.is_ending.Goals as goal
 
-pub returns-then-to-from : goal.returns-then-to-from
-returns-then-to-from c = ending-sized c.args.text.now c.args.from c.args.to c.requires c.args.name.now c.if-to-from.true
-
-pub returns-then-is_word : goal.returns-then-is_word
-returns-then-is_word c =
-    ending-name c.args.text.now c.args.from c.args.to c.requires c.args.name.now c.if-to-from.false c.is_word.ensures c.if-is_word.true
-    c.is_word-then-is_word.ensures
-
-pub returns-else-is_word : goal.returns-else-is_word
-returns-else-is_word c =
-    ending-other c.args.text.now c.args.from c.args.to c.requires c.args.name.now c.if-to-from.false c.is_word.ensures c.if-is_word.false
+pub returns : goal.returns
+returns c =
+    by-cases c.strip_prefix.result _ _ c.is_some_and.ensures c.strip_prefix.ensures.cases
+    (λ f e. f ∙ ending-other c.args.word.now c.args.name.now e)
+    (λ rest p h.
+    let told : c.is_some_and.result ≡ pointwise eqb rest.now c.args.name.now = search rules in
+    told ∙ same_is _ _ ∙ ending-found c.args.word.now c.args.name.now h.0 h.1)

@@ -1,30 +1,30 @@
-use mathlib.Core.Path.{refl}
+use mathlib.Core.Path.{refl, ◌∙◌}
 use native.Mathlib.Omega.{arith}
-use Rattle.mesh_words.proofs.Told.{skipped-fails, skipped-goes}
-use Rattle.mesh_reader.proofs.Closing.{closing-none, closing-found, closing-next}
+use Rattle.mesh_words.specs.Steps.{fed_line}
+use Rattle.mesh_words.proofs.Steps.{from, failed-from}
+use Rattle.mesh_words.proofs.Told.{read-none, read-moved, skipped-fails, skipped-goes}
+use Rattle.mesh_reader.proofs.Closing.{fed-within, closing-none, closing-found, closing-next}
 use Rattle.mesh_reader.proofs.section.pass_section.Goals as goal
-use Rattle.mesh_reader.proofs.section.pass_section.Goals.{In-loop-end, After-closes}
 
-pub loop-end-init : goal.loop-end-init
-loop-end-init c = record { same = refl; ends = c.run_end-end.ensures }
-
-pub closes-requires : goal.closes-requires
-closes-requires c = (omega (arith, c.loop-end.invariant.ends), omega arith)
+pub loop-line-init : goal.loop-line-init
+loop-line-init c = (refl, refl)
 
 pub returns-then-closes : goal.returns-then-closes
 returns-then-closes c =
-    let line = (goal.at.returns-then-closes c).After-closes in let turn = (goal.at.After-closes line).In-loop-end in
-    skipped-goes (closing-found turn.loop-end.invariant turn.loop-end-test.true line.closes.ensures c.if-closes.true)
+    let inv = c.loop-line.invariant in let m = from fed_line c.args.r inv.1 (read-moved _ c.in-Some.ensures) in
+    skipped-goes _ (record { is = inv.0 ∙ closing-found _ _ _ m.is c.closes.ensures c.if-closes.true; same = m.same })
 
-pub loop-end-smaller : goal.loop-end-smaller
-loop-end-smaller c = omega (arith, c.run_end-end-in-loop-end.ensures)
+pub loop-line-smaller : goal.loop-line-smaller
+loop-line-smaller c =
+    let m = from fed_line c.args.r c.loop-line.invariant.1 (read-moved _ c.in-Some.ensures) in let ends = fed-within _ _ m.is in
+    omega (arith, ends.0, ends.1)
 
-pub loop-end-preserved : goal.loop-end-preserved
-loop-end-preserved c =
-    let line = (goal.at.loop-end-preserved c).After-closes in let turn = (goal.at.After-closes line).In-loop-end in record {
-      same = closing-next turn.loop-end.invariant turn.loop-end-test.true line.closes.ensures c.if-closes.false;
-      ends = c.run_end-end-in-loop-end.ensures;
-    }
+pub loop-line-preserved : goal.loop-line-preserved
+loop-line-preserved c =
+    let inv = c.loop-line.invariant in let m = from fed_line c.args.r inv.1 (read-moved _ c.in-Some.ensures) in
+    (inv.0 ∙ closing-next _ _ _ m.is c.closes.ensures c.if-closes.false, m.same)
 
 pub returns : goal.returns
-returns c = skipped-fails (closing-none c.loop-end.invariant c.loop-end-test.false)
+returns c =
+    let inv = c.loop-line.invariant in
+    skipped-fails _ (inv.0 ∙ closing-none _ _ _ (failed-from fed_line c.args.r inv.1 (read-none _ c.in_default.ensures)))

@@ -1,25 +1,26 @@
--- `title::the_title` meets its contract: a line of one word is read, and the word compared.
-use Rattle.mesh_format.specs.Parse.{title_line}
+-- `the_title` meets its contract: a line of one word is read, and the word compared.
+use mathlib.Core.Path.{◌≡◌, sym, ◌∙◌}
+use mathlib.Core.Bool.{true, false}
+use Rattle.mesh_format.specs.Parse.{same_word, title_line}
+use Rattle.mesh_words.proofs.Bytes.{same_is}
 use Rattle.mesh_words.proofs.Steps.{fails, goes}
-use Rattle.mesh_words.proofs.Told.{skipped-fails, skipped-goes}
-use Rattle.mesh_lines.proofs.Told.{title-malformed, title-read}
+use Rattle.mesh_words.proofs.Told.{read-none, read-moved, skipped-fails, skipped-goes}
 use Rattle.mesh_reader.proofs.title.the_title.Goals as goal
-use Rattle.mesh_reader.proofs.title.the_title.Goals.{In-Read, After-is_word}
 
-pub returns-in_default : goal.returns-in_default
+pub returns-in_err-word : goal.returns-in_err-word
 unfolding title_line
-returns-in_default c = skipped-fails (fails _ (title-malformed _ c.read_title.ensures c.in_default.is))
+returns-in_err-word c = c.from_residual.ensures ∙ skipped-fails _ (fails _ (read-none _ c.in_err-word.ensures))
 
-pub returns-then-is_word : goal.returns-then-is_word
+pub returns-then-eq : goal.returns-then-eq
 unfolding title_line
-returns-then-is_word c =
-    let compared = (goal.at.returns-then-is_word c).After-is_word in let read = (goal.at.After-is_word compared).In-Read in
-    skipped-goes (goes _ (title-read _ _ read.read_title.ensures read.in-Read.is)
-    (rw (← compared.is_word.ensures, c.if-is_word.true)))
+returns-then-eq c =
+    let m = read-moved _ c.in_ok-word.ensures in
+    let same : same_word c.in_ok-word.word.now c.args.w.now ≡ true = sym (same_is _ _) ∙ sym c.eq.ensures ∙ c.if-eq.true in
+    skipped-goes _ (record { is = goes _ m.is (rw same); same = m.same })
 
-pub returns-else-is_word : goal.returns-else-is_word
+pub returns-else-eq : goal.returns-else-eq
 unfolding title_line
-returns-else-is_word c =
-    let compared = (goal.at.returns-else-is_word c).After-is_word in let read = (goal.at.After-is_word compared).In-Read in
-    skipped-fails (goes _ (title-read _ _ read.read_title.ensures read.in-Read.is)
-    (rw (← compared.is_word.ensures, c.if-is_word.false)))
+returns-else-eq c =
+    let m = read-moved _ c.in_ok-word.ensures in
+    let same : same_word c.in_ok-word.word.now c.args.w.now ≡ false = sym (same_is _ _) ∙ sym c.eq.ensures ∙ c.if-eq.false in
+    skipped-fails _ (goes _ m.is (rw same))

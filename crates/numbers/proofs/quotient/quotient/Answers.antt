@@ -1,8 +1,7 @@
 -- `quotient::quotient` meets its contract: `floor` of 0 is 0, and by 1 the number itself.
 use mathlib.Core.Path.{sym, ap, ap₂, subst, ◌∙◌}
 use Prim.Native.Nat.{◌≤◌, zero-le}
-use lib.IntN.{ℤ, pos, nat_abs}
-use lib.Signed.{◌<ℤ◌}
+use lib.IntN.{ℤ, nat_abs}
 use mir.Syntax.{w64}
 use mir.Facts.{to_z-of_z}
 use Rattle.limits.specs.Limits.{entry_limit}
@@ -25,10 +24,6 @@ returns-then-d-eq1 c =
       same ∙ sym (ap (λ (d : ℤ). floor s.args.x d) (of-bits s.ranges.d c.if-d-eq1.true) ∙ floor-one s.args.x),
       subst (λ (x : ℤ). nat_abs x ≤ entry_limit) (sym same) s.requires.1,
     )
-
-pub floor-requires : goal.floor-requires
-floor-requires c =
-    let s = (goal.at.floor-requires c).Start in subst (λ (d : ℤ). pos 0 <ℤ d) (sym (to_z-of_z s.ranges.d)) s.requires.0
 
 pub returns : goal.returns
 returns c =

@@ -1,5 +1,6 @@
 -- `residue::residue` meets its contract: twice the remainder exceeds d exactly when the remainder exceeds what it lacks of d.
-use mathlib.Core.Path.{◌≡◌, sym, ap, ap₂, subst, ◌∙◌}
+use mathlib.Core.Path.{◌≡◌, sym, ap, ap₂, ◌∙◌}
+use mathlib.Core.Bool.{true, false}
 use lib.IntN.{ℤ, pos, ◌-ℤ◌}
 use lib.Signed.{◌<ℤ◌, lt_z, lt_z_yes, lt_z_no}
 use mir.Syntax.{w64}
@@ -7,10 +8,45 @@ use mir.Val.{SFits}
 use mir.Facts.{to_z-of_z}
 use Rattle.integers.proofs.Residue.{residue-zero}
 use Rattle.integers.proofs.ResidueRemainder.{residue-lowered, residue-kept, nat_abs-lack, nat_abs-lowered}
+use Rattle.std.specs.Int.{int_rem_euclid}
 use Rattle.integers.specs.Division.{modulo, residue}
 use Rattle.machine_words.specs.Read.{read, fits_below, zero-of-bits, positive-of-bits}
+use Rattle.numbers.proofs.Euclid.{modulo-euclid}
 use Rattle.numbers.proofs.residue.residue.Goals as goal
-use Rattle.numbers.proofs.residue.residue.Goals.{Start, After-modulo-r}
+use Rattle.numbers.proofs.residue.residue.Goals.{After-rem_euclid-r}
+
+-- a number r that the machine reads as the remainder: what it lacks of the divisor, and it less the divisor
+module _ (x d r : ℤ) (d-fits : SFits w64 d) (positive : pos 0 <ℤ d) (is : read w64 r ≡ modulo x d) where
+  abbrev lack : ℤ
+  lack = read w64 d -ℤ read w64 r
+
+  abbrev lowered : ℤ
+  lowered = read w64 r -ℤ read w64 d
+
+  divisor-is : read w64 d ≡ d
+  divisor-is = to_z-of_z d-fits
+
+  lack-is : lack ≡ d -ℤ modulo x d
+  lack-is = ap₂ ◌-ℤ◌ divisor-is is
+
+  lack-fits : SFits w64 lack
+  lack-fits = rw lack-is (fits_below d (d -ℤ modulo x d) positive d-fits (nat_abs-lack x d positive))
+
+  lowered_is : lowered ≡ modulo x d -ℤ d
+  lowered_is = ap₂ ◌-ℤ◌ is divisor-is
+
+  lowered-fits : SFits w64 lowered
+  lowered-fits = rw lowered_is (fits_below d (modulo x d -ℤ d) positive d-fits (nat_abs-lowered x d positive))
+
+  -- the test compares what is lacking with the remainder
+  test-is : lt_z (read w64 lack) (read w64 r) ≡ lt_z (d -ℤ modulo x d) (modulo x d)
+  test-is = ap₂ lt_z (to_z-of_z lack-fits ∙ lack-is) is
+
+  lowered-residue : lt_z (read w64 lack) (read w64 r) ≡ true → read w64 lowered ≡ residue x d
+  lowered-residue t = to_z-of_z lowered-fits ∙ lowered_is ∙ sym (residue-lowered x d (lt_z_yes (rw (sym test-is ∙ t) tt)))
+
+  kept-residue : lt_z (read w64 lack) (read w64 r) ≡ false → read w64 r ≡ residue x d
+  kept-residue t = is ∙ sym (residue-kept x d (lt_z_no (rw (sym test-is ∙ t) tt)))
 
 pub returns-then-d-eq0 : goal.returns-then-d-eq0
 returns-then-d-eq0 c =
@@ -18,62 +54,24 @@ returns-then-d-eq0 c =
     to_z-of_z c.ranges.x
     ∙ sym (ap (λ (k : ℤ). residue x k) (zero-of-bits c.ranges.d c.if-d-eq0.true) ∙ residue-zero x)
 
-pub modulo-r-requires : goal.modulo-r-requires
-modulo-r-requires c =
-    let start = (goal.at.modulo-r-requires c).Start in
-    subst (λ (d : ℤ). pos 0 <ℤ d) (sym (to_z-of_z start.ranges.d)) (positive-of-bits start.args.d start.requires c.if-d-eq0.false)
+module _ (c : After-rem_euclid-r) where
+  abbrev remainder : ℤ
+  remainder = c.rem_euclid-r.result
 
--- after the call, what the machine reads: the divisor, the remainder, what the remainder lacks of the divisor, and the remainder less the divisor
-module _ (c : After-modulo-r) where
-  abbrev x : ℤ
-  x = c.args.x
+  positive : pos 0 <ℤ c.args.d
+  positive = positive-of-bits c.args.d c.requires c.if-d-eq0.false
 
-  abbrev d : ℤ
-  d = c.args.d
-
-  abbrev lack : ℤ
-  lack = read w64 d -ℤ read w64 c.modulo-r.result
-
-  abbrev lowered : ℤ
-  lowered = read w64 c.modulo-r.result -ℤ read w64 d
-
-  positive : pos 0 <ℤ d
-  positive = positive-of-bits d c.requires c.if-d-eq0.false
-
-  divisor-is : read w64 d ≡ d
-  divisor-is = to_z-of_z c.ranges.d
-
-  remainder_is : read w64 c.modulo-r.result ≡ modulo x d
-  remainder_is = to_z-of_z {w = w64} {z = c.modulo-r.result} (record { sfits = c.modulo-r.type_inv }) ∙ c.modulo-r.ensures ∙ ap₂ modulo (to_z-of_z c.ranges.x) divisor-is
-
-  lack-is : lack ≡ d -ℤ modulo x d
-  lack-is = ap₂ ◌-ℤ◌ divisor-is remainder_is
-
-  lack-fits : SFits w64 lack
-  lack-fits = rw lack-is (fits_below d (d -ℤ modulo x d) positive c.ranges.d (nat_abs-lack x d positive))
-
-  lowered_is : lowered ≡ modulo x d -ℤ d
-  lowered_is = ap₂ ◌-ℤ◌ remainder_is divisor-is
-
-  lowered-fits : SFits w64 lowered
-  lowered-fits = rw lowered_is (fits_below d (modulo x d -ℤ d) positive c.ranges.d (nat_abs-lowered x d positive))
-
-  -- the test compares what is lacking with the remainder
-  test-is : lt_z (read w64 lack) (read w64 c.modulo-r.result) ≡ lt_z (d -ℤ modulo x d) (modulo x d)
-  test-is = ap₂ lt_z (to_z-of_z lack-fits ∙ lack-is) remainder_is
-
-pub overflow_sub-d : goal.overflow_sub-d
-overflow_sub-d c = lack-fits c
-
-pub overflow_sub-result : goal.overflow_sub-result
-overflow_sub-result c = lowered-fits (goal.at.overflow_sub-result c).After-modulo-r
+  remainder-is : read w64 remainder ≡ modulo c.args.x c.args.d
+  remainder-is =
+      to_z-of_z {w = w64} {z = remainder} (record { sfits = c.rem_euclid-r.type_inv })
+      ∙ c.rem_euclid-r.ensures.value
+      ∙ ap₂ int_rem_euclid (to_z-of_z c.ranges.x) (to_z-of_z c.ranges.d)
+      ∙ modulo-euclid c.args.x c.args.d positive
 
 pub returns-then-r-d : goal.returns-then-r-d
 returns-then-r-d c =
-    to_z-of_z (lowered-fits (goal.at.returns-then-r-d c).After-modulo-r) ∙ lowered_is (goal.at.returns-then-r-d c).After-modulo-r
-    ∙ sym (residue-lowered (x (goal.at.returns-then-r-d c).After-modulo-r) (d (goal.at.returns-then-r-d c).After-modulo-r) (lt_z_yes (rw (sym (test-is (goal.at.returns-then-r-d c).After-modulo-r) ∙ c.if-r-d.true) tt)))
+    let a = (goal.at.returns-then-r-d c).After-rem_euclid-r in lowered-residue a.args.x a.args.d (remainder a) a.ranges.d (positive a) (remainder-is a) c.if-r-d.true
 
 pub returns-else-r-d : goal.returns-else-r-d
 returns-else-r-d c =
-    remainder_is (goal.at.returns-else-r-d c).After-modulo-r
-    ∙ sym (residue-kept (x (goal.at.returns-else-r-d c).After-modulo-r) (d (goal.at.returns-else-r-d c).After-modulo-r) (lt_z_no (rw (sym (test-is (goal.at.returns-else-r-d c).After-modulo-r) ∙ c.if-r-d.false) tt)))
+    let a = (goal.at.returns-else-r-d c).After-rem_euclid-r in kept-residue a.args.x a.args.d (remainder a) a.ranges.d (positive a) (remainder-is a) c.if-r-d.false

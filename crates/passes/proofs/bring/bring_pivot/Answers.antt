@@ -6,52 +6,48 @@ use Rattle.matrices.specs.Operation.{swap, negate}
 use Rattle.reduction_steps.specs.State.{made, on_row}
 use Rattle.reduction_steps.specs.Step.{positive}
 use Rattle.matrix_lines.specs.Slice.{entry_limit, Under}
-use Rattle.matrix_lines.proofs.Peaks.{under-small}
-use Rattle.operations.specs.Laid.{Laid, sizes_of, state_of}
+use Rattle.operations.specs.Laid.{sizes_of, state_of}
 use Rattle.passes.specs.PassAnswers.{bring_of}
-use Rattle.passes.proofs.States.{laid_kept, held-matrix, operated-done, operated-under, operated-wide}
+use Rattle.passes.proofs.States.{operated-done, operated-under, operated-wide}
 use Rattle.passes.proofs.Passes.{pass-refused}
 use Rattle.passes.proofs.Brings.{bring-rows-wide, bring-columns-wide, bring-swapped, positive-left, positive-taken}
 use Rattle.passes.proofs.bring.bring_pivot.Goals as goal
-use Rattle.passes.proofs.bring.bring_pivot.Goals.{Start, After-swap_rows, After-larger-swapped, After-swap_columns, After-larger-brought, After-on_rows}
+use Rattle.passes.proofs.bring.bring_pivot.Goals.{Start, After-swap_rows, After-max-swapped, After-swap_columns, After-max-brought, After-on_rows}
 
 -- ---- after the rows were swapped
 
-module _ (c : After-larger-swapped) where
+module _ (c : After-max-swapped) where
   abbrev first : Start
-  first = (goal.at.After-larger-swapped c).Start
+  first = (goal.at.After-max-swapped c).Start
 
   abbrev rows-called : After-swap_rows
-  rows-called = (goal.at.After-larger-swapped c).After-swap_rows
+  rows-called = (goal.at.After-max-swapped c).After-swap_rows
 
   abbrev rows-peak : ℕ
-  rows-peak = c.larger-swapped.result
+  rows-peak = c.max-swapped.result
 
   rows-swapped :
       on_row entry_limit (sizes_of first.args.workspace) (swap first.args.i first.args.k) (state_of first.args.workspace first.args.peak first.args.w.now)
       ≡ made (state_of first.args.workspace rows-peak rows-called.swap_rows.new.w)
-  rows-swapped = operated-done rows-called.swap_rows.ensures c.in-Done.is first.requires.under c.larger-swapped.ensures
+  rows-swapped = operated-done rows-called.swap_rows.ensures c.in-Ok.is first.requires.under c.max-swapped.ensures
 
   rows_under : Under rows-peak rows-called.swap_rows.new.w
-  rows_under = operated-under rows-called.swap_rows.ensures c.in-Done.is first.requires.under c.larger-swapped.ensures
-
-  laid-first : Laid (length rows-called.swap_rows.new.w) first.args.workspace
-  laid-first = laid_kept rows-called.swap_rows.new.w first.requires.laid rows-called.swap_rows.auto.w
+  rows_under = operated-under rows-called.swap_rows.ensures c.in-Ok.is first.requires.under c.max-swapped.ensures
 
 -- ---- after the columns were swapped
 
-module _ (c : After-larger-brought) where
-  abbrev rows : After-larger-swapped
-  rows = (goal.at.After-larger-brought c).After-larger-swapped
+module _ (c : After-max-brought) where
+  abbrev rows : After-max-swapped
+  rows = (goal.at.After-max-brought c).After-max-swapped
 
   abbrev called : After-swap_columns
-  called = (goal.at.After-larger-brought c).After-swap_columns
+  called = (goal.at.After-max-brought c).After-swap_columns
 
   abbrev peak : ℕ
-  peak = c.larger-brought.result
+  peak = c.max-brought.result
 
   under : Under peak called.swap_columns.new.w
-  under = operated-under called.swap_columns.ensures c.in-Done-swap_columns.is (rows_under rows) c.larger-brought.ensures
+  under = operated-under called.swap_columns.ensures c.in-Ok-swap_columns.is (rows_under rows) c.max-brought.ensures
 
   both-swapped :
       bring_of (first rows).args.workspace (first rows).args.k (first rows).args.i (first rows).args.j (first rows).args.peak (first rows).args.w.now
@@ -60,20 +56,12 @@ module _ (c : After-larger-brought) where
       bring-swapped entry_limit (sizes_of (first rows).args.workspace) (first rows).args.k (first rows).args.i (first rows).args.j (state_of (first rows).args.workspace (first rows).args.peak (first rows).args.w.now)
       (state_of (first rows).args.workspace (rows-peak rows) (rows-called rows).swap_rows.new.w)
       (state_of (first rows).args.workspace peak called.swap_columns.new.w)
-      (rows-swapped rows) (operated-done called.swap_columns.ensures c.in-Done-swap_columns.is (rows_under rows) c.larger-brought.ensures)
+      (rows-swapped rows) (operated-done called.swap_columns.ensures c.in-Ok-swap_columns.is (rows_under rows) c.max-brought.ensures)
 
   kept-both : length called.swap_columns.new.w ≡ length (first rows).args.w.now
   kept-both = called.swap_columns.auto.w ∙ (rows-called rows).swap_rows.auto.w
 
-  laid_both : Laid (length called.swap_columns.new.w) (first rows).args.workspace
-  laid_both = laid_kept called.swap_columns.new.w (first rows).requires.laid kept-both
-
--- ---- the needs
-
-pub swap_rows-requires : goal.swap_rows-requires
-swap_rows-requires c =
-    let bounds = c.requires.k_lt_lines in
-    record { laid = c.requires.laid; small = under-small c.requires.under; i_lt_lines = (bounds.2, bounds.0) }
+-- ---- what is answered
 
 pub returns-in_default : goal.returns-in_default
 returns-in_default c =
@@ -84,13 +72,9 @@ returns-in_default c =
     (operated-wide called.ensures c.in_default.is start.requires.under))
     c.clear.ensures called.auto.w
 
-pub swap_columns-requires : goal.swap_columns-requires
-swap_columns-requires c =
-    let bounds = (first (goal.at.swap_columns-requires c).After-larger-swapped).requires.k_lt_lines in record { laid = laid-first (goal.at.swap_columns-requires c).After-larger-swapped; small = under-small (rows_under (goal.at.swap_columns-requires c).After-larger-swapped); j_lt_width = (bounds.3, bounds.1) }
-
 pub returns-in_default-swap_columns : goal.returns-in_default-swap_columns
 returns-in_default-swap_columns c =
-    let rows = (goal.at.returns-in_default-swap_columns c).After-larger-swapped in
+    let rows = (goal.at.returns-in_default-swap_columns c).After-max-swapped in
     let called = c.swap_columns in
     pass-refused called.new.w
     (bring-columns-wide entry_limit (sizes_of (first rows).args.workspace) (first rows).args.k (first rows).args.i (first rows).args.j
@@ -99,19 +83,10 @@ returns-in_default-swap_columns c =
     (rows-swapped rows) (operated-wide called.ensures c.in_default-swap_columns.is (rows_under rows)))
     c.clear-in_default-swap_columns.ensures (called.auto.w ∙ (rows-called rows).swap_rows.auto.w)
 
-pub entry-requires : goal.entry-requires
-entry-requires c =
-    let s = first (rows (goal.at.entry-requires c).After-larger-brought) in record { held = held-matrix (laid_both (goal.at.entry-requires c).After-larger-brought); i_lt_lines = (s.requires.k_lt_lines.0, s.requires.k_lt_lines.1) }
-
-pub on_rows-requires : goal.on_rows-requires
-on_rows-requires c =
-    let both = (goal.at.on_rows-requires c).After-larger-brought in
-    record { laid = laid_both both; small = under-small (under both); fits = record { within = (first (rows both)).requires.k_lt_lines.0; factor = tt } }
-
 -- row k was negated
 module _ (c : After-on_rows) where
-  abbrev both : After-larger-brought
-  both = (goal.at.After-on_rows c).After-larger-brought
+  abbrev both : After-max-brought
+  both = (goal.at.After-on_rows c).After-max-brought
 
   negated :
       bring_of (first (rows both)).args.workspace (first (rows both)).args.k (first (rows both)).args.i (first (rows both)).args.j (first (rows both)).args.peak (first (rows both)).args.w.now
@@ -129,18 +104,18 @@ returns-in_default-on_rows c =
 
 pub returns-then-entry-lt0 : goal.returns-then-entry-lt0
 returns-then-entry-lt0 c =
-    let called = (goal.at.returns-then-entry-lt0 c).After-on_rows in let is = c.in-Done-on_rows.is in
+    let called = (goal.at.returns-then-entry-lt0 c).After-on_rows in let is = c.in-Ok-on_rows.is in
     record {
-      outcome = negated called ∙ operated-done called.on_rows.ensures is (under (both called)) c.larger.ensures;
+      outcome = negated called ∙ operated-done called.on_rows.ensures is (under (both called)) c.max.ensures;
       kept = record {
         same_length = called.on_rows.auto.w ∙ kept-both (both called);
-        under = operated-under called.on_rows.ensures is (under (both called)) c.larger.ensures;
+        under = operated-under called.on_rows.ensures is (under (both called)) c.max.ensures;
       };
     }
 
 pub returns : goal.returns
 returns c =
-    let swapped = (goal.at.returns c).After-larger-brought in
+    let swapped = (goal.at.returns c).After-max-brought in
     let start = first (rows swapped) in
     let w = (called swapped).swap_columns.new.w in
     record {

@@ -1,5 +1,5 @@
 use mathlib.Core.Path.{◌≡◌, refl, ◌∙◌, ap}
-use Prim.Native.Nat.{ℕ}
+use Prim.Native.Nat.{ℕ, ◌+◌}
 use native.Mathlib.Omega.{arith}
 use mir.Syntax.{w64}
 use mir.Val.{to_z}
@@ -7,13 +7,12 @@ use Rattle.integers.specs.Division.{floor}
 use Rattle.matrices.specs.Operation.{subtract}
 use Rattle.matrix_lines.specs.Matrices.{contents}
 use Rattle.machine_words.specs.Read.{read, wide-small}
-use Rattle.matrix_lines.proofs.Peaks.{under-small}
 use Rattle.operations.proofs.Unchanged.{rows-unchanged}
-use Rattle.passes.proofs.States.{held-matrix, operated-done, operated-under, operated-wide}
+use Rattle.passes.proofs.States.{operated-done, operated-under, operated-wide}
 use Rattle.passes.proofs.Words.{quotient-asks, quotient-read}
-use Rattle.passes.proofs.Passes.{pass-refused, rows_next, rows-wide, rows_end}
+use Rattle.passes.proofs.Passes.{pass-refused, RowPassing, rows_next, rows-wide, rows_end}
 use Rattle.passes.proofs.pass.clear_column.Goals as goal
-use Rattle.passes.proofs.pass.clear_column.Goals.{Start, At-loop-i, In-loop-i, After-entry-in-loop-i, After-quotient-q, After-on_rows}
+use Rattle.passes.proofs.pass.clear_column.Goals.{Start, At-loop-i, In-loop-i, After-entry-in-loop-i, After-quotient-q, Then-q-eq0, After-on_rows}
 
 -- a turn of the loop, after its two entries were read
 module _ (c : After-entry-in-loop-i) where
@@ -37,45 +36,29 @@ taken c =
     quotient-read (start e).args.workspace (start e).args.k (head e).loop-i.w h.under h.ready (head e).loop-i.i (start e).args.k
     e.entry.ensures e.entry-in-loop-i.ensures c.quotient-q.ensures
 
-pub entry-requires : goal.entry-requires
-entry-requires c =
-    let h = c.loop-i.invariant.placed in
-    record { held = held-matrix h.laid; i_lt_lines = (c.loop-i-test.true, h.ready.column) }
-
-pub entry-requires-in-loop-i : goal.entry-requires-in-loop-i
-entry-requires-in-loop-i c =
-    let h = c.loop-i.invariant.placed in
-    record { held = held-matrix h.laid; i_lt_lines = (h.ready.row, h.ready.column) }
-
 pub quotient-q-requires : goal.quotient-q-requires
 quotient-q-requires c =
     let e = (goal.at.quotient-q-requires c).After-entry-in-loop-i in
     let h = (head e).loop-i.invariant.placed in
     quotient-asks (start e).args.workspace (start e).args.k (head e).loop-i.w h.under h.ready (head e).loop-i.i (start e).args.k c.entry.ensures c.entry-in-loop-i.ensures
 
-pub loop-i-preserved-then-q-eq0 : goal.loop-i-preserved-then-q-eq0
-loop-i-preserved-then-q-eq0 c =
-    let e = (goal.at.loop-i-preserved-then-q-eq0 c).After-entry-in-loop-i in
+-- a quotient of 0 changes nothing
+passed-over :
+    (c : Then-q-eq0)
+    → (let e = (goal.at.Then-q-eq0 c).After-entry-in-loop-i in
+    RowPassing (start e).args.workspace (start e).args.k (start e).args.peak (start e).args.w.now ((head e).loop-i.i + 1) (head e).loop-i.largest (head e).loop-i.w)
+passed-over c =
+    let e = (goal.at.Then-q-eq0 c).After-entry-in-loop-i in
     let inv = (head e).loop-i.invariant in
     let q = read w64 c.quotient-q.result in
-    rows_next inv (turn e).loop-i-test.true (taken (goal.at.loop-i-preserved-then-q-eq0 c).After-quotient-q) refl inv.placed.under
+    rows_next inv (turn e).loop-i-test.true (taken (goal.at.Then-q-eq0 c).After-quotient-q) refl inv.placed.under
     (rows-unchanged (start e).args.workspace (head e).loop-i.largest (head e).loop-i.w inv.placed.laid inv.placed.under (subtract (head e).loop-i.i (start e).args.k q) (ap (λ (bits : ℕ). to_z w64 bits) c.if-q-eq0.true) (record {
       within = record { changed = (turn e).loop-i-test.true; taken = inv.placed.ready.row; distinct = λ same. omega (arith, inv.from) };
       factor = wide-small c.quotient-q.result c.quotient-q.ensures.1;
     }))
 
-pub on_rows-requires : goal.on_rows-requires
-on_rows-requires c =
-    let e = (goal.at.on_rows-requires c).After-entry-in-loop-i in
-    let inv = (head e).loop-i.invariant in
-    let small-quotient = wide-small c.quotient-q.result c.quotient-q.ensures.1 in record {
-      laid = inv.placed.laid;
-      small = under-small inv.placed.under;
-      fits = record {
-        within = record { changed = (turn e).loop-i-test.true; taken = inv.placed.ready.row; distinct = λ same. omega (arith, inv.from) };
-        factor = small-quotient;
-      };
-    }
+pub loop-i-preserved-then-q-eq0 : goal.loop-i-preserved-then-q-eq0
+loop-i-preserved-then-q-eq0 c = passed-over (goal.at.loop-i-preserved-then-q-eq0 c).Then-q-eq0
 
 pub returns-in_default : goal.returns-in_default
 returns-in_default c =
@@ -88,10 +71,10 @@ returns-in_default c =
 
 pub loop-i-preserved : goal.loop-i-preserved
 loop-i-preserved c =
-    let called = c.on_rows in let is = c.in-Done.is in
+    let called = c.on_rows in let is = c.in-Ok.is in
     let quotient = (goal.at.loop-i-preserved c).After-quotient-q in let inv = (head (goal.at.After-quotient-q quotient).After-entry-in-loop-i).loop-i.invariant in
     rows_next inv (turn (goal.at.After-quotient-q quotient).After-entry-in-loop-i).loop-i-test.true (taken quotient) called.auto.w
-    (operated-under called.ensures is inv.placed.under c.larger-largest.ensures) (operated-done called.ensures is inv.placed.under c.larger-largest.ensures)
+    (operated-under called.ensures is inv.placed.under c.max-largest.ensures) (operated-done called.ensures is inv.placed.under c.max-largest.ensures)
 
 pub returns : goal.returns
 returns c = rows_end c.loop-i.invariant c.loop-i-test.false

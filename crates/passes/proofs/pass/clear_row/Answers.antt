@@ -6,11 +6,11 @@ use Rattle.integers.specs.Division.{floor}
 use Rattle.matrix_lines.specs.Matrices.{contents}
 use Rattle.matrix_lines.proofs.Peaks.{under-small}
 use Rattle.machine_words.specs.Read.{read, wide-small}
-use Rattle.passes.proofs.States.{held-matrix, operated-done, operated-under, operated-wide}
+use Rattle.passes.proofs.States.{operated-done, operated-under, operated-wide}
 use Rattle.passes.proofs.Words.{quotient-asks, quotient-read}
 use Rattle.passes.proofs.Passes.{pass-refused, column-zero, ColumnPassing, columns-start, columns-next, columns-first, row_inside, columns-wide, columns-end}
 use Rattle.passes.proofs.pass.clear_row.Goals as goal
-use Rattle.passes.proofs.pass.clear_row.Goals.{Start, At-loop-j, In-loop-j, After-entry-in-loop-j, After-quotient-q, After-on_columns, After-larger-reached}
+use Rattle.passes.proofs.pass.clear_row.Goals.{Start, At-loop-j, In-loop-j, After-entry-in-loop-j, After-quotient-q, After-on_columns, After-max-reached}
 
 -- a turn of the loop, after its two entries were read
 module _ (c : After-entry-in-loop-j) where
@@ -34,23 +34,8 @@ taken c =
     quotient-read (start e).args.workspace (start e).args.k (head e).loop-j.w h.under h.ready.ready (start e).args.k (head e).loop-j.j
     e.entry.ensures e.entry-in-loop-j.ensures c.quotient-q.ensures
 
-pub first_nonzero-j-requires : goal.first_nonzero-j-requires
-first_nonzero-j-requires c =
-    let h = c.requires in
-    (row_inside h.laid h.ready.ready c.line.ensures, omega (arith, h.ready.ready.column), under-small h.under)
-
 pub loop-j-init : goal.loop-j-init
 loop-j-init c = columns-first (columns-start c.requires) c.line.ensures c.first_nonzero-j.ensures
-
-pub entry-requires : goal.entry-requires
-entry-requires c =
-    let h = c.loop-j.invariant.clear in
-    record { held = held-matrix h.laid; i_lt_lines = (h.ready.ready.row, c.loop-j-test.true) }
-
-pub entry-requires-in-loop-j : goal.entry-requires-in-loop-j
-entry-requires-in-loop-j c =
-    let h = c.loop-j.invariant.clear in
-    record { held = held-matrix h.laid; i_lt_lines = (h.ready.ready.row, h.ready.ready.column) }
 
 pub quotient-q-requires : goal.quotient-q-requires
 quotient-q-requires c =
@@ -85,26 +70,26 @@ returns-in_default c =
     c.clear.ensures (called.on_columns.auto.w ∙ inv.same_length)
 
 -- the operation was done
-module _ (c : After-larger-reached) where
+module _ (c : After-max-reached) where
   abbrev read-pivot : After-entry-in-loop-j
-  read-pivot = (goal.at.After-larger-reached c).After-entry-in-loop-j
+  read-pivot = (goal.at.After-max-reached c).After-entry-in-loop-j
 
   next :
       ColumnPassing (start read-pivot).args.workspace (start read-pivot).args.k (start read-pivot).args.peak (start read-pivot).args.w.now
-      ((head read-pivot).loop-j.j + 1) c.larger-reached.result c.on_columns.new.w
+      ((head read-pivot).loop-j.j + 1) c.max-reached.result c.on_columns.new.w
   next =
-      let called = c.on_columns in let is = c.in-Done.is in
+      let called = c.on_columns in let is = c.in-Ok.is in
       let inv = (head read-pivot).loop-j.invariant in
-      columns-next inv (turn read-pivot).loop-j-test.true (taken (goal.at.After-larger-reached c).After-quotient-q) called.auto.w
-      (operated-under called.ensures is inv.clear.under c.larger-reached.ensures) (operated-done called.ensures is inv.clear.under c.larger-reached.ensures)
+      columns-next inv (turn read-pivot).loop-j-test.true (taken (goal.at.After-max-reached c).After-quotient-q) called.auto.w
+      (operated-under called.ensures is inv.clear.under c.max-reached.ensures) (operated-done called.ensures is inv.clear.under c.max-reached.ensures)
 
 pub first_nonzero-j-requires-in-loop-j : goal.first_nonzero-j-requires-in-loop-j
 first_nonzero-j-requires-in-loop-j c =
-    let h = (next (goal.at.first_nonzero-j-requires-in-loop-j c).After-larger-reached).clear in
-    (row_inside h.laid h.ready.ready c.line-in-loop-j.ensures, omega (arith, (turn (read-pivot (goal.at.first_nonzero-j-requires-in-loop-j c).After-larger-reached)).loop-j-test.true), under-small h.under)
+    let h = (next (goal.at.first_nonzero-j-requires-in-loop-j c).After-max-reached).clear in
+    (row_inside h.laid h.ready.ready c.line-in-loop-j.ensures, omega (arith, (turn (read-pivot (goal.at.first_nonzero-j-requires-in-loop-j c).After-max-reached)).loop-j-test.true), under-small h.under)
 
 pub loop-j-preserved : goal.loop-j-preserved
-loop-j-preserved c = columns-first (next (goal.at.loop-j-preserved c).After-larger-reached) c.line-in-loop-j.ensures c.first_nonzero-j-in-loop-j.ensures
+loop-j-preserved c = columns-first (next (goal.at.loop-j-preserved c).After-max-reached) c.line-in-loop-j.ensures c.first_nonzero-j-in-loop-j.ensures
 
 pub returns : goal.returns
 returns c = columns-end c.loop-j.invariant c.loop-j-test.false

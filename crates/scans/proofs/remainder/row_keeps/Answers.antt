@@ -1,14 +1,7 @@
 -- `scans::remainder::row_keeps` meets its contract: the row keeps a nonzero entry exactly where its first one stands before its end.
-use native.Mathlib.Omega.{arith}
-use Rattle.matrix_lines.proofs.Spans.{line-span, span-inside}
 use Rattle.scans.proofs.Tests.{row_keeps-first}
 use Rattle.scans.proofs.remainder.row_keeps.Goals as goal
 use Rattle.scans.proofs.remainder.row_keeps.Goals.{Start}
-
-pub first_nonzero-requires : goal.first_nonzero-requires
-first_nonzero-requires c =
-    let s = (goal.at.first_nonzero-requires c).Start in
-    (span-inside (line-span s.args.m c.line.result s.args.k c.line.ensures s.requires.k_lt_lines.0) s.requires.held.0, omega arith, s.requires.held.1)
 
 pub returns : goal.returns
 returns c =

@@ -2,6 +2,8 @@ use mathlib.Core.Path.{◌≡◌, refl, sym, ap, ap₂, ◌∙◌}
 use Prim.Native.Nat.{ℕ, suc, ◌+◌, ◌*◌, ◌≤◌}
 use native.Mathlib.Numerals.{add-one}
 use native.Mathlib.Omega.{arith}
+use lib.ListN.{get_or, take, length-take}
+use lib.Seq.{get_or-take}
 use Rattle.limits.specs.Limits.{library_limit}
 use Rattle.sheet_format.specs.Layout.{start, longest}
 use Rattle.sheet_writer.specs.Write.{count_of}
@@ -21,8 +23,15 @@ module _ (c : In-loop-q) where
   abbrev q : ℕ
   q = c.loop-q.q
 
-  next : c.loop-q.at + 2 * ((q + 1) * counts q) ≡ start counts (suc q)
-  next = ap₂ (λ (a s : ℕ). a + 2 * (s * counts q)) c.loop-q.invariant.1 (add-one q) ∙ sym (start-next counts q)
+  -- the count as the code reads it
+  item : get_or (take c.args.p c.args.counts.now) q 0 ≡ counts q
+  item = get_or-take c.args.p c.args.counts.now q 0 (omega (arith, length-take c.args.p c.args.counts.now))
+
+  next : c.loop-q.at + 2 * ((q + 1) * get_or (take c.args.p c.args.counts.now) q 0) ≡ start counts (suc q)
+  next =
+      ap (λ (n : ℕ). c.loop-q.at + 2 * ((q + 1) * n)) item
+      ∙ ap₂ (λ (a s : ℕ). a + 2 * (s * counts q)) c.loop-q.invariant.1 (add-one q)
+      ∙ sym (start-next counts q)
 
   small : start counts (suc q) ≤ longest library_limit
   small = start_small counts c.requires.1.within (suc q) (omega (arith, c.requires.0))

@@ -19,14 +19,13 @@ use Rattle.sheet_writer.proofs.write.write_cell.Goals.{At-loop-j, After-write_fi
 
 none : (word n : ℕ) (sheet : List ℕ) (at : ℕ) → Invariant word n sheet at sheet 0
 unfolding cell_bytes
-none word n sheet at = record { within = omega arith; long = refl; is = λ c h. sym (splice-nil at sheet) }
+none word n sheet at = record { long = refl; is = λ c h. sym (splice-nil at sheet) }
 
 module _ {word n : ℕ} {sheet₀ : List ℕ} {at : ℕ} {sheet : List ℕ} {j : ℕ} (room : at + 2 * n ≤ length sheet₀)
     (inv : Invariant word n sheet₀ at sheet j) where
   one_more : j < n → {v : ℕ} → VertexAt (n - 1 - j) word v → {sheet' : List ℕ} → length sheet' ≡ length sheet
       → sheet' ≡ splice (at + 2 * j) (field v) sheet → Invariant word n sheet₀ at sheet' (j + 1)
   one_more l {v} vertex {sheet'} kept e = record {
-    within = omega arith;
     long = kept ∙ inv.long;
     is = is;
   }

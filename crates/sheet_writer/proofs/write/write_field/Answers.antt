@@ -1,21 +1,27 @@
--- `write_field` meets its contract: its two stores put the two bytes over.
-use mathlib.Core.Path.{◌≡◌, sym, ap, ◌∙◌}
-use mathlib.Core.List.{List, [], ◌∷◌}
-use Prim.Native.Nat.{ℕ, ◌+◌, ◌≤◌}
+-- `write_field` meets its contract: its two bytes are put over.
+use mathlib.Core.Path.{◌≡◌, sym, ap, ap₂, ◌∙◌}
+use mathlib.Core.List.{List, [], ◌∷◌, ◌++◌}
+use Prim.Native.Nat.{ℕ, ◌+◌, ◌-◌, ◌/◌, ◌%◌}
 use native.Mathlib.Omega.{arith}
-use lib.ListN.{length, set, length-set}
+use borrow.Rule.Slice.PartMut.{put_mid}
+use lib.ListN.{length, take, drop}
+use lib.Seq.{drop-drop}
 use Rattle.lists.specs.Splice.{splice}
-use Rattle.lists.specs.SpliceLaws.{splice-set, splice-splice}
+use Rattle.sheet_format.specs.Layout.{field}
 use Rattle.sheet_writer.proofs.write.write_field.Goals as goal
 
-two : (at a b : ℕ) (l : List ℕ) → at + 2 ≤ length l → set (set l at a) (at + 1) b ≡ splice at (a ∷ b ∷ []) l
-two at a b l h =
-    sym (splice-set (at + 1) b (set l at a) (omega (arith, length-set l at a)))
-    ∙ ap (splice (at + 1) (b ∷ [])) (sym (splice-set at a l (omega arith)))
-    ∙ splice-splice at (a ∷ []) l (omega arith) (b ∷ [])
+put : (at k : ℕ) (xs l : List ℕ) → length xs ≡ k → put_mid at k l xs ≡ splice at xs l
+unfolding splice
+put at k xs l e = ap (λ (t : List ℕ). take at l ++ (xs ++ t)) (drop-drop k at l ∙ ap (λ (n : ℕ). drop (at + n) l) (sym e))
 
-pub bounds-sheet-at-2 : goal.bounds-sheet-at-2
-bounds-sheet-at-2 c = simp length-set (omega arith)
+two_bytes : (v : ℕ) → v % 65536 % 256 ∷ v % 65536 / 256 % 256 ∷ [] ≡ field v
+two_bytes v =
+    let low : v % 65536 % 256 ≡ v % 256 = omega arith in
+    let high : v % 65536 / 256 % 256 ≡ v / 256 % 256 = omega arith in
+    ap₂ (λ (a b : ℕ). a ∷ b ∷ []) low high
 
 pub returns : goal.returns
-returns c = two _ _ _ _ c.requires
+returns c =
+    let bytes = c.copy_from_slice.ensures.after ∙ c.to_le_bytes-bytes.ensures ∙ two_bytes c.args.v in
+    ap (put_mid c.args.at (c.args.at + 2 - c.args.at) c.args.sheet.now) bytes
+    ∙ put c.args.at (c.args.at + 2 - c.args.at) (field c.args.v) c.args.sheet.now (omega arith)

@@ -15,13 +15,12 @@ use Rattle.sheet_writer.proofs.write.write_header.Goals.{After-write_field, Afte
 
 none : (n : ℕ → ℕ) (sheet : List ℕ) → Invariant n sheet sheet 0
 unfolding header_bytes
-none n sheet = record { within = omega arith; long = refl; is = sym (splice-nil 0 sheet) }
+none n sheet = record { long = refl; is = sym (splice-nil 0 sheet) }
 
 one_more : {n : ℕ → ℕ} {sheet₀ sheet : List ℕ} {p : ℕ} → Invariant n sheet₀ sheet p → p < suc top → (s s' : List ℕ) (at : ℕ)
     → s ≡ splice (4 * p) (field (n p)) sheet → at ≡ start n p → s' ≡ splice (4 * p + 2) (field at) s → length s ≡ length sheet → length s' ≡ length s
     → Invariant n sheet₀ s' (p + 1)
 one_more {n} {sheet₀} {sheet} {p} inv l s s' at first e second k k' = record {
-  within = omega arith;
   long = k' ∙ k ∙ inv.long;
   is =
       splice-behind 0 (4 * p + 2) (before ++ field (n p)) (field at) sheet₀ s s' (omega arith)

@@ -14,17 +14,15 @@ use Rattle.sheet_format.specs.Layout.{cell_bytes, section_bytes}
 use Rattle.sheet_format.proofs.LayoutLaws.{length-section_bytes}
 use Rattle.closures.specs.Rising.{All, HasVertices}
 use Rattle.cells.specs.Word.{Packs}
-use Rattle.cell_sets.specs.Insert.{part}
 use Rattle.sheet_writer.specs.Write.{WritesCell}
-use Rattle.cell_sets.proofs.Words.{length_part, get_or-part}
 use Rattle.sheet_writer.proofs.Bytes.{splice-behind, section_bytes-next}
 use Rattle.sheet_writer.proofs.write.write_section.Invariants.{Invariant}
 use Rattle.sheet_writer.proofs.write.write_section.Goals as goal
-use Rattle.sheet_writer.proofs.write.write_section.Goals.{Start, In-loop-i, After-write_cell}
+use Rattle.sheet_writer.proofs.write.write_section.Goals.{In-loop-i}
 
 none : (ws : List ℕ) (n : ℕ) (sheet : List ℕ) (at : ℕ) → Invariant ws n sheet at sheet 0
 unfolding section_bytes
-none ws n sheet at = record { within = omega arith; long = refl; is = λ l a e. sym (splice-nil at sheet) }
+none ws n sheet at = record { long = refl; is = λ l a e. sym (splice-nil at sheet) }
 
 module _ {ws : List ℕ} {n : ℕ} {sheet₀ : List ℕ} {at : ℕ} {sheet : List ℕ} {i : ℕ} (room : at ≤ length sheet₀)
     (inv : Invariant ws n sheet₀ at sheet i) where
@@ -36,7 +34,6 @@ module _ {ws : List ℕ} {n : ℕ} {sheet₀ : List ℕ} {at : ℕ} {sheet : Lis
       → WritesCell n w (at + 2 * (n * i)) sheet sheet' → Invariant ws n sheet₀ at sheet' (i + 1)
   unfolding packed
   one_more h {w} word sheet' kept writes = record {
-    within = omega arith;
     long = kept ∙ inv.long;
     is = λ l a e. is l a e (omega (arith, sized l e));
   }
@@ -68,19 +65,13 @@ loop-i-init c = none _ _ _ _
 
 -- the place of cell i
 module _ (c : In-loop-i) where
-  abbrev start : Start
-  start = (goal.at.In-loop-i c).Start
-
-  words : length (part start.args.from start.args.many start.args.cells.now) ≡ start.args.many
-  words = length_part start.args.from start.args.many start.args.cells.now start.requires.1
-
-  room : start.args.at + 2 * (start.args.n * c.loop-i.i) + 2 * start.args.n ≤ length start.args.sheet.now
+  room : c.args.at + 2 * (c.args.n * c.loop-i.i) + 2 * c.args.n ≤ length c.args.sheet.now
   room =
       omega (
         arith,
-        start.requires.2,
-        mul-le-mul_left {m = suc c.loop-i.i} {n = start.args.many} start.args.n (omega arith),
-        mul-suc start.args.n c.loop-i.i,
+        c.requires.1,
+        mul-le-mul_left {m = suc c.loop-i.i} {n = length c.args.words.now} c.args.n (omega arith),
+        mul-suc c.args.n c.loop-i.i,
       )
 
 pub overflow_mul-n : goal.overflow_mul-n
@@ -97,15 +88,7 @@ write_cell-requires c = (c.requires.0, omega (arith, room (goal.at.write_cell-re
 
 pub loop-i-preserved : goal.loop-i-preserved
 loop-i-preserved c =
-    let w = (goal.at.loop-i-preserved c).After-write_cell in
-    let turn = (goal.at.After-write_cell w).In-loop-i in
-    let a = (start turn).args in
-    one_more (omega (arith, (start turn).requires.2)) turn.loop-i.invariant (omega (arith, words turn))
-    (sym (get_or-part a.from a.many a.cells.now (start turn).requires.1 turn.loop-i.i (omega arith)))
-    _ w.write_cell.auto.sheet w.write_cell.ensures
+    one_more (omega (arith, c.requires.1)) c.loop-i.invariant (omega arith) refl _ c.write_cell.auto.sheet c.write_cell.ensures
 
 pub returns : goal.returns
-returns c =
-    let start = (goal.at.returns c).Start in
-    let words = length_part start.args.from start.args.many start.args.cells.now start.requires.1 in
-    all (omega (arith, start.requires.2)) c.loop-i.invariant (omega (arith, words))
+returns c = all (omega (arith, c.requires.1)) c.loop-i.invariant (omega arith)

@@ -11,19 +11,12 @@ use Rattle.two_reductions.proofs.Outcomes.{first-reduces}
 use Rattle.two_reductions.proofs.reductions.reduce_first.Goals as goal
 use Rattle.two_reductions.proofs.reductions.reduce_first.Goals.{Start, After-first_workspace-first, After-start_peak, After-reduce_matrix}
 
-pub first_workspace-first-requires : goal.first_workspace-first-requires
-first_workspace-first-requires c = let cell-counts = c.requires.cell_counts_read in (cell-counts.cells-below, cell-counts.rows-below, cell-counts.columns-below)
-
 module _ (c : After-first_workspace-first) where
   abbrev start : Start
   start = (goal.at.After-first_workspace-first c).Start
 
   first-is : c.first_workspace-first.result ≡ first_workspace_of (sections_of start.args.s.now) start.args.p
   first-is = c.first_workspace-first.ensures ∙ first_of start.requires.cell_counts_read
-
-pub fill_first-requires : goal.fill_first-requires
-fill_first-requires c =
-    let s = start (goal.at.fill_first-requires c).After-first_workspace-first in record { accepted = s.requires.accepted; p_in_bounds = s.requires.p_in_bounds; workspace_value = first-is (goal.at.fill_first-requires c).After-first_workspace-first; w_value = s.requires.w_value }
 
 module _ (c : After-start_peak) where
   abbrev first : After-first_workspace-first

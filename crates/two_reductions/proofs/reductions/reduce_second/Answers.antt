@@ -4,6 +4,7 @@ use mathlib.Core.Path.{◌≡◌, refl, sym, ◌∙◌, ap}
 use mathlib.Core.Bool.{Bool, true, false}
 use Prim.Native.Nat.{ℕ, suc, ◌≤◌, ◌<◌, max}
 use native.Mathlib.Omega.{arith}
+use Rattle.std.proofs.lemmas.Result.{err_from_is_err_and}
 use lib.IntN.{pos}
 use lib.ListN.{length, replicate}
 use Rattle.complexes.specs.Complex.{Sections, count}
@@ -19,10 +20,10 @@ use Rattle.two_reductions.specs.Slices.{second_workspace_of, start_peak}
 use Rattle.two_reductions.proofs.Sheet.{sheet-chains, cells-of, columns_of, second-of}
 use Rattle.matrix_lines.proofs.Peaks.{under-small}
 use Rattle.two_reductions.proofs.Kept.{Begun, first-rank, transform-fills, begun}
-use Rattle.two_reductions.proofs.Outcomes.{reduces-done, reduces-refused, became-done, became-wide, SecondStarted, laid_then, Q-width, product-width, Q-held}
+use Rattle.two_reductions.proofs.Outcomes.{SecondStarted, laid_then, Q-width, product-width, Q-held}
 use Rattle.two_reductions.proofs.Outcomes.{product-refused, second-started, second-refused, second-done}
 use Rattle.two_reductions.proofs.reductions.reduce_second.Goals as goal
-use Rattle.two_reductions.proofs.reductions.reduce_second.Goals.{Start, After-kept_width-kept, After-second_workspace-second, After-fill_transform, After-multiply, After-larger-started, After-reduce_matrix}
+use Rattle.two_reductions.proofs.reductions.reduce_second.Goals.{Start, After-kept_width-kept, After-second_workspace-second, After-fill_transform, After-multiply, After-max-started, After-reduce_matrix}
 
 -- ---- the workspace
 
@@ -57,26 +58,22 @@ module _ (c : After-kept_width-kept) where
   kept-is : c.kept_width-kept.result ≡ width tracked (count K (suc p))
   kept-is = c.kept_width-kept.ensures ∙ ap (width tracked) (columns_of cell-counts)
 
-  rank-within : start.args.rank ≤ count K p
+  rank-within : start.args.first.rank ≤ count K p
   rank-within = first-rank pivot_rule-is-rule K p n complex tracked start.requires.p_in_bounds start.requires.reduction_done
 
 pub second_workspace-second-requires : goal.second_workspace-second-requires
-second_workspace-second-requires c =
-    let counts = cell-counts c in (
-      counts.cells-below,
-      counts.rows-below,
-      counts.columns-below,
-      rw c.kept_width-kept.ensures (kept-below (tracked c) (start c).args.n.columns counts.columns-below),
-      rw (cells-of counts) (rank-within c),
-    )
+second_workspace-second-requires c = (
+  rw c.kept_width-kept.ensures (kept-below (tracked c) (start c).args.n.columns (start c).args.n.below.2),
+  rw (cells-of (cell-counts c)) (rank-within c),
+)
 
 second_is : (c : After-second_workspace-second) →
-    let k = (goal.at.After-second_workspace-second c).After-kept_width-kept in c.second_workspace-second.result ≡ second_workspace_of (K k) (p k) (tracked k) (start k).args.rank
+    let k = (goal.at.After-second_workspace-second c).After-kept_width-kept in c.second_workspace-second.result ≡ second_workspace_of (K k) (p k) (tracked k) (start k).args.first.rank
 second_is c =
     let k = (goal.at.After-second_workspace-second c).After-kept_width-kept in
     c.second_workspace-second.ensures
-    ∙ ap (λ (m : ℕ). second_workspace (start k).args.n.cells (start k).args.n.rows (start k).args.n.columns m (start k).args.rank) k.kept_width-kept.ensures
-    ∙ second-of (cell-counts k) (tracked k) (start k).args.rank
+    ∙ ap (λ (m : ℕ). second_workspace (start k).args.n.cells (start k).args.n.rows (start k).args.n.columns m (start k).args.first.rank) k.kept_width-kept.ensures
+    ∙ second-of (cell-counts k) (tracked k) (start k).args.first.rank
 
 -- ---- the transform
 
@@ -93,7 +90,7 @@ module _ (c : After-fill_transform) where
   abbrev at-kept : After-kept_width-kept
   at-kept = (goal.at.After-second_workspace-second second).After-kept_width-kept
 
-  first : Begun pivot_rule (K at-kept) (p at-kept) (n at-kept) (tracked at-kept) (start at-kept).args.rank (start at-kept).args.peak c.fill_transform.new.w
+  first : Begun pivot_rule (K at-kept) (p at-kept) (n at-kept) (tracked at-kept) (start at-kept).args.first.rank (start at-kept).args.first.peak c.fill_transform.new.w
   first =
       begun pivot_rule-is-rule (K at-kept) (p at-kept) (n at-kept) (complex at-kept) (tracked at-kept) (start at-kept).requires.p_in_bounds (start at-kept).requires.reduction_done
       second.second_workspace-second.result (second_is second) c.fill_transform.ensures
@@ -126,7 +123,7 @@ returns-in_default c =
     let called = (goal.at.returns-in_default c).After-multiply in
     let f = (goal.at.After-multiply called).After-fill_transform in
     let k = at-kept f in
-    let beyond = became-wide called.multiply.result c.in_default.is called.multiply.ensures in (
+    let beyond = c.in_default.ensures in (
       product-refused pivot_rule-is-rule (K k) (p k) (n k) (complex k) (tracked k) (start k).requires.p_in_bounds (first f) (second f).second_workspace-second.result (second_is (second f)) beyond,
       record {
         number = refl;
@@ -138,50 +135,52 @@ returns-in_default c =
 
 -- ---- the second reduction
 
-module _ (c : After-larger-started) where
+module _ (c : After-max-started) where
   abbrev multiplied : After-multiply
-  multiplied = (goal.at.After-larger-started c).After-multiply
+  multiplied = (goal.at.After-max-started c).After-multiply
 
   abbrev filled : After-fill_transform
   filled = (goal.at.After-multiply multiplied).After-fill_transform
 
   -- the peak with that of the transform, and with the product's answer
   peak-is : let k = at-kept filled in
-      c.larger-started.result ≡ max (max (start k).args.peak (start_peak (width (tracked k) (count (K k) (suc (p k)))))) c.in-Done.product
-  peak-is = c.larger-started.ensures ∙ ap (λ (m : ℕ). max m c.in-Done.product) (c.larger.ensures
-      ∙ ap (λ (m : ℕ). max (start (at-kept filled)).args.peak m) (c.start_peak.ensures ∙ ap start_peak (kept-is (at-kept filled))))
+      c.max-started.result ≡ max (max (start k).args.first.peak (start_peak (width (tracked k) (count (K k) (suc (p k)))))) c.in-Ok.product
+  peak-is = c.max-started.ensures ∙ ap (λ (m : ℕ). max m c.in-Ok.product) (c.max.ensures
+      ∙ ap (λ (m : ℕ). max (start (at-kept filled)).args.first.peak m) (c.start_peak.ensures ∙ ap start_peak (kept-is (at-kept filled))))
 
   started : let k = at-kept filled in
-      SecondStarted pivot_rule-is-rule (K k) (p k) (n k) (complex k) (tracked k) (start k).requires.p_in_bounds (start k).args.rank (start k).args.peak filled.fill_transform.new.w
-      c.larger-started.result multiplied.multiply.new.w
+      SecondStarted pivot_rule-is-rule (K k) (p k) (n k) (complex k) (tracked k) (start k).requires.p_in_bounds (start k).args.first.rank (start k).args.first.peak filled.fill_transform.new.w
+      c.max-started.result multiplied.multiply.new.w
   started =
       let k = at-kept filled in
       second-started pivot_rule-is-rule (K k) (p k) (n k) (complex k) (tracked k) (start k).requires.p_in_bounds (first filled) (second filled).second_workspace-second.result (second_is (second filled))
-      (became-done multiplied.multiply.result c.in-Done.is multiplied.multiply.ensures) peak-is
+      c.in-Ok.ensures peak-is
 
 pub reduce_matrix-requires : goal.reduce_matrix-requires
 reduce_matrix-requires c =
-    let f = filled (goal.at.reduce_matrix-requires c).After-larger-started in
+    let f = filled (goal.at.reduce_matrix-requires c).After-max-started in
     let k = at-kept f in
-    let still = (started (goal.at.reduce_matrix-requires c).After-larger-started).still in
+    let still = (started (goal.at.reduce_matrix-requires c).After-max-started).still in
     record {
       laid = rw still.same_length
           (laid_then pivot_rule-is-rule (K k) (p k) (n k) (complex k) (tracked k) (start k).requires.p_in_bounds (first f) (second f).second_workspace-second.result (second_is (second f)));
       under = still.under;
     }
 
-pub returns-in_default-reduce_matrix : goal.returns-in_default-reduce_matrix
-returns-in_default-reduce_matrix c =
-    let called = (goal.at.returns-in_default-reduce_matrix c).After-reduce_matrix in
-    let f = filled (goal.at.After-reduce_matrix called).After-larger-started in
+pub returns-in_err-last : goal.returns-in_err-last
+returns-in_err-last c =
+    let called = (goal.at.returns-in_err-last c).After-reduce_matrix in
+    let f = filled (goal.at.After-reduce_matrix called).After-max-started in
     let k = at-kept f in
-    second-refused pivot_rule-is-rule (K k) (p k) (n k) (complex k) (tracked k) (start k).requires.p_in_bounds (started (goal.at.After-reduce_matrix called).After-larger-started) (second f).second_workspace-second.result (second_is (second f))
-    (reduces-refused (second f).second_workspace-second.result called.reduce_matrix.result c.in_default-reduce_matrix.is called.reduce_matrix.ensures)
+    let e = err_from_is_err_and c.from_residual.result c.from_residual.ensures.1 in
+    rw (e.1, e.2)
+    (second-refused pivot_rule-is-rule (K k) (p k) (n k) (complex k) (tracked k) (start k).requires.p_in_bounds (started (goal.at.After-reduce_matrix called).After-max-started) (second f).second_workspace-second.result (second_is (second f))
+    c.in_err-last.ensures)
 
 pub returns : goal.returns
 returns c =
     let called = (goal.at.returns c).After-reduce_matrix in
-    let f = filled (goal.at.After-reduce_matrix called).After-larger-started in
+    let f = filled (goal.at.After-reduce_matrix called).After-max-started in
     let k = at-kept f in
-    second-done pivot_rule-is-rule (K k) (p k) (n k) (complex k) (tracked k) (start k).requires.p_in_bounds (started (goal.at.After-reduce_matrix called).After-larger-started) (second f).second_workspace-second.result (second_is (second f))
-    (reduces-done (second f).second_workspace-second.result called.reduce_matrix.result c.in-Done-reduce_matrix.is called.reduce_matrix.ensures)
+    second-done pivot_rule-is-rule (K k) (p k) (n k) (complex k) (tracked k) (start k).requires.p_in_bounds (started (goal.at.After-reduce_matrix called).After-max-started) (second f).second_workspace-second.result (second_is (second f))
+    c.in_ok-last.ensures

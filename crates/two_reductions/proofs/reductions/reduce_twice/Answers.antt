@@ -6,6 +6,8 @@ use mathlib.Core.List.{List, ◌++◌}
 use Prim.Native.Nat.{ℕ, ◌+◌, ◌-◌, ◌≤◌}
 use native.Mathlib.Nat.{le_of_eq}
 use native.Mathlib.Omega.{arith}
+use Rattle.std.proofs.Common.{Err}
+use Rattle.std.proofs.lemmas.Result.{err_from_is_err_and}
 use lib.IntN.{ℤ, pos}
 use lib.ListN.{length, take, drop, length-replicate}
 use lib.Seq.{length-take-le, length_front}
@@ -17,19 +19,13 @@ use Rattle.reduction_steps.specs.Pivot.{pivot_rule}
 use Rattle.reduction_steps.proofs.PivotLaws.{pivot_rule-is-rule}
 use Rattle.reports.specs.Reductions.{second_columns_only, reductions_of}
 use Rattle.requests.specs.Call.{work_slots}
-use Rattle.refusal.specs.declared.Refusal.TheVariants.{TooWide}
-use Rattle.two_reductions.specs.Slices.{first_workspace_of, TwiceReduced}
-use Rattle.two_reductions.specs.declared.reductions.Reductions.TheVariants.{Refused}
+use Rattle.two_reductions.specs.Slices.{TwiceReduced}
 use Rattle.two_reductions.proofs.Sheet.{sheet-chains, slots-of}
 use Rattle.two_reductions.proofs.Places.{room-kept}
-use Rattle.two_reductions.proofs.Outcomes.{reduces-done, reduces-refused, first-refused}
+use Rattle.two_reductions.proofs.Outcomes.{first-refused}
 use Rattle.two_reductions.proofs.Part.{zeros, part-zeros, rest-zeros, zero-behind, done-whole, cleared-whole}
 use Rattle.two_reductions.proofs.reductions.reduce_twice.Goals as goal
 use Rattle.two_reductions.proofs.reductions.reduce_twice.Goals.{Start, After-work_slots-slots, After-reduce_first, After-reduce_second}
-
-pub work_slots-slots-requires : goal.work_slots-slots-requires
-work_slots-slots-requires c =
-    let cell-counts = c.requires.cell_counts_read in (cell-counts.cells-below, cell-counts.rows-below, cell-counts.columns-below)
 
 module _ (c : After-work_slots-slots) where
   abbrev start : Start
@@ -77,16 +73,8 @@ module _ (c : After-work_slots-slots) where
   part-is : take m slice ≡ zeros (length (take m slice))
   part-is = subst (λ (w : List ℤ). take m w ≡ zeros (length (take m w))) (sym slice_is) (part-zeros m n)
 
-pub slice_bounds-reduce_first-end : goal.slice_bounds-reduce_first-end
-slice_bounds-reduce_first-end c = within c
-
-pub slice_bounds-reduce_first-end-2 : goal.slice_bounds-reduce_first-end-2
-slice_bounds-reduce_first-end-2 c = sym (part_length (goal.at.slice_bounds-reduce_first-end-2 c).After-work_slots-slots)
-
-pub reduce_first-requires : goal.reduce_first-requires
-reduce_first-requires c =
-    let k = (goal.at.reduce_first-requires c).After-work_slots-slots in
-    let s = start k in record { accepted = s.requires.accepted; p_in_bounds = le_of_eq (sym (part_length k ∙ slots-are k)); cell_counts_read = s.requires.cell_counts_read; w_value = part-is k }
+pub reduce_first-requires-clause-w_value : goal.reduce_first-requires-clause-w_value
+reduce_first-requires-clause-w_value c = part-is (goal.at.reduce_first-requires-clause-w_value c).After-work_slots-slots
 
 module _ (c : After-reduce_first) where
   abbrev lent : After-work_slots-slots
@@ -105,14 +93,16 @@ module _ (c : After-reduce_first) where
   whole_length : length (left ++ drop (m lent) (slice lent)) ≡ n lent
   whole_length = length_front (slice lent) left (m lent) c.reduce_first.auto.w ∙ slice-length lent
 
-pub returns-in_default : goal.returns-in_default
-returns-in_default c =
-    let called = (goal.at.returns-in_default c).After-reduce_first in
+pub returns-in_err-first : goal.returns-in_err-first
+returns-in_err-first c =
+    let called = (goal.at.returns-in_err-first c).After-reduce_first in
     let k = lent called in
-    let refused = reduces-refused (first_workspace_of (K k) (p k)) called.reduce_first.result c.in_default.is called.reduce_first.ensures in
-    subst (TwiceReduced (K k) (p k) (tracked k) (reductions_of (second_columns_only (tracked k)) pivot_rule (K k) (p k)) (n k) (Refused TooWide)) (sym (whole called))
+    let refused = c.in_err-first.ensures in
+    let e = err_from_is_err_and c.from_residual.result c.from_residual.ensures.1 in
+    rw (e.1, e.2)
+    (subst (TwiceReduced (K k) (p k) (tracked k) (reductions_of (second_columns_only (tracked k)) pivot_rule (K k) (p k)) (n k) (Err _)) (sym (whole called))
     (first-refused pivot_rule-is-rule (K k) (p k) (n k) (complex k) (tracked k) (start k).requires.p_in_bounds refl refused.outcome
-    (cleared-whole (left called) (n k - m k) (sizes called) refused.cleared))
+    (cleared-whole (left called) (n k - m k) (sizes called) refused.cleared)))
 
 pub reduce_second-requires : goal.reduce_second-requires
 reduce_second-requires c =
@@ -120,7 +110,7 @@ reduce_second-requires c =
     let k = lent called in
     let s = start k in
     let behind = n k - m k in
-    let ended = reduces-done (first_workspace_of (K k) (p k)) called.reduce_first.result c.in-Done.is called.reduce_first.ensures in
+    let ended = c.in_ok-first.ensures in
     record {
       accepted = s.requires.accepted;
       p_in_bounds = rw (whole_length called) s.requires.p_in_bounds;

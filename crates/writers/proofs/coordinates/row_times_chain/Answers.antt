@@ -9,10 +9,10 @@ use Rattle.matrices.specs.Vector.{apply}
 use Rattle.reduction_steps.specs.Table.{entry}
 use Rattle.integers.specs.Slot.{slot}
 use Rattle.operations.specs.Laid.{lines_of}
-use Rattle.machine_words.specs.Read.{cast_fits, of-bits}
+use Rattle.machine_words.specs.Read.{of-bits}
 use Rattle.matrix_lines.proofs.Spans.{line-span, span-inside}
 use Rattle.writers.proofs.Entries.{entry-lines}
-use Rattle.writers.proofs.coordinates.row_times_chain.Invariants.{again, coefficient-word, entry-word, passed, product-word, raised-word}
+use Rattle.writers.proofs.coordinates.row_times_chain.Invariants.{again, coefficient-word, passed, product-word, raised-word}
 use Rattle.writers.proofs.coordinates.row_times_chain.Goals as goal
 use Rattle.writers.proofs.coordinates.row_times_chain.Goals.{then-x-ne0, else-x-ne0}
 
@@ -31,29 +31,17 @@ loop-j-init c =
       bound = omega arith;
     }
 
-pub overflow_cast-total : goal.overflow_cast-total
-overflow_cast-total c =
-    let loop = c.loop-j in
-    cast_fits (slot c.args.w.now (c.line-line.result + loop.j))
-    (entry-word loop.invariant c.loop-j-test.true)
-
-pub overflow_cast-total-then-x-ne0 : goal.overflow_cast-total-then-x-ne0
-overflow_cast-total-then-x-ne0 c =
-    let loop = c.loop-j in
-    cast_fits (slot c.args.chain.now loop.j)
-    (coefficient-word loop.invariant c.loop-j-test.true)
-
 pub overflow_mul-total : goal.overflow_mul-total
-overflow_mul-total c = product-word c.loop-j.invariant c.loop-j-test.true
+overflow_mul-total c = rw (c.from.ensures, c.from-then-x-ne0.ensures) (product-word c.loop-j.invariant c.loop-j-test.true)
 
-pub overflow_add-total-then-x-ne0 : goal.overflow_add-total-then-x-ne0
-overflow_add-total-then-x-ne0 c = raised-word c.loop-j.invariant c.loop-j-test.true
+pub overflow_add-total : goal.overflow_add-total
+overflow_add-total c = rw (c.from.ensures, c.from-then-x-ne0.ensures) (raised-word c.loop-j.invariant c.loop-j-test.true)
 
 pub loop-j-preserved : goal.loop-j-preserved
 loop-j-preserved c =
     let loop = c.loop-j in let more = c.loop-j-test.true in
     elim c.if-x-ne0.branch [
-      | then-x-ne0 w ↦ rw w.total-is (again loop.invariant more)
+      | then-x-ne0 w ↦ rw (w.total-is, w.from.ensures, w.from-then-x-ne0.ensures) (again loop.invariant more)
       | else-x-ne0 w ↦ rw w.total-is (passed loop.invariant more (of-bits (coefficient-word loop.invariant more) w.if-x-ne0.false))
     ]
 

@@ -1,8 +1,8 @@
 -- `coordinates::row_times_chain` meets its contract. The invariant: the total is the sum of the products passed, each of which is at most
--- the product of the two limits. The measure is what is left of the chain.
+-- the product of the two limits.
 use mathlib.Core.Path.{◌≡◌, sym, ap, subst, ◌∙◌}
 use mathlib.Core.List.{List}
-use Prim.Native.Nat.{ℕ, ◌+◌, ◌*◌, ◌-◌, ◌≤◌, ◌<◌}
+use Prim.Native.Nat.{ℕ, ◌+◌, ◌*◌, ◌≤◌, ◌<◌}
 use native.Mathlib.Nat as NatL
 use native.Mathlib.Numerals.{add-one}
 use native.Mathlib.Omega.{arith}
@@ -114,6 +114,3 @@ module _ {w chain : List ℤ} {line j : ℕ} {total : ℤ} (inv : Invariant w ch
 
 abbrev pub invariant-loop-j : goal.invariant-loop-j
 invariant-loop-j l = Invariant l.w l.chain l.line l.j l.total
-
-abbrev pub decreases-loop-j : goal.decreases-loop-j
-decreases-loop-j l = length l.chain - l.j

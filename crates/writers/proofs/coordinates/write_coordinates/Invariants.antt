@@ -1,7 +1,6 @@
 -- `coordinates::write_coordinates` meets its contract. The invariant: the coordinates at the rows passed whose kind is not 1 stand in the slice.
--- The measure is how many rows are left.
 use mathlib.Core.List.{List, [], ◌∷◌}
-use Prim.Native.Nat.{ℕ, ◌-◌}
+use Prim.Native.Nat.{ℕ}
 use lib.IntN.{ℤ}
 use Rattle.integers.specs.Division.{residue}
 use Rattle.matrices.specs.Vector.{apply}
@@ -18,7 +17,4 @@ abbrev pub coordinate : Matrix → Matrix → List ℤ → List ℤ → ℕ → 
 coordinate m q w z i = residue (apply q.width (entry (lines_of q w)) (slot z) i) (kind_in m w i)
 
 abbrev pub invariant-loop-i : goal.invariant-loop-i
-invariant-loop-i l = Progress (kind_in l.m l.w) (λ k. coordinate l.m l.q l.w l.chain k ∷ []) l.lines l.from l.initial.coordinates l.i l.next l.coordinates
-
-abbrev pub decreases-loop-i : goal.decreases-loop-i
-decreases-loop-i l = l.lines - l.i
+invariant-loop-i l = Progress (kind_in l.m l.w) (λ k. coordinate l.m l.q l.w l.chain k ∷ []) l.m.lines l.from l.initial.coordinates l.i l.next l.coordinates

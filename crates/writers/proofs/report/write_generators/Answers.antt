@@ -18,7 +18,7 @@ use Rattle.machine_words.specs.Read.{of-bits}
 use Rattle.writers.specs.Written.{kind_in}
 use Rattle.writers.proofs.Entries.{entry-lines}
 use Rattle.writers.proofs.Rows.{columns_of-blocks}
-use Rattle.writers.proofs.Writing.{progress-none, progress-one, progress-line, progress-end, progress-room, progress-length}
+use Rattle.writers.proofs.Writing.{progress-none, progress-one, progress-line, progress-end, progress-room, progress-length, put-splice}
 use Rattle.writers.proofs.report.write_generators.Invariants.{column}
 use Rattle.writers.proofs.report.write_generators.Goals as goal
 use Rattle.writers.proofs.report.write_generators.Goals.{Start, then-kind-ne1, else-kind-ne1, At-loop-i, In-loop-i}
@@ -50,13 +50,13 @@ slots c =
     progress-room c.loop-i.invariant c.args.g.width (column-length c.args.g c.args.w.now)
     (room (goal.at.In-loop-i c).Start) c.loop-i-test.true
 
-pub write_line-requires : goal.write_line-requires
-write_line-requires c =
-    let inside = (goal.at.write_line-requires c).In-loop-i in let start = (goal.at.In-loop-i inside).Start in (
-      start.requires.1,
-      subst (λ (n : ℕ). inside.loop-i.i < n) start.requires.2 inside.loop-i-test.true,
-      subst (λ (n : ℕ). inside.loop-i.next + start.args.g.width ≤ n) (sym (same (goal.at.In-loop-i inside).At-loop-i)) (slots inside),
-    )
+pub offset_bounds-report-next : goal.offset_bounds-report-next
+offset_bounds-report-next c = omega (arith, slots (goal.at.offset_bounds-report-next c).In-loop-i, c.well_formed)
+
+pub slice_bounds-write_line-end : goal.slice_bounds-write_line-end
+slice_bounds-write_line-end c =
+    let inside = (goal.at.slice_bounds-write_line-end c).In-loop-i in
+    omega (arith, slots inside, same (goal.at.In-loop-i inside).At-loop-i)
 
 pub overflow_add-next : goal.overflow_add-next
 overflow_add-next c = omega (arith, slots (goal.at.overflow_add-next c).In-loop-i, c.well_formed)
@@ -71,7 +71,8 @@ loop-i-preserved c =
       | then-kind-ne1 w ↦ rw (w.report-is, w.next-is)
           (progress-line loop.invariant more (start.requires.4.nonneg loop.i) (λ k. w.if-kind-ne1.true (ap (of_z w64) (kind.ensures ∙ k)))
           (omega (arith, start.requires.3)) g.width (column-length g entries loop.i)
-          (w.write_line.ensures.is ∙ ap (λ (l : List ℤ). splice loop.next l loop.report) copied))
+          (put-splice loop.next _ w.write_line.new.slots loop.report (omega (arith, w.write_line.auto.slots, ap length w.write_line.ensures, ap length copied, column-length g entries loop.i))
+          ∙ ap (λ (l : List ℤ). splice loop.next l loop.report) (w.write_line.ensures ∙ copied)))
       | else-kind-ne1 w ↦ rw (w.report-is, w.next-is)
           (progress-one loop.invariant more (sym kind.ensures ∙ of-bits {w = w64} (record { sfits = kind.type_inv }) w.if-kind-ne1.false))
     ]
@@ -80,4 +81,4 @@ pub returns : goal.returns
 returns c =
     let args = c.args in
     rw (sym (columns_of-blocks (lines_of args.g args.w.now) args.g.width (reported (kind_in args.m args.w.now) args.m.lines)))
-    (progress-end c.loop-i.invariant c.loop-i-test.false)
+    (progress-end c.loop-i.invariant c.loop-i-test.false).is

@@ -1,7 +1,6 @@
 -- `report::write_generators` meets its contract. The invariant: the columns of G for the rows passed whose kind is not 1 stand in the report.
--- The measure is how many rows are left.
 use mathlib.Core.List.{List}
-use Prim.Native.Nat.{ℕ, ◌-◌}
+use Prim.Native.Nat.{ℕ}
 use lib.IntN.{ℤ}
 use Rattle.lists.specs.Tabulate.{tabulate}
 use Rattle.reduction_steps.specs.Table.{entry}
@@ -16,7 +15,4 @@ abbrev pub column : Matrix → List ℤ → ℕ → List ℤ
 column g w i = tabulate g.width (λ j. entry (lines_of g w) i j)
 
 abbrev pub invariant-loop-i : goal.invariant-loop-i
-invariant-loop-i l = Progress (kind_in l.m l.w) (column l.g l.w) l.lines l.from l.initial.report l.i l.next l.report
-
-abbrev pub decreases-loop-i : goal.decreases-loop-i
-decreases-loop-i l = l.lines - l.i
+invariant-loop-i l = Progress (kind_in l.m l.w) (column l.g l.w) l.m.lines l.from l.initial.report l.i l.next l.report

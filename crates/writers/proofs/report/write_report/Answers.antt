@@ -1,5 +1,5 @@
 -- `report::write_report` meets its contract: the counts, the orders and the columns are written one behind the other.
-use mathlib.Core.Path.{sym, ap, subst, ◌∙◌}
+use mathlib.Core.Path.{refl, sym, ap, subst, ◌∙◌}
 use mathlib.Core.List.{List, [], ◌∷◌, ◌++◌, map}
 use Prim.Native.Nat.{ℕ, zero, suc, ◌+◌, ◌*◌, ◌^◌, ◌≤◌, ◌<◌}
 use native.Mathlib.Nat as NatL
@@ -125,4 +125,4 @@ write_generators-requires c =
 pub returns : goal.returns
 returns c =
     wrote (known-after (goal.at.returns c).After-counts-counted) c.write_orders-next.ensures
-    c.write_generators.ensures
+    (record { next = refl; is = c.write_generators.ensures })

@@ -1,59 +1,47 @@
-use Prim.Native.Nat.{◌+◌}
-use native.Mathlib.Nat.{le_antisymm}
-use native.Mathlib.Omega.{arith}
-use lib.IntN.{◌+ℤ◌, ◌*ℤ◌}
-use mir.Syntax.{w64}
-use mir.Val.{to_z, of_z}
-use mir.Facts.{to_z-of_z}
+use Rattle.std.proofs.Common.{◌≡◌, ◌∙◌, refl, ap₂, arith, ℕ, ◌+◌, ◌<◌, ◌≢◌, length, List, set, get_or-set_other, get_or-set_same, below_more, ℤ, ◌+ℤ◌, ◌*ℤ◌, w64, to_z-of_z}
 use Rattle.integers.specs.Slot.{slot}
-use Rattle.matrix_lines.specs.Matrices.{contents}
-use Rattle.machine_words.specs.Read.{cast_fits}
 use Rattle.matrix_lines.proofs.Spans.{line-span, span-inside}
-use Rattle.writers.proofs.Slots.{first-none, first-ext}
-use Rattle.writers.proofs.surface.add_line.Invariants.{again, entry-word, product-fits, raised-fits, raised_to}
+use Rattle.machine_words.specs.Read.{read}
+use Rattle.writers.proofs.surface.add_line.Invariants.{Invariant, product-fits, raised, raised_is, raised-fits}
 use Rattle.writers.proofs.surface.add_line.Goals as goal
-use Rattle.writers.proofs.surface.add_line.Goals.{Start}
+
+again : {w : List ℤ} {line : ℕ} {y : ℤ} {sums₀ : List ℤ} {j : ℕ} {sums : List ℤ} (inv : Invariant w line y sums₀ j sums) (more : j < length sums₀) → length sums ≡ length sums₀
+    → Invariant w line y sums₀ (j + 1) (set sums j (read w64 (raised inv more)))
+again {j = j} {sums = sums} inv more same = record {
+  line-inside = inv.line-inside;
+  small = inv.small;
+  factor = inv.factor;
+  headroom = inv.headroom;
+  passed = below_more _ _
+      (λ t below. let ne : t ≢ j = omega arith in rw get_or-set_other (inv.passed t below))
+      (let lt : j < length sums = omega arith in rw get_or-set_same (to_z-of_z (raised-fits inv more) ∙ raised_is inv more));
+  left = λ t past. let ne : t ≢ j = omega arith in rw get_or-set_other (inv.left t (omega arith));
+}
 
 pub loop-j-init : goal.loop-j-init
 loop-j-init c =
-    let args = c.args in let pre = c.requires in
+    let a = c.args in let pre = c.requires in
     record {
-      below = omega arith;
-      line-inside = span-inside (line-span args.g c.line-at.result args.i c.line-at.ensures pre.line) pre.held;
+      line-inside = omega (arith, span-inside (line-span a.g c.line-at.result a.i c.line-at.ensures pre.line) pre.held, pre.size);
       small = pre.small;
       factor = rw (to_z-of_z c.ranges.y) pre.factor;
-      room = pre.room;
-      headroom = pre.headroom;
-      so_far = first-none (raised_to args.w.now c.line-at.result (to_z w64 (of_z w64 args.y)) args.surface.now) args.surface.now;
+      headroom = λ t below. pre.headroom t (omega (arith, pre.size));
+      passed = λ t below. absurd (omega arith);
+      left = λ t past. refl;
     }
 
-pub offset_bounds-surface-j : goal.offset_bounds-surface-j
-offset_bounds-surface-j c = omega (arith, c.well_formed)
+pub overflow_mul-sum : goal.overflow_mul-sum
+overflow_mul-sum c = rw c.from.ensures (product-fits c.loop-j.invariant c.loop-j-test.true)
 
-pub overflow_cast-surface : goal.overflow_cast-surface
-overflow_cast-surface c =
-    let loop = c.loop-j in
-    cast_fits (slot c.args.w.now (c.line-at.result + loop.j))
-    (entry-word loop.invariant c.loop-j-test.true)
-
-pub overflow_mul-surface : goal.overflow_mul-surface
-overflow_mul-surface c = product-fits c.loop-j.invariant c.loop-j-test.true
-
-pub overflow_add-surface-in-loop-j : goal.overflow_add-surface-in-loop-j
-overflow_add-surface-in-loop-j c = raised-fits c.loop-j.invariant c.loop-j-test.true
-
-pub offset_bounds-surface-j-in-loop-j : goal.offset_bounds-surface-j-in-loop-j
-offset_bounds-surface-j-in-loop-j c = omega (arith, c.well_formed)
-
-pub bounds-surface-j : goal.bounds-surface-j
-bounds-surface-j c = omega (arith, c.loop-j.invariant.so_far.same_length)
+pub overflow_add-sum : goal.overflow_add-sum
+overflow_add-sum c = rw c.from.ensures (raised-fits c.loop-j.invariant c.loop-j-test.true)
 
 pub loop-j-preserved : goal.loop-j-preserved
-loop-j-preserved c = again c.loop-j.invariant c.loop-j-test.true
+loop-j-preserved c = rw c.from.ensures (again c.loop-j.invariant c.loop-j-test.true c.loop-j.auto.sums)
 
 pub returns : goal.returns
 returns c =
-    let start = (goal.at.returns c).Start in let args = start.args in let inv = c.loop-j.invariant in let line = c.line-at in
-    first-ext (rw (le_antisymm inv.below c.loop-j-test.false) at inv.so_far)
-    (λ j. slot args.surface.now j +ℤ args.y *ℤ contents args.g args.w.now args.i j)
-    (λ j l. rw (to_z-of_z start.ranges.y, line.ensures))
+    let a = c.args in
+    λ j below.
+    c.loop-j.invariant.passed j (omega (arith, c.requires.size))
+    ∙ ap₂ (λ (y : ℤ) (at : ℕ). slot a.sums.now j +ℤ y *ℤ slot a.w.now (at + j)) (to_z-of_z c.ranges.y) c.line-at.ensures

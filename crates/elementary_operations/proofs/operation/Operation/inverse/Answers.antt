@@ -6,16 +6,13 @@ use Rattle.matrices.specs.Operation.{subtract, inverse}
 use Rattle.matrix_lines.specs.Slice.{entry_limit}
 use Rattle.elementary_operations.specs.Operations.{operation_of, FactorWithin}
 use Rattle.elementary_operations.specs.declared.operation.Operation.{Operation}
-use Rattle.machine_words.specs.Negate.{negated_fits, negated-read}
+use Rattle.machine_words.specs.Negate.{negated-read}
 use Rattle.elementary_operations.proofs.operation.Operation.inverse.Goals as goal
 use Rattle.elementary_operations.proofs.operation.Operation.inverse.Goals.{In-Subtract}
 
 -- the factor of a subtraction
 factor : (c : In-Subtract) → nat_abs c.in-Subtract.q ≤ entry_limit
 factor c = subst (λ (op : Operation). FactorWithin (operation_of op)) c.in-Subtract.is c.requires
-
-pub overflow_sub-result : goal.overflow_sub-result
-overflow_sub-result c = negated_fits c.in-Subtract.q (factor (goal.at.overflow_sub-result c).In-Subtract)
 
 pub returns-in-Subtract : goal.returns-in-Subtract
 unfolding inverse

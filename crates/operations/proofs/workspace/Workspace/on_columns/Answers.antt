@@ -1,11 +1,9 @@
 -- `operations::workspace::Workspace::on_columns` meets its contract: the matrix undergoes it, then its companions of the columns.
 use Rattle.elementary_operations.specs.Operations.{operation_of}
-use Rattle.matrix_lines.specs.declared.line.Effect.TheVariants.{Done, TooWide}
-use Rattle.matrix_lines.proofs.Peaks.{small-bounded}
-use Rattle.operations.proofs.Side.{columns, matrix-held}
-use Rattle.operations.proofs.Operate.{Task, MatrixCalled, wide-matrix, companions-ready, operated}
+use Rattle.operations.proofs.Side.{columns}
+use Rattle.operations.proofs.Operate.{Task, MatrixCalled, wide-matrix, companions-ready, comes}
 use Rattle.operations.proofs.workspace.Workspace.on_columns.Goals as goal
-use Rattle.operations.proofs.workspace.Workspace.on_columns.Goals.{Start, After-on_places, In-Done, After-follow}
+use Rattle.operations.proofs.workspace.Workspace.on_columns.Goals.{Start, After-on_places}
 
 abbrev task : Start → Task
 task s = record {
@@ -17,32 +15,18 @@ task s = record {
   fits = s.requires.fits.0;
 }
 
-pub on_places-requires : goal.on_places-requires
-on_places-requires c =
-    let s = (goal.at.on_places-requires c).Start in record { held = matrix-held s.requires.laid; bounded = small-bounded s.requires.small; fits = s.requires.fits }
-
 -- the call on the matrix
 abbrev matrix : After-on_places → MatrixCalled
 matrix c = let a = c.on_places in record { task = task (goal.at.After-on_places c).Start; left = a.new.w; result = a.result; became = a.ensures }
 
-pub returns-in_default : goal.returns-in_default
-returns-in_default c = wide-matrix (matrix (goal.at.returns-in_default c).After-on_places) c.in_default.is
+pub returns-in_err-first : goal.returns-in_err-first
+returns-in_err-first c =
+    wide-matrix (matrix (goal.at.returns-in_err-first c).After-on_places) c.in_err-first.was c.from_residual.result c.from_residual.ensures.0
 
--- the matrix is done
-abbrev done : In-Done → After-on_places
-done c = (goal.at.In-Done c).After-on_places
-
-pub follow-requires : goal.follow-requires
-follow-requires c =
-    let ready = companions-ready (matrix (done (goal.at.follow-requires c).In-Done)) c.in-Done.is in
-    record { held = (ready.follower-held, ready.inverse-held, ready.bounded); fits = (ready.follower-fits, ready.inverse-fits) }
-
-pub returns-in_default-follow : goal.returns-in_default-follow
-returns-in_default-follow c =
-    let followed = (goal.at.returns-in_default-follow c).After-follow in let told = (goal.at.After-follow followed).In-Done in
-    operated (matrix (done told)) told.in-Done.is TooWide c.in_default-follow.is followed.follow.ensures
+pub follow-requires-clause-fits : goal.follow-requires-clause-fits
+follow-requires-clause-fits c =
+    let ready = companions-ready (matrix (goal.at.follow-requires-clause-fits c).After-on_places) c.in_ok-first.was in
+    (ready.follower-fits, ready.inverse-fits)
 
 pub returns : goal.returns
-returns c =
-    let followed = (goal.at.returns c).After-follow in let told = (goal.at.After-follow followed).In-Done in
-    operated (matrix (done told)) told.in-Done.is (Done c.in-Done-follow.second) c.in-Done-follow.is followed.follow.ensures
+returns c = comes (matrix (goal.at.returns c).After-on_places) c.in_ok-first.was c.follow.ensures

@@ -16,8 +16,3 @@ returns-then-j-k c =
       laid = start.requires.laid;
       fits = swap-fits start.args.j start.args.k start.requires.j_lt_width;
     }) start.requires.small c.if-j-k.true
-
-pub on_columns-requires : goal.on_columns-requires
-on_columns-requires c =
-    let start = (goal.at.on_columns-requires c).Start in let fits = swap-fits start.args.j start.args.k start.requires.j_lt_width in
-    record { laid = start.requires.laid; small = start.requires.small; fits = (fits, tt) }

@@ -16,8 +16,3 @@ returns-then-i-k c =
       laid = start.requires.laid;
       fits = swap-fits start.args.i start.args.k start.requires.i_lt_lines;
     }) start.requires.small c.if-i-k.true
-
-pub on_rows-requires : goal.on_rows-requires
-on_rows-requires c =
-    let start = (goal.at.on_rows-requires c).Start in let fits = swap-fits start.args.i start.args.k start.requires.i_lt_lines in
-    record { laid = start.requires.laid; small = start.requires.small; fits = fits }

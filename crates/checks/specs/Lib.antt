@@ -1,2 +1,0 @@
--- What the contracts of src/ cite.
-pub mod Rise
