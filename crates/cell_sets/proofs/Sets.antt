@@ -1,5 +1,5 @@
 -- The sections of a set that holds the cells of a complex.
---     section-ends, slice-rising, holds-word      where a section ends, that its words rise, and the word of a cell
+--     section-ends, holds-word                    where a section ends, and the word of a cell
 --     put-rise, kept-rise, adds, adds_none        what a set is after a word was inserted into a section
 use mathlib.Core.Path.{◌≡◌, refl, sym, ap, ◌∙◌}
 use mathlib.Core.List.{List, [], ◌∷◌, ◌++◌, map}

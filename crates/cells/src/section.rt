@@ -1,7 +1,6 @@
 // A section of a sheet: the cells of one dimension.
 ghost use Rattle.std.specs.Prelude.{◌≡◌, suc, ◌+◌, ◌*◌, ◌^◌, ◌≤◌, ◌<◌};
 ghost use Rattle.complexes.specs.Packed.{word_vertices};
-ghost use Rattle.sheet_format.specs.Layout.{top};
 
 use crate::word::pack;
 use fields::field::{count, start};
@@ -19,9 +18,9 @@ impl Section {
     ghost use Rattle.cells.specs.Section.{IsSection, cell_in};
     ghost use Rattle.cells.specs.Word.{Packs};
 
-    // The section of dimension p.
+    // The section of dimension p, whose cells have a word.
     pub fn of(s: &[u8], p: usize) -> Section
-        requires { p ≤ top }
+        requires { p < word_vertices }
         ensures { IsSection s.now p result }
     {
         Section {

@@ -20,7 +20,7 @@ pub fn add_element(
     ensures limit { cells.new.limit ≡ cells.old.limit }
     ensures adds { AddsElement cells.old.limit (in_map map.now.bytes) element before cells.old result cells.new }
 {
-    let (dimension, word) = check_element(map, element)?;
+    let (dimension, word) = check_element(&map.bytes, element)?;
     before?;
     cells.add(dimension, word)?;
     Ok(())

@@ -2,8 +2,9 @@
 ghost use Rattle.std.specs.Prelude.{◌≡◌};
 ghost use Rattle.sheet_format.specs.Check.{sections_of, loose_node};
 
-use crate::edges::{edge_nodes, is_loose};
+use crate::edges::{is_loose, list_edges};
 use fields::field::count;
+use node_maps::map::NodeMap;
 
 // Check 18: whether some vertex is loose.
 pub fn loose_node(s: &[u8]) -> bool
@@ -12,6 +13,7 @@ pub fn loose_node(s: &[u8]) -> bool
     if count(s, 1) == 0 {
         return false;
     }
-    let map = edge_nodes(s);
+    let mut map = NodeMap::new();
+    list_edges(s, &mut map);
     (0..count(s, 0)).any(|i| is_loose(s, &map, i))
 }

@@ -2,8 +2,9 @@
 ghost use Rattle.sheet_format.specs.Check.{count_field, sections_of};
 ghost use Rattle.loose_nodes.specs.Loose.{NoneMarked, MarksLoose};
 
-use crate::edges::{edge_nodes, is_loose};
+use crate::edges::{is_loose, list_edges};
 use fields::field::count;
+use node_maps::map::NodeMap;
 
 // Marks each loose node with 1, where no vertex is marked.
 pub fn mark_loose(s: &[u8], marks: &mut [u8])
@@ -13,7 +14,8 @@ pub fn mark_loose(s: &[u8], marks: &mut [u8])
     if count(s, 1) == 0 {
         return;
     }
-    let map = edge_nodes(s);
+    let mut map = NodeMap::new();
+    list_edges(s, &mut map);
     let nodes = count(s, 0);
     for i in 0..nodes {
         if is_loose(s, &map, i) {

@@ -1,6 +1,7 @@
 -- What an answer says of the reading that it tells, and the other way.
 --     Moved, skipped-moved, read-moved                          what was read, and the reader behind it
 --     skipped-none, read-none                                   nothing was read
+--     at-none, at-some, at-fails, at-goes                       the same by the position
 --     skipped-fails, skipped-goes, read-fails, read-goes        the answer, from the reading
 --     skipped-from                                              the same answer, from another reader of the text
 use mathlib.Core.Path.{◌≡◌, refl, sym, ap}
@@ -10,7 +11,7 @@ use native.Mathlib.Omega.{arith}
 use Rattle.std.specs.Prelude.{Some, None}
 use Rattle.std.specs.Borrow.{Bor}
 use Rattle.mesh_format.specs.Parse.{Parsed, malformed, parsed}
-use Rattle.mesh_words.specs.Tells.{moved, tell_skipped, tell_read}
+use Rattle.mesh_words.specs.Tells.{moved, tell_skipped, tell_read, tell_at}
 use Rattle.mesh_words.specs.declared.reader.Reader.{Reader}
 
 -- ---- the reading, from the answer
@@ -45,7 +46,27 @@ module _ (r : Reader) where
         let z : y ≡ x = grind arith in let m : moved r at ≡ q = grind arith in
         record { is = rw z (ap (λ (k : Reader). parsed x k.at) m); same = ap (λ (k : Reader). k.text) (sym m) }
 
+module _ {A : Type 0} where
+  pub at-none : {p : Parsed A} → None ≡ tell_at p → p ≡ malformed
+  unfolding tell_at
+  at-none {p = malformed} h = refl
+  at-none {p = parsed x at} h = absurd (grind arith)
+
+  pub at-some : {p : Parsed A} {x : A} {a : ℕ} → Some (x, a) ≡ tell_at p → p ≡ parsed x a
+  unfolding tell_at
+  at-some {p = malformed} h = absurd (grind arith)
+  at-some {p = parsed y b} {x} {a} h = let z : y ≡ x = grind arith in let w : b ≡ a = grind arith in rw (z, w) refl
+
 -- ---- the answer, from the reading
+
+module _ {A : Type 0} where
+  pub at-fails : {p : Parsed A} → p ≡ malformed → None ≡ tell_at p
+  unfolding tell_at
+  at-fails e = rw e
+
+  pub at-goes : {p : Parsed A} {x : A} {a : ℕ} → p ≡ parsed x a → Some (x, a) ≡ tell_at p
+  unfolding tell_at
+  at-goes e = rw e
 
 module _ (r : Reader) where
   pub skipped-fails : {p : Parsed Unit} → p ≡ malformed → None ≡ tell_skipped r p

@@ -16,6 +16,11 @@ unfoldable pub tell_read : {A : Type 0} → Reader → Parsed A → Option (A ×
 tell_read r malformed = None
 tell_read r (parsed x at) = Some (x, moved r at)
 
+-- the same by the position
+unfoldable pub tell_at : {A : Type 0} → Parsed A → Option (A × ℕ)
+tell_at malformed = None
+tell_at (parsed x at) = Some (x, at)
+
 -- the bytes in an answer
 abbrev pub bytes_of : Option (Bor (List ℕ) × Reader) → Option (List ℕ × Reader)
 bytes_of None = None

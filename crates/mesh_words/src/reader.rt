@@ -34,7 +34,7 @@ impl<'a> Reader<'a> {
     }
 
     // The bytes from the position on.
-    fn rest(self) -> &'a [u8]
+    pub(crate) fn rest(self) -> &'a [u8]
         ensures { result.now ≡ drop self.entry.at self.entry.text.now }
     {
         self.text.get(self.at..).unwrap_or(&[])

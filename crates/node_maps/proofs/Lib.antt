@@ -1,2 +1,3 @@
--- The empty map.
+-- Bits of a byte, and the empty map.
+mod Bits
 pub mod EmptyMap

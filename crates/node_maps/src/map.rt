@@ -1,13 +1,29 @@
 // A set of vertex numbers, those listed: a bit for each vertex number, eight in a byte.
-ghost use Rattle.std.specs.Prelude.{◌≡◌, ◌<◌};
+ghost use Rattle.std.specs.Prelude.{◌≡◌, ◌<◌, length};
 ghost use Rattle.complexes.specs.Complex.{vertex_bound};
-ghost use Rattle.node_maps.specs.Map.{in_map, Empty, Lists};
+ghost use Rattle.node_maps.specs.Map.{map_length, in_map, Empty, Lists};
 
 // Node numbers are below this.
 pub const NODE_BOUND: usize = 65536;
 
 // The bytes of the map.
 pub const MAP_LENGTH: usize = NODE_BOUND / 8;
+
+// Whether the node is listed in the map of these bytes.
+pub fn is_listed(map: &[u8], node: usize) -> bool
+    requires { (node < vertex_bound) × (length map.now ≡ map_length) }
+    ensures { result ≡ in_map map.now node }
+{
+    map[node / 8] >> (node % 8) & 1 == 1
+}
+
+// Lists the node in the map of these bytes.
+pub fn list(map: &mut [u8], node: usize)
+    requires { (node < vertex_bound) × (length map.old ≡ map_length) }
+    ensures { Lists node map.old map.new }
+{
+    map[node / 8] |= 1 << (node % 8);
+}
 
 // The nodes listed: for node v, bit v % 8 of byte v / 8 is set.
 #[derive(Drop)]
@@ -30,7 +46,7 @@ impl NodeMap {
         requires { node < vertex_bound }
         ensures { result ≡ in_map self.now.bytes node }
     {
-        self.bytes[node / 8] >> (node % 8) & 1 == 1
+        is_listed(&self.bytes, node)
     }
 
     // Lists the node.
@@ -38,6 +54,6 @@ impl NodeMap {
         requires { node < vertex_bound }
         ensures { Lists node self.old.bytes self.new.bytes }
     {
-        self.bytes[node / 8] |= 1 << (node % 8);
+        list(&mut self.bytes, node);
     }
 }

@@ -9,7 +9,7 @@ use Rattle.mesh_elements.proofs.listed.all_listed.Goals as goal
 
 pub returns : goal.returns
 returns c =
-    let map = c.args.map.now.bytes in
+    let map = c.args.map.now in
     let w = c.args.word in
     let n = c.args.n in
     all-listed map w n c.all.result (cases_from_all _ _ _ (Tells map w true) (Tells map w false) c.all.ensures.ran (YieldsList-from_range 0 n n refl (omega arith))

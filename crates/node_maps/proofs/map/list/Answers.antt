@@ -1,36 +1,20 @@
 -- `list` meets its contract: only the byte of the node changes, and of it only the node's bit.
 use mathlib.Core.Path.{◌≡◌, sym, ap, ◌∙◌}
 use mathlib.Core.Logic.{◌≢◌}
-use mathlib.Core.Bool.{true}
 use mathlib.Core.List.{List}
-use Prim.Native.Nat.{ℕ, ◌*◌, ◌/◌, ◌%◌, ◌^◌, ◌<◌}
+use Prim.Native.Nat.{ℕ, ◌/◌, ◌%◌, ◌<◌}
 use native.Mathlib.Decide.{ℕ_discrete}
 use native.Mathlib.Omega.{arith}
-use lib.Dec.{eqb}
 use lib.ListN.{length, get_or, set, length-set}
 use lib.Seq.{get_or-set_same, get_or-set_other}
-use mir.Syntax.{w8}
-use Rattle.std.proofs.Common.{bit_or}
-use Rattle.std.proofs.lemmas.Nat.Bits.{bit_at_set_same, bit_at_set_other}
 use Rattle.node_maps.specs.Map.{bit_of, in_map, Lists}
-use Rattle.node_maps.proofs.map.NodeMap.list.Goals as goal
-
--- the byte with bit k set
-abbrev with_bit : ℕ → ℕ → ℕ
-with_bit byte k = bit_or byte (1 * 2 ^ k % 2 ^ 8)
-
-set-here : (byte k : ℕ) → k < 8 → bit_of (with_bit byte k) k ≡ true
-unfolding bit_of
-set-here byte k l = ap (λ (x : ℕ). eqb x 1) (bit_at_set_same w8 byte k l)
-
-set-elsewhere : (byte k : ℕ) → k < 8 → (j : ℕ) → j ≢ k → bit_of (with_bit byte k) j ≡ bit_of byte j
-unfolding bit_of
-set-elsewhere byte k l j d = ap (λ (x : ℕ). eqb x 1) (bit_at_set_other w8 byte k l j d)
+use Rattle.node_maps.proofs.Bits.{with_bit, sets}
+use Rattle.node_maps.proofs.map.list.Goals as goal
 
 lists : (map : List ℕ) (v : ℕ) → v / 8 < length map → Lists v map (set map (v / 8) (with_bit (get_or map (v / 8) 0) (v % 8)))
 lists map v l = record {
   sized = length-set map (v / 8) byte;
-  here = ap (λ (b : ℕ). bit_of b (v % 8)) (get_or-set_same map (v / 8) byte 0 l) ∙ set-here (get_or map (v / 8) 0) (v % 8) (omega arith);
+  here = ap (λ (b : ℕ). bit_of b (v % 8)) (get_or-set_same map (v / 8) byte 0 l) ∙ (sets (get_or map (v / 8) 0) (v % 8) (omega arith)).here;
   elsewhere = λ u d. at u d (ℕ_discrete (u / 8) (v / 8));
 }
   where
@@ -41,9 +25,9 @@ lists map v l = record {
     at u d (yes e) =
         ap (λ (i : ℕ). bit_of (get_or (set map (v / 8) byte) i 0) (u % 8)) e
         ∙ ap (λ (b : ℕ). bit_of b (u % 8)) (get_or-set_same map (v / 8) byte 0 l)
-        ∙ set-elsewhere (get_or map (v / 8) 0) (v % 8) (omega arith) (u % 8) (λ r. d (omega (arith, r, e)))
+        ∙ (sets (get_or map (v / 8) 0) (v % 8) (omega arith)).elsewhere (u % 8) (λ r. d (omega (arith, r, e)))
         ∙ ap (λ (i : ℕ). bit_of (get_or map i 0) (u % 8)) (sym e)
     at u d (no n) = ap (λ (b : ℕ). bit_of b (u % 8)) (get_or-set_other map (v / 8) (u / 8) byte 0 n)
 
 pub returns : goal.returns
-returns c = let a = c.args in lists a.self.now.bytes a.node (omega arith)
+returns c = let a = c.args in lists a.map.now a.node (omega (arith, c.requires))
